@@ -1,0 +1,236 @@
+-- Bounds in an order of n things: the search finds the least upper bound just where there is one, there is only one, and the first pair without one
+-- is the first by its lower and then by its higher thing. Assumes nothing.
+use Prim.Native.Nat.{ℕ, zero, suc, _+_, _≤_, _<_}
+use mathlib.Core.Path.{_≡_, refl, sym, ap, _∙_}
+use mathlib.Core.Logic.{_↔_, _⊎_, inl, inr, ⊎-elim}
+use mathlib.Core.Bool.{Bool, true, false, _&&_, _||_, and-assoc}
+use native.Mathlib.Omega.{arith}
+use native.Mathlib.Decide.{decLt}
+use lib.Dec.{eqb, ltb, leb}
+use borrow.Author.Tests.{eq-eqb, eqb-true, ltb-true, lt-ltb, ltb-false, le-ltb}
+use Rattle.search.specs.Search.{every, first, implies, Among, Lowest}
+use Rattle.search.proofs.Truth.{or-iff, and-iff, implies-iff, untrue, both, same}
+use Rattle.search.proofs.Found.{every-at, every-of, every-agree, every-cut, first-yet, first-found, first-more, first-none, first-lowest, first-agree, first-cut}
+use Rattle.order.specs.Closure.{Relation, PartialOrder}
+use Rattle.order.specs.Bound.{upper, isLeast, least, lub, turned, pair, apart, lonely, unjoined, Upper, IsLub, Joined, AllJoined, FirstPair, FirstApart}
+use Rattle.order.proofs.Closure.{Agree}
+
+-- every thing of a set has p
+every-in : (n : ℕ) (s p : ℕ → Bool) → (every n (λ x. implies (s x) (p x)) ≡ true) ↔ ((x : ℕ) → Among n x → s x ≡ true → p x ≡ true)
+every-in n s p = (
+  λ h x w. implies-iff (s x) (p x) .0 (every-at (λ x. implies (s x) (p x)) n h x w),
+  λ h. every-of (λ x. implies (s x) (p x)) n (λ x w. implies-iff (s x) (p x) .1 (h x w)),
+)
+
+module _ (n : ℕ) (ge : Relation) (s : ℕ → Bool) where
+  pub upper-iff : (c : ℕ) → (upper n ge s c ≡ true) ↔ Upper n ge s c
+  unfolding upper
+  upper-iff c = every-in n s (ge c)
+
+  pub isLeast-iff : (c : ℕ) → (isLeast n ge s c ≡ true) ↔ ((s c ≡ true) × Upper n (turned ge) s c)
+  unfolding isLeast
+  isLeast-iff c = (
+    λ h. let (p, q) = and-iff (s c) (every n (λ x. implies (s x) (ge x c))) .0 h in (p, every-in n s (λ x. ge x c) .0 q),
+    λ (p, q). and-iff (s c) (every n (λ x. implies (s x) (ge x c))) .1 (p, every-in n s (λ x. ge x c) .1 q),
+  )
+
+module _ (n : ℕ) (ge : Relation) (s : ℕ → Bool) where
+  isLub-iff : (c : ℕ) → Among n c → (isLeast n ge (upper n ge s) c ≡ true) ↔ IsLub n ge s c
+  isLub-iff c w = (
+    λ h.
+        let (p, q) = isLeast-iff n ge (upper n ge s) c .0 h in
+        record { inside = w; over = upper-iff n ge s c .0 p; least = λ d v u. q d v (upper-iff n ge s d .1 u) },
+    λ b. isLeast-iff n ge (upper n ge s) c .1 (upper-iff n ge s c .1 (b .over), λ d v u. b .least d v (upper-iff n ge s d .0 u)),
+  )
+
+  -- 0 is answered just where there is none
+  pub lub-none : (lub n ge s ≡ 0) ↔ ((c : ℕ) → IsLub n ge s c → ⊥)
+  unfolding lub least
+  lub-none = (
+    λ q c b. both (isLub-iff c (b .inside) .1 b) (first-none (isLeast n ge (upper n ge s)) n .0 q c (b .inside)),
+    λ none. first-none (isLeast n ge (upper n ge s)) n .1 (λ c w. untrue (isLeast n ge (upper n ge s) c) (λ h. none c (isLub-iff c w .0 h))),
+  )
+
+  -- and else one
+  pub lub-is : (c : ℕ) → 1 ≤ c → lub n ge s ≡ c → IsLub n ge s c
+  unfolding lub least
+  lub-is c l q = let low = first-lowest (isLeast n ge (upper n ge s)) n c l .0 q in isLub-iff c (low .inside) .0 (low .holds)
+
+  pub lub-exists : (lub n ge s ≡ 0 → ⊥) ↔ ((c : ℕ) × IsLub n ge s c)
+  lub-exists = (λ z. go (lub n ge s) refl z, λ (c, b) z. lub-none .0 z c b)
+    where
+      go : (c : ℕ) → lub n ge s ≡ c → (lub n ge s ≡ 0 → ⊥) → (c : ℕ) × IsLub n ge s c
+      go zero q z = absurd (z q)
+      go (suc c) q z = (suc c, lub-is (suc c) (omega arith) q)
+
+  module _ (o : PartialOrder n ge) where
+    -- there is only one
+    pub lub-unique : (c d : ℕ) → IsLub n ge s c → IsLub n ge s d → c ≡ d
+    lub-unique c d b k =
+        o .antisymmetric c d (b .inside) (k .inside) (k .least c (b .inside) (b .over)) (b .least d (k .inside) (k .over))
+
+    -- the search finds it just where it exists
+    pub lub-iff : (c : ℕ) → 1 ≤ c → (lub n ge s ≡ c) ↔ IsLub n ge s c
+    lub-iff c l = (lub-is c l, λ b. go (lub n ge s) refl b)
+      where
+        go : (d : ℕ) → lub n ge s ≡ d → IsLub n ge s c → d ≡ c
+        go zero q b = absurd (lub-none .0 q c b)
+        go (suc d) q b = lub-unique (suc d) c (lub-is (suc d) (omega arith) q) b
+
+-- ---- the first pair without a least upper bound
+
+pub pair-iff : (a b x : ℕ) → (pair a b x ≡ true) ↔ ((x ≡ a) ⊎ (x ≡ b))
+pair-iff a b x = (
+  λ h. ⊎-elim (λ p. inl (eqb-true x a p)) (λ q. inr (eqb-true x b q)) (or-iff (eqb x a) (eqb x b) .0 h),
+  λ h. or-iff (eqb x a) (eqb x b) .1 (⊎-elim (λ p. inl (eq-eqb x a p)) (λ q. inr (eq-eqb x b q)) h),
+)
+
+module _ (n : ℕ) (ge : Relation) where
+  -- the upper bounds of a pair
+  pub upper-pair : (a b c : ℕ) → Among n a → Among n b → upper n ge (pair a b) c ≡ (ge c a && ge c b)
+  upper-pair a b c v w =
+      same (upper n ge (pair a b) c) (ge c a && ge c b)
+      (λ h.
+      let u = upper-iff n ge (pair a b) c .0 h in
+      and-iff (ge c a) (ge c b) .1 (u a v (pair-iff a b a .1 (inl refl)), u b w (pair-iff a b b .1 (inr refl))))
+      (λ h.
+      let (p, q) = and-iff (ge c a) (ge c b) .0 h in
+      upper-iff n ge (pair a b) c .1 (λ x u k. ⊎-elim (λ i. rw i p) (λ i. rw i q) (pair-iff a b x .0 k)))
+
+  apart-iff : (a b : ℕ) → (apart n ge a b ≡ true) ↔ ((a < b) × (lub n ge (pair a b) ≡ 0))
+  unfolding apart
+  apart-iff a b = (
+    λ h. let (p, q) = and-iff (ltb a b) (eqb (lub n ge (pair a b)) 0) .0 h in (ltb-true a b p, eqb-true (lub n ge (pair a b)) 0 q),
+    λ (l, z). and-iff (ltb a b) (eqb (lub n ge (pair a b)) 0) .1 (lt-ltb a b l, eq-eqb (lub n ge (pair a b)) 0 z),
+  )
+
+  -- what `apart` tells of two in rising order
+  together : (a b : ℕ) → a < b → apart n ge a b ≡ false → Joined n ge a b
+  together a b l q = lub-exists n ge (pair a b) .0 (λ z. both (apart-iff a b .1 (l, z)) q)
+
+  separate : (a b : ℕ) → apart n ge a b ≡ true → Joined n ge a b → ⊥
+  separate a b h j = lub-exists n ge (pair a b) .1 j (apart-iff a b .0 h .1)
+
+  lonely-none : (a : ℕ) → (lonely n ge a ≡ 0) ↔ ((b : ℕ) → Among n b → a < b → Joined n ge a b)
+  unfolding lonely
+  lonely-none a = (
+    λ q b w l. together a b l (first-none (apart n ge a) n .0 q b w),
+    λ h. first-none (apart n ge a) n .1 (λ b w. untrue (apart n ge a b) (λ p. separate a b p (h b w (apart-iff a b .0 p .0)))),
+  )
+
+  -- a pair the other way round, and a thing with itself
+  joined-swap : (a b : ℕ) → Joined n ge b a → Joined n ge a b
+  joined-swap a b (c, h) = (
+    c,
+    record {
+      inside = h .inside;
+      over = λ x w p. h .over x w (swap a b x p);
+      least = λ d w u. h .least d w (λ x v p. u x v (swap b a x p));
+    },
+  )
+    where
+      swap : (a b x : ℕ) → pair a b x ≡ true → pair b a x ≡ true
+      swap a b x p = pair-iff b a x .1 (⊎-elim inr inl (pair-iff a b x .0 p))
+
+  joined-self : PartialOrder n ge → (a : ℕ) → Among n a → Joined n ge a a
+  joined-self o a w = (
+    a,
+    record {
+      inside = w;
+      over = λ x v p. ⊎-elim (λ i. rw i (o .reflexive a w)) (λ i. rw i (o .reflexive a w)) (pair-iff a a x .0 p);
+      least = λ d v u. u a w (pair-iff a a a .1 (inl refl));
+    },
+  )
+
+  pub some-apart : ℕ → Bool
+  some-apart a = ltb 0 (lonely n ge a)
+
+  pub unjoined-none : PartialOrder n ge → (unjoined n ge ≡ 0) ↔ AllJoined n ge
+  unfolding unjoined some-apart
+  unjoined-none o = (
+    λ q a b v w. elim (decLt a b) [
+      | yes l ↦ rising q a b v w l
+      | no l ↦ elim (decLt b a) [
+        | yes m ↦ joined-swap a b (rising q b a w v m)
+        | no m ↦ let i : a ≡ b = omega arith in rw (← i) (joined-self o a v)
+      ]
+    ],
+    λ h. first-none some-apart n .1 (λ a v. le-ltb 0 (lonely n ge a) (omega (arith, lonely-none a .1 (λ b w l. h a b v w)))),
+  )
+    where
+      rising : first n some-apart ≡ 0 → (a b : ℕ) → Among n a → Among n b → a < b → Joined n ge a b
+      rising q a b v w l = lonely-none a .0 (omega (arith, ltb-false 0 (lonely n ge a) (first-none some-apart n .0 q a v))) b w l
+
+  pub unjoined-first : (a : ℕ) → 1 ≤ a → unjoined n ge ≡ a → FirstPair n ge a (lonely n ge a)
+  unfolding unjoined lonely some-apart
+  unjoined-first a l q = go (first-lowest some-apart n a l .0 q)
+    where
+      pairs : Lowest n some-apart a → Lowest n (apart n ge a) (lonely n ge a) → FirstPair n ge a (lonely n ge a)
+      pairs low h = record {
+        lower = low .inside;
+        higher = h .inside;
+        rising = apart-iff a (lonely n ge a) .0 (h .holds) .0;
+        apart = separate a (lonely n ge a) (h .holds);
+        earlier = λ x y v w k m. lonely-none x .0 (omega (arith, ltb-false 0 (lonely n ge x) (low .lower x v m))) y w k;
+        sooner = λ y w k m. together a y k (h .lower y w m);
+      }
+
+      go : Lowest n some-apart a → FirstPair n ge a (lonely n ge a)
+      go low = pairs low (first-lowest (apart n ge a) n (lonely n ge a) (ltb-true 0 (lonely n ge a) (low .holds)) .0 refl)
+
+-- ---- an order sees only its things
+
+-- among more things, a set cut to the first m has the same least
+pub least-cut : (m n : ℕ) (ge : Relation) (s t : ℕ → Bool) → m ≤ n → ((a : ℕ) → Among n a → t a ≡ (leb a m && s a)) → least n ge t ≡ least m ge s
+unfolding least isLeast
+least-cut m n ge s t l h =
+    first-cut m n l (isLeast m ge s) (isLeast n ge t) (λ c w.
+    rw (every-cut m n l s t (λ x. ge x c) h, h c w) (and-assoc (leb c m) (s c) (every m (λ x. implies (s x) (ge x c)))))
+
+module _ (n : ℕ) (f g : Relation) (h : Agree n n f g) where
+  implied : (s : ℕ → Bool) (p q : ℕ → Bool) → ((x : ℕ) → Among n x → p x ≡ q x) → every n (λ x. implies (s x) (p x)) ≡ every n (λ x. implies (s x) (q x))
+  implied s p q e = every-agree (λ x. implies (s x) (p x)) (λ x. implies (s x) (q x)) n (λ x w. rw (e x w))
+
+  pub lub-agree : (s : ℕ → Bool) → lub n f s ≡ lub n g s
+  unfolding lub least isLeast upper
+  lub-agree s =
+      first-agree (isLeast n f (upper n f s)) (isLeast n g (upper n g s)) n (λ c w.
+      rw (
+        implied s (f c) (g c) (λ x v. h c x w v),
+        every-agree (λ x. implies (upper n f s x) (f x c)) (λ x. implies (upper n g s x) (g x c)) n
+            (λ x v. rw (implied s (f x) (g x) (λ y u. h x y v u), h x c v w)),
+      ))
+
+  lonely-agree : (a : ℕ) → lonely n f a ≡ lonely n g a
+  unfolding lonely apart
+  lonely-agree a = first-agree (apart n f a) (apart n g a) n (λ b w. rw (lub-agree (pair a b)))
+
+  pub unjoined-agree : unjoined n f ≡ unjoined n g
+  unfolding unjoined
+  unjoined-agree = first-agree (λ a. ltb 0 (lonely n f a)) (λ a. ltb 0 (lonely n g a)) n (λ a w. rw (lonely-agree a))
+
+  pub first-apart-agree : (a b : ℕ) → FirstApart n f a b → FirstApart n g a b
+  first-apart-agree a b h = record { lower = h .lower ∙ unjoined-agree; higher = rw (← (lonely-agree a)) (h .higher) }
+
+-- what a search answers that tries the things in turn
+module _ (n : ℕ) (ge : Relation) where
+  abbrev pub NoneApart : ℕ → Type 0
+  NoneApart i = first i (some-apart n ge) ≡ 0
+
+  pub none-apart-yet : NoneApart 0
+  none-apart-yet = first-yet (some-apart n ge)
+
+  pub none-apart-more : (i h : ℕ) → NoneApart i → h ≡ lonely n ge (i + 1) → h ≤ 0 → NoneApart (i + 1)
+  unfolding some-apart
+  none-apart-more i h none e z = first-more (some-apart n ge) i none (le-ltb 0 (lonely n ge (i + 1)) (omega arith))
+
+  pub apart-found : (i h : ℕ) → i < n → NoneApart i → h ≡ lonely n ge (i + 1) → 0 < h → FirstApart n ge (i + 1) h
+  unfolding unjoined some-apart
+  apart-found i h l none e p = record {
+    lower = first-found (some-apart n ge) n i l none (lt-ltb 0 (lonely n ge (i + 1)) (omega arith));
+    higher = rw (lt-ltb 0 (i + 1) (omega arith)) e;
+  }
+
+  pub none-apart : NoneApart n → FirstApart n ge 0 0
+  unfolding unjoined some-apart
+  none-apart none = record { lower = sym none; higher = refl }

@@ -1,0 +1,4 @@
+pub mod Closure
+pub mod Bound
+pub mod Lattice
+pub mod Stored

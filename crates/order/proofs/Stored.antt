@@ -1,0 +1,56 @@
+-- Marks that a loop stores from the front, one a turn: in a set, and row by row in a table. Assumes nothing.
+use Prim.Native.Nat.{ℕ, _+_, _-_, _≤_, _<_}
+use mathlib.Core.Path.{_≡_, refl, _∙_}
+use mathlib.Core.Logic.{⊎-elim}
+use mathlib.Core.Bool.{Bool, true, false, _||_}
+use mathlib.Core.List.{List, []}
+use native.Mathlib.Omega.{arith}
+use native.Mathlib.Numerals.{add-one}
+use native.Mathlib.Decide.{ℕ-discrete}
+use lib.Dec.{eqb}
+use borrow.Author.Tests.{eq-eqb, ne-eqb}
+use lib.ListN.{length, getD, set}
+use lib.Seq.{getD-set-same, getD-set-other}
+use Rattle.search.specs.Search.{Among}
+use Rattle.search.proofs.Found.{last-or}
+use Rattle.order.specs.Closure.{Relation}
+use Rattle.order.specs.Table.{marks, mark}
+use Rattle.order.proofs.Closure.{RowSet}
+
+-- thing i + 1 stands at i
+pub place : (i : ℕ) → i + 1 - 1 ≡ i
+place i = omega arith
+
+-- what stands at thing a when v is stored at i
+module _ {A : Type 0} (d : A) (l : List A) (i : ℕ) (v : A) where
+  pub stored-own : i < length l → getD (set l i v) (i + 1 - 1) d ≡ v
+  stored-own h = rw (place i) (getD-set-same l i v d h)
+
+  pub stored-other : (a : ℕ) → 1 ≤ a → (a ≡ i + 1 → ⊥) → getD (set l i v) (a - 1) d ≡ getD l (a - 1) d
+  stored-other a h ne = getD-set-other l i (a - 1) v d (λ e. ne (omega arith))
+
+-- s has the marks of f up to thing i
+abbrev pub Upto : ℕ → (ℕ → Bool) → List Bool → Type 0
+Upto i f s = (a : ℕ) → Among i a → marks s a ≡ f a
+
+pub upto-more : (f : ℕ → Bool) (s : List Bool) (i : ℕ) (v : Bool) → i < length s → Upto i f s → v ≡ f (i + 1) → Upto (i + 1) f (set s i v)
+upto-more f s i v h all new a w =
+    ⊎-elim
+    (λ e. let q : a ≡ i + 1 = omega arith in rw q (stored-own false s i v h ∙ new))
+    (λ u. stored-other false s i v a (w .0) (λ q. omega arith) ∙ all a u)
+    (last-or i a (rw add-one at w))
+
+-- a mark more in a set
+pub mark-more : (s : List Bool) (i : ℕ) → i < length s → (a : ℕ) → 1 ≤ a → marks (set s i true) a ≡ (eqb (i + 1) a || marks s a)
+mark-more s i h a l = elim (ℕ-discrete a (i + 1)) [
+  | yes q ↦ rw (q, eq-eqb (i + 1) (i + 1) refl) (stored-own false s i true h)
+  | no q ↦ rw (ne-eqb (i + 1) a (λ e. q (omega arith))) (stored-other false s i true a l q)
+]
+
+-- a row stored in a table
+pub set-row : (h : Relation) (t : List (List Bool)) (i : ℕ) (row : List Bool) → i < length t
+    → ((b : ℕ) → Among 32 b → marks row b ≡ h (i + 1) b) → RowSet 32 (i + 1) h (mark t) (mark (set t i row))
+set-row h t i row l all = record {
+  own = λ b w. rw (stored-own [] t i row l) (all b w);
+  others = λ a b v ne w. rw (stored-other [] t i row a (v .0) ne);
+}

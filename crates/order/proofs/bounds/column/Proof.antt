@@ -1,0 +1,37 @@
+-- Each turn stores one mark more of the column.
+use Prim.Native.Nat.{ℕ, _+_, _≤_, _-_}
+use mathlib.Core.Path.{_≡_}
+use native.Mathlib.Omega.{arith}
+use borrow.Author.Needs.{needs}
+use lib.ListN.{length}
+use Rattle.order.specs.Table.{mark}
+use Rattle.order.proofs.Stored.{place, Upto, upto-more}
+use Rattle.order.proofs.bounds.column.Statement.{statement}
+use Rattle.order.proofs.bounds.column.Tie as tie
+
+abbrev Inv-loop : tie.InvT-loop
+Inv-loop j t r₀ i₀ r i = (i ≤ 32) × (length r ≡ 32) × Upto i (λ a. mark t a (j + 1)) r
+
+abbrev μ-loop : tie.MeasureT-loop
+μ-loop j t r₀ i₀ r i = 32 - i
+
+loop-again : tie.Need-loop-again Inv-loop μ-loop
+loop-again c =
+    let w = c .before .before .loop in
+    (search needs, search needs, upto-more _ (w .r) (w .i) _ (search needs) (w .inv .2) (simp (place (w .i), place (c .before .before .before .args .j))))
+
+pub column-spec : {M : Type 1} → statement M
+column-spec =
+    tie.close
+    (tie.spec
+    Inv-loop
+    μ-loop
+    (λ c. (search needs, search needs, λ b w. absurd (omega arith)))
+    (λ c. search needs)
+    (λ c. search needs)
+    (λ c. search needs)
+    (λ c. search needs)
+    (λ c. search needs)
+    (λ c. search needs)
+    loop-again
+    (λ c b w. c .before .loop .inv .2 b (omega arith)))

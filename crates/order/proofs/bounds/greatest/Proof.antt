@@ -1,0 +1,62 @@
+-- A search for the first thing that leads the set.
+use Prim.Native.Nat.{ℕ, _+_, _≤_, _-_}
+use mathlib.Core.Path.{_≡_, sym, _∙_}
+use mathlib.Core.Bool.{Bool}
+use mathlib.Core.List.{List}
+use native.Mathlib.Omega.{arith}
+use borrow.Author.Needs.{needs}
+use Rattle.search.specs.Search.{first}
+use Rattle.search.proofs.Found.{first-yet, first-found, first-more}
+use Rattle.order.specs.Bound.{turned, isLeast, least}
+use Rattle.order.specs.Table.{marks, mark}
+use Rattle.order.proofs.Stored.{place}
+use Rattle.order.proofs.bounds.greatest.Statement.{statement}
+use Rattle.order.proofs.bounds.greatest.Tie as tie
+
+abbrev leader : List (List Bool) → List Bool → ℕ → Bool
+leader t s = isLeast 32 (turned (mark t)) (marks s)
+
+abbrev Inv-loop : tie.InvT-loop
+Inv-loop t s i₀ i = (i ≤ 32) × (first i (leader t s) ≡ 0)
+
+abbrev μ-loop : tie.MeasureT-loop
+μ-loop t s i₀ i = 32 - i
+
+returns : tie.Need-returns Inv-loop μ-loop
+unfolding least isLeast
+returns c =
+    let a = c .before .before .before .before .before .args in
+    let w = c .before .before .before .before .loop in
+    first-found (leader (a .t1) (a .t2)) 32 (w .i) (omega arith) (w .inv .1) (rw (place (w .i)) (sym (c .before .leads .ensures) ∙ c .if1 .taken))
+
+loop-again : tie.Need-loop-again Inv-loop μ-loop
+unfolding isLeast
+loop-again c =
+    let a = c .before .before .before .before .before .args in
+    let w = c .before .before .before .before .loop in
+    (search needs, first-more (leader (a .t1) (a .t2)) (w .i) (w .inv .1) (rw (place (w .i)) (sym (c .before .leads .ensures) ∙ c .if1 .left)))
+
+returns-2 : tie.Need-returns-2 Inv-loop μ-loop
+unfolding least
+returns-2 c =
+    let w = c .before .loop in
+    let q : w .i ≡ 32 = omega arith in
+    sym (rw q at (w .inv .1))
+
+pub greatest-spec : {M : Type 1} → statement M
+greatest-spec =
+    tie.close
+    (tie.spec
+    Inv-loop
+    μ-loop
+    (λ c. (search needs, first-yet _))
+    (λ c. search needs)
+    (λ c. search needs)
+    (λ c. search needs)
+    (λ c κs. search needs)
+    (λ c. search needs)
+    returns
+    (λ c. search needs)
+    (λ c. search needs)
+    loop-again
+    returns-2)

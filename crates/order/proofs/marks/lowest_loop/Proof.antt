@@ -1,0 +1,59 @@
+-- A search among the first n things.
+use Prim.Native.Nat.{ℕ, _+_, _≤_, _-_, min}
+use mathlib.Core.Path.{_≡_, refl, sym, _∙_}
+use mathlib.Core.Bool.{Bool}
+use mathlib.Core.List.{List}
+use native.Mathlib.Omega.{arith}
+use borrow.Author.Needs.{needs}
+use Rattle.search.specs.Search.{first}
+use Rattle.search.proofs.Found.{first-yet, first-found, first-more}
+use Rattle.order.specs.Table.{mark}
+use Rattle.order.specs.Closure.{loop}
+use Rattle.order.proofs.Stored.{place}
+use Rattle.order.proofs.marks.lowest_loop.Statement.{statement}
+use Rattle.order.proofs.marks.lowest_loop.Tie as tie
+
+abbrev Inv-loop : tie.InvT-loop
+Inv-loop n t m i₀ i = (m ≤ 32) × (i ≤ m) × (loop i (mark t) ≡ 0)
+
+abbrev μ-loop : tie.MeasureT-loop
+μ-loop n t m i₀ i = m - i
+
+abbrev self : List (List Bool) → ℕ → Bool
+self t a = mark t a a
+
+returns : tie.Need-returns Inv-loop μ-loop
+returns c =
+    let a = c .before .before .before .before .before .args in
+    let w = c .before .before .before .loop in
+    first-found (self (a .t1)) (min (a .n) 32) (w .i) (omega arith) (w .inv .2) (simp (place (w .i)) (c .if1 .taken))
+
+loop-again : tie.Need-loop-again Inv-loop μ-loop
+loop-again c =
+    let t = c .before .before .before .before .before .args .t1 in
+    let w = c .before .before .before .loop in
+    (search needs, search needs, first-more (self t) (w .i) (w .inv .2) (simp (place (w .i)) (c .if1 .left)))
+
+returns-2 : tie.Need-returns-2 Inv-loop μ-loop
+returns-2 c =
+    let w = c .before .loop in
+    let q : w .i ≡ min (c .before .before .before .args .n) 32 = omega arith in
+    sym (rw q at (w .inv .2))
+
+pub lowest-loop-spec : {M : Type 1} → statement M
+lowest-loop-spec =
+    tie.close
+    (tie.spec
+    Inv-loop
+    μ-loop
+    (λ c κs. search needs)
+    (λ c. (search needs, search needs, first-yet _))
+    (λ c. search needs)
+    (λ c. search needs)
+    (λ c. search needs)
+    (λ c. search needs)
+    returns
+    (λ c. search needs)
+    (λ c. search needs)
+    loop-again
+    returns-2)

@@ -1,0 +1,208 @@
+// Bounds of sets of things in an order that is held as 32 rows by 32 marks.
+//
+// The row of a thing has the things under it. So lower bounds are what rows have in common, and
+// upper bounds are lower bounds in the order turned round: who asks for many turns the order once.
+ghost use mathlib.Core.Path.{_≡_};
+ghost use mathlib.Core.Bool.{Bool, true, false, _&&_, _||_};
+ghost use Prim.Native.Nat.{ℕ, _+_, _≤_, _<_, min};
+ghost use lib.Dec.{leb, eqb};
+ghost use Rattle.search.specs.Search.{Among, among, every, implies};
+ghost use Rattle.order.specs.Bound.{upper, least, lub, glb, turned, pair, apart, lonely, FirstApart};
+ghost use Rattle.order.specs.Table.{marks, mark};
+
+// The set of the first n things.
+pub fn first_things(n: usize) -> [bool; 32]
+    ensures { λ r. ⌜ ((a : ℕ) → Among 32 a → marks r a ≡ leb a n) ⌝ }
+{
+    let mut r = [false; 32];
+    let mut i = 0;
+    while i < 32 {
+        r[i] = i < n;
+        i += 1;
+    }
+    r
+}
+
+// What two sets have in common.
+pub fn common(s: [bool; 32], t: [bool; 32]) -> [bool; 32]
+    ensures { λ r. ⌜ ((a : ℕ) → Among 32 a → marks r a ≡ (marks s a && marks t a)) ⌝ }
+{
+    let mut r = s;
+    let mut i = 0;
+    while i < 32 {
+        r[i] = s[i] & t[i];
+        i += 1;
+    }
+    r
+}
+
+// Whether all of s is in t.
+fn within(s: [bool; 32], t: [bool; 32]) -> bool
+    ensures { λ r. ⌜ r ≡ every 32 (λ a. implies (marks s a) (marks t a)) ⌝ }
+{
+    let mut all = true;
+    let mut i = 0;
+    while i < 32 {
+        all = all & (!s[i] | t[i]);
+        i += 1;
+    }
+    all
+}
+
+// Whether a thing is the greatest of s: it is `among` s, and all of s is under it.
+fn leads(s: [bool; 32], under: [bool; 32], among: bool) -> bool
+    ensures { λ r. ⌜ r ≡ (among && every 32 (λ a. implies (marks s a) (marks under a))) ⌝ }
+{
+    if among {
+        return within(s, under);
+    }
+    false
+}
+
+// The greatest of the set, or 0. Where several are over all of it, the lowest number of them.
+pub fn greatest(t: [[bool; 32]; 32], s: [bool; 32]) -> usize
+    ensures { λ r. ⌜ r ≡ least 32 (turned (mark t)) (marks s) ⌝ }
+{
+    let mut i = 0;
+    while i < 32 {
+        let under = t[i];
+        if leads(s, under, s[i]) {
+            return i + 1;
+        }
+        i += 1;
+    }
+    0
+}
+
+// The set cut down to what is under a thing, where `on`.
+fn narrowed(s: [bool; 32], under: [bool; 32], on: bool) -> [bool; 32]
+    ensures { λ r. ⌜ ((a : ℕ) → Among 32 a → marks r a ≡ (marks s a && implies on (marks under a))) ⌝ }
+{
+    if on {
+        return common(s, under);
+    }
+    s
+}
+
+// The lower bounds of the set among the first n things.
+pub fn lower_bounds(t: [[bool; 32]; 32], n: usize, s: [bool; 32]) -> [bool; 32]
+    ensures { λ r. ⌜ ((c : ℕ) → Among 32 c → marks r c ≡ (leb c (min n 32) && upper (min n 32) (turned (mark t)) (marks s) c)) ⌝ }
+{
+    let m = super::marks::lesser(n, 32);
+    let mut r = first_things(m);
+    let mut i = 0;
+    while i < m {
+        let under = t[i];
+        let next = narrowed(r, under, s[i]);
+        r = next;
+        i += 1;
+    }
+    r
+}
+
+// The greatest lower bound of the set among the first n things, or 0.
+pub fn greatest_lower(t: [[bool; 32]; 32], n: usize, s: [bool; 32]) -> usize
+    ensures { λ r. ⌜ r ≡ glb (min n 32) (mark t) (marks s) ⌝ }
+{
+    greatest(t, lower_bounds(t, n, s))
+}
+
+// The column of thing j + 1.
+fn column(t: [[bool; 32]; 32], j: usize) -> [bool; 32]
+    requires { ⌜ j < 32 ⌝ }
+    ensures { λ r. ⌜ ((a : ℕ) → Among 32 a → marks r a ≡ mark t a (j + 1)) ⌝ }
+{
+    let mut r = [false; 32];
+    let mut i = 0;
+    while i < 32 {
+        r[i] = t[i][j];
+        i += 1;
+    }
+    r
+}
+
+// The order turned round.
+pub fn turned(t: [[bool; 32]; 32]) -> [[bool; 32]; 32]
+    ensures { λ r. ⌜ ((a b : ℕ) → Among 32 a → Among 32 b → mark r a b ≡ turned (mark t) a b) ⌝ }
+{
+    let mut r = t;
+    let mut j = 0;
+    while j < 32 {
+        r[j] = column(t, j);
+        j += 1;
+    }
+    r
+}
+
+// The least upper bound of the set among the first n things, or 0.
+pub fn least_upper(t: [[bool; 32]; 32], n: usize, s: [bool; 32]) -> usize
+    ensures { λ r. ⌜ r ≡ lub (min n 32) (mark t) (marks s) ⌝ }
+{
+    greatest_lower(turned(t), n, s)
+}
+
+// The least upper bound of things i + 1 and j + 1 among the first m, or 0, in the order that was turned round.
+fn bound_of_two(up: [[bool; 32]; 32], m: usize, i: usize, j: usize) -> usize
+    requires { ⌜ (m ≤ 32) × (i < m) × (j < m) ⌝ }
+    ensures { λ r. ⌜ r ≡ lub m (turned (mark up)) (pair (i + 1) (j + 1)) ⌝ }
+{
+    let over = up[i];
+    let also = up[j];
+    let bounds = common(first_things(m), over);
+    greatest(up, common(bounds, also))
+}
+
+// Whether thing j + 1 comes after thing i + 1 and has no least upper bound with it.
+fn separate(up: [[bool; 32]; 32], m: usize, i: usize, j: usize) -> bool
+    requires { ⌜ (m ≤ 32) × (i < m) × (j < m) ⌝ }
+    ensures { λ r. ⌜ r ≡ apart m (turned (mark up)) (i + 1) (j + 1) ⌝ }
+{
+    if j <= i {
+        return false;
+    }
+    bound_of_two(up, m, i, j) == 0
+}
+
+// The lowest thing that is so, or 0.
+fn partner(up: [[bool; 32]; 32], m: usize, i: usize) -> usize
+    requires { ⌜ (m ≤ 32) × (i < m) ⌝ }
+    ensures { λ r. ⌜ r ≡ lonely m (turned (mark up)) (i + 1) ⌝ }
+{
+    let mut j = 0;
+    while j < m {
+        if separate(up, m, i, j) {
+            return j + 1;
+        }
+        j += 1;
+    }
+    0
+}
+
+// Two things, or 0 and 0.
+pub struct Pair {
+    pub lower: usize,
+    pub higher: usize,
+}
+
+// The first pair among the first n things that has no least upper bound.
+pub fn first_pair(t: [[bool; 32]; 32], n: usize) -> Pair
+    ensures { λ r. ⌜ FirstApart (min n 32) (mark t) (r .lower) (r .higher) ⌝ }
+{
+    let m = super::marks::lesser(n, 32);
+    let up = turned(t);
+    let mut i = 0;
+    while i < m {
+        let higher = partner(up, m, i);
+        if 0 < higher {
+            return Pair {
+                lower: i + 1,
+                higher,
+            };
+        }
+        i += 1;
+    }
+    Pair {
+        lower: 0,
+        higher: 0,
+    }
+}

@@ -1,0 +1,99 @@
+// A relation among up to 32 things as 32 rows by 32 marks, and sets of such things as 32 marks.
+ghost use mathlib.Core.Path.{_≡_};
+ghost use mathlib.Core.Bool.{_&&_, _||_};
+ghost use Prim.Native.Nat.{ℕ, _+_, _≤_, _<_, min};
+ghost use lib.Dec.{eqb};
+ghost use Rattle.search.specs.Search.{Among};
+ghost use Rattle.order.specs.Closure.{path, loop};
+ghost use Rattle.order.specs.Table.{marks, mark, Rows, round, reflexive};
+
+// The lesser of the two.
+pub fn lesser(n: usize, most: usize) -> usize
+    ensures { λ r. ⌜ r ≡ min n most ⌝ }
+{
+    if n < most { n } else { most }
+}
+
+// The row with the marks of `other` too, where `on`.
+fn stepped(row: [bool; 32], other: [bool; 32], on: bool) -> [bool; 32]
+    ensures { λ r. ⌜ ((b : ℕ) → Among 32 b → marks r b ≡ (marks row b || (on && marks other b))) ⌝ }
+{
+    let mut r = row;
+    let mut j = 0;
+    while j < 32 {
+        r[j] = row[j] | (on & other[j]);
+        j += 1;
+    }
+    r
+}
+
+// One round of closing: in the first n rows, the paths past thing k + 1 too.
+fn pass(t: [[bool; 32]; 32], k: usize, n: usize) -> [[bool; 32]; 32]
+    requires { ⌜ (k < n) × (n ≤ 32) ⌝ }
+    ensures { λ r. ⌜ Rows 32 n (round (mark t) (k + 1)) (mark t) (mark r) ⌝ }
+{
+    let other = t[k];
+    let mut r = t;
+    let mut i = 0;
+    while i < n {
+        let row = t[i];
+        r[i] = stepped(row, other, row[k]);
+        i += 1;
+    }
+    r
+}
+
+// The paths of one step or more among the first n things.
+pub fn paths(t: [[bool; 32]; 32], n: usize) -> [[bool; 32]; 32]
+    ensures { λ r. ⌜ Rows 32 (min n 32) (path (min n 32) (mark t)) (mark t) (mark r) ⌝ }
+{
+    let m = lesser(n, 32);
+    let mut r = t;
+    let mut k = 0;
+    while k < m {
+        let next = pass(r, k, m);
+        r = next;
+        k += 1;
+    }
+    r
+}
+
+// The row with a mark at i + 1.
+fn marked(row: [bool; 32], i: usize) -> [bool; 32]
+    requires { ⌜ i < 32 ⌝ }
+    ensures { λ r. ⌜ ((b : ℕ) → Among 32 b → marks r b ≡ (eqb (i + 1) b || marks row b)) ⌝ }
+{
+    let mut r = row;
+    r[i] = true;
+    r
+}
+
+// Each of the first n things with itself: of paths, the closure.
+pub fn reflected(t: [[bool; 32]; 32], n: usize) -> [[bool; 32]; 32]
+    ensures { λ r. ⌜ Rows 32 (min n 32) (reflexive (mark t)) (mark t) (mark r) ⌝ }
+{
+    let m = lesser(n, 32);
+    let mut r = t;
+    let mut i = 0;
+    while i < m {
+        let row = t[i];
+        r[i] = marked(row, i);
+        i += 1;
+    }
+    r
+}
+
+// The lowest of the first n things that is related to itself, or 0: of paths, the lowest on a circle.
+pub fn lowest_loop(t: [[bool; 32]; 32], n: usize) -> usize
+    ensures { λ r. ⌜ r ≡ loop (min n 32) (mark t) ⌝ }
+{
+    let m = lesser(n, 32);
+    let mut i = 0;
+    while i < m {
+        if t[i][i] {
+            return i + 1;
+        }
+        i += 1;
+    }
+    0
+}

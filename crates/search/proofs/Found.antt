@@ -1,0 +1,177 @@
+-- What the searches of `Search` find, as properties; that they see only what p says of the things 1 to n; and one turn of a loop that makes such a search.
+-- Assumes nothing.
+use Prim.Native.Nat.{ℕ, zero, suc, _+_, _≤_, _<_}
+use mathlib.Core.Path.{_≡_, refl, sym, ap, _∙_}
+use mathlib.Core.Logic.{_↔_, _⊎_, inl, inr, ⊎-elim}
+use mathlib.Core.Bool.{Bool, true, false, _&&_, _||_, cond, false≢true}
+use native.Mathlib.Omega.{arith}
+use native.Mathlib.Nat.{eq-or-lt-of-le}
+use native.Mathlib.Numerals.{add-one}
+use native.Mathlib.Decide.{decLt}
+use lib.Dec.{leb}
+use borrow.Author.Tests.{leb-true, le-leb, lt-leb}
+use Rattle.search.specs.Search.{some, every, orElse, first, implies, Among, Lowest}
+use Rattle.search.proofs.Truth.{or-iff, and-iff, implies-iff, untrue, both, same}
+
+-- one of the things 1 to n + 1 is the last or one of the others
+pub last-or : (n a : ℕ) → Among (suc n) a → (a ≡ suc n) ⊎ Among n a
+last-or n a w = ⊎-elim (λ e. inl e) (λ l. inr (omega arith)) (eq-or-lt-of-le (w .1))
+
+module _ (p : ℕ → Bool) where
+  some-witness : (n : ℕ) → some n p ≡ true → (a : ℕ) × Among n a × (p a ≡ true)
+  unfolding some
+  some-witness zero e = absurd (false≢true e)
+  some-witness (suc n) e =
+      ⊎-elim
+      (λ l. let (a, w, h) = some-witness n l in (a, omega arith, h))
+      (λ h. (suc n, omega arith, h))
+      (or-iff (some n p) (p (suc n)) .0 e)
+
+  pub some-of : (n a : ℕ) → Among n a → p a ≡ true → some n p ≡ true
+  unfolding some
+  some-of zero a w h = absurd (omega arith)
+  some-of (suc n) a w h =
+      or-iff (some n p) (p (suc n)) .1 (⊎-elim (λ e. inr (rw e at h)) (λ v. inl (some-of n a v h)) (last-or n a w))
+
+  pub some-iff : (n : ℕ) → (some n p ≡ true) ↔ ((a : ℕ) × Among n a × (p a ≡ true))
+  some-iff n = (some-witness n, λ (a, w, h). some-of n a w h)
+
+  pub every-at : (n : ℕ) → every n p ≡ true → (a : ℕ) → Among n a → p a ≡ true
+  unfolding every
+  every-at zero e a w = absurd (omega arith)
+  every-at (suc n) e a w =
+      let s = and-iff (every n p) (p (suc n)) .0 e in
+      ⊎-elim (λ i. rw i (s .1)) (every-at n (s .0) a) (last-or n a w)
+
+  pub every-of : (n : ℕ) → ((a : ℕ) → Among n a → p a ≡ true) → every n p ≡ true
+  unfolding every
+  every-of zero h = refl
+  every-of (suc n) h = and-iff (every n p) (p (suc n)) .1 (every-of n (λ a w. h a (omega arith)), h (suc n) (omega arith))
+
+  -- p holds of none of the things 1 to n
+  abbrev pub None : ℕ → Type 0
+  None n = (a : ℕ) → Among n a → p a ≡ false
+
+  -- what `first` answers: 0 where there is none, else the lowest
+  abbrev pub Finds : ℕ → ℕ → Type 0
+  Finds n zero = None n
+  Finds n (suc a) = Lowest n p (suc a)
+
+  pub first-finds : (n : ℕ) → Finds n (first n p)
+  unfolding first
+  first-finds zero = λ a w. absurd (omega arith)
+  first-finds (suc n) = next (first n p) (first-finds n) (p (suc n)) refl
+    where
+      next : (a : ℕ) → Finds n a → (b : Bool) → p (suc n) ≡ b → Finds (suc n) (orElse a (cond b (suc n) 0))
+      next zero none true e = record { inside = omega arith; holds = e; lower = λ b w l. none b (omega arith) }
+      next zero none false e = λ b w. ⊎-elim (λ i. rw i e) (none b) (last-or n b w)
+      next (suc a) low b e =
+          let w = low .inside in
+          record { inside = omega arith; holds = low .holds; lower = λ c v l. low .lower c (omega arith) l }
+
+  -- and nothing else is such an answer
+  pub finds-first : (n a : ℕ) → Finds n a → a ≡ first n p
+  finds-first n a f = one a (first n p) f (first-finds n)
+    where
+      one : (a b : ℕ) → Finds n a → Finds n b → a ≡ b
+      one zero zero f g = refl
+      one zero (suc b) f g = absurd (both (g .holds) (f (suc b) (g .inside)))
+      one (suc a) zero f g = absurd (both (f .holds) (g (suc a) (f .inside)))
+      one (suc a) (suc b) f g = elim (decLt (suc a) (suc b)) [
+        | yes l ↦ absurd (both (f .holds) (g .lower (suc a) (f .inside) l))
+        | no l ↦ elim (decLt (suc b) (suc a)) [
+          | yes m ↦ absurd (both (g .holds) (f .lower (suc b) (g .inside) m))
+          | no m ↦ omega arith
+        ]
+      ]
+
+  pub first-none : (n : ℕ) → (first n p ≡ 0) ↔ None n
+  first-none n = (λ e. rw e at (first-finds n), λ none. sym (finds-first n 0 none))
+
+  pub first-lowest : (n a : ℕ) → 1 ≤ a → (first n p ≡ a) ↔ Lowest n p a
+  first-lowest n zero l = absurd (omega arith)
+  first-lowest n (suc a) l = (λ e. rw e at (first-finds n), λ low. sym (finds-first n (suc a) low))
+
+  -- one turn of a loop whose i things so far were searched in vain, and whose turn looks at i + 1
+  pub some-found : (n i : ℕ) → i < n → p (i + 1) ≡ true → true ≡ some n p
+  some-found n i l h = sym (some-of n (i + 1) (omega arith) h)
+
+  pub every-yet : true ≡ every 0 p
+  unfolding every
+  every-yet = refl
+
+  pub some-more : (i : ℕ) → some (i + 1) p ≡ (some i p || p (i + 1))
+  unfolding some
+  some-more i = rw add-one
+
+  pub every-more : (i : ℕ) → every (i + 1) p ≡ (every i p && p (i + 1))
+  unfolding every
+  every-more i = rw add-one
+
+  pub every-fails : (n i : ℕ) → i < n → p (i + 1) ≡ false → false ≡ every n p
+  every-fails n i l h = sym (untrue (every n p) (λ e. both (every-at n e (i + 1) (omega arith)) h))
+
+  pub first-yet : first 0 p ≡ 0
+  unfolding first
+  first-yet = refl
+
+  pub first-found : (n i : ℕ) → i < n → first i p ≡ 0 → p (i + 1) ≡ true → i + 1 ≡ first n p
+  first-found n i l e h =
+      finds-first n (i + 1)
+      (rw add-one (record { inside = omega arith; holds = rw add-one at h; lower = λ b w m. first-none i .0 e b (omega arith) }))
+
+  pub first-more : (i : ℕ) → first i p ≡ 0 → p (i + 1) ≡ false → first (i + 1) p ≡ 0
+  unfolding first
+  first-more i e h = rw (add-one, e, rw add-one at h)
+
+-- a search sees only what p says of the things 1 to n
+module _ (p q : ℕ → Bool) where
+  pub some-agree : (n : ℕ) → ((a : ℕ) → Among n a → p a ≡ q a) → some n p ≡ some n q
+  unfolding some
+  some-agree zero h = refl
+  some-agree (suc n) h = rw (some-agree n (λ a w. h a (omega arith)), h (suc n) (omega arith))
+
+  pub every-agree : (n : ℕ) → ((a : ℕ) → Among n a → p a ≡ q a) → every n p ≡ every n q
+  unfolding every
+  every-agree zero h = refl
+  every-agree (suc n) h = rw (every-agree n (λ a w. h a (omega arith)), h (suc n) (omega arith))
+
+  pub first-agree : (n : ℕ) → ((a : ℕ) → Among n a → p a ≡ q a) → first n p ≡ first n q
+  unfolding first
+  first-agree zero h = refl
+  first-agree (suc n) h = rw (first-agree n (λ a w. h a (omega arith)), h (suc n) (omega arith))
+
+-- a search among n that can find nothing past m is one among m
+module _ (m n : ℕ) (l : m ≤ n) where
+  pub first-cut : (p q : ℕ → Bool) → ((a : ℕ) → Among n a → q a ≡ (leb a m && p a)) → first n q ≡ first m p
+  first-cut p q h = sym (finds-first q n (first m p) (go (first m p) (first-finds p m)))
+    where
+      low : (a : ℕ) → Among m a → q a ≡ p a
+      low a w = h a (omega arith) ∙ rw (le-leb a m (w .1))
+
+      high : (a : ℕ) → Among n a → m < a → q a ≡ false
+      high a w k = h a w ∙ rw (lt-leb a m k)
+
+      go : (a : ℕ) → Finds p m a → Finds q n a
+      go zero none = λ a w. elim (decLt m a) [ yes k ↦ high a w k | no k ↦ let v : Among m a = omega arith in low a v ∙ none a v ]
+      go (suc a) f =
+          let w = f .inside in
+          record {
+            inside = omega arith;
+            holds = low (suc a) w ∙ f .holds;
+            lower = λ b v k. let u : Among m b = omega arith in low b u ∙ f .lower b u k;
+          }
+
+  pub every-cut : (s t p : ℕ → Bool) → ((a : ℕ) → Among n a → t a ≡ (leb a m && s a))
+      → every n (λ a. implies (t a) (p a)) ≡ every m (λ a. implies (s a) (p a))
+  every-cut s t p h =
+      same (every n (λ a. implies (t a) (p a))) (every m (λ a. implies (s a) (p a)))
+      (λ e. every-of (λ a. implies (s a) (p a)) m (λ a w.
+      implies-iff (s a) (p a) .1 (λ k.
+      implies-iff (t a) (p a) .0 (every-at (λ a. implies (t a) (p a)) n e a (omega arith))
+      (h a (omega arith) ∙ and-iff (leb a m) (s a) .1 (le-leb a m (w .1), k)))))
+      (λ e. every-of (λ a. implies (t a) (p a)) n (λ a w.
+      implies-iff (t a) (p a) .1 (λ k.
+      let (i, j) = and-iff (leb a m) (s a) .0 (sym (h a w) ∙ k) in
+      let b = leb-true a m i in
+      implies-iff (s a) (p a) .0 (every-at (λ a. implies (s a) (p a)) m e a (omega arith)) j)))

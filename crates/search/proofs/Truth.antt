@@ -1,0 +1,40 @@
+-- Tests that are true: what a conjunction, a disjunction, an implication and a range test tell, and two tests that say the same.
+-- Assumes nothing.
+use Prim.Native.Nat.{ℕ, _≤_}
+use mathlib.Core.Path.{_≡_, refl, sym, _∙_}
+use mathlib.Core.Logic.{_↔_, _⊎_, inl, inr, ⊎-elim}
+use mathlib.Core.Bool.{Bool, true, false, not, _&&_, _||_, false≢true, true≢false}
+use lib.Dec.{leb}
+use borrow.Author.Tests.{leb-true, le-leb}
+use Rattle.search.specs.Search.{among, implies, Among}
+
+pub or-iff : (a b : Bool) → ((a || b) ≡ true) ↔ ((a ≡ true) ⊎ (b ≡ true))
+or-iff true b = (λ e. inl refl, λ s. refl)
+or-iff false b = (λ e. inr e, λ s. ⊎-elim (λ e. absurd (false≢true e)) (λ e. e) s)
+
+pub and-iff : (a b : Bool) → ((a && b) ≡ true) ↔ ((a ≡ true) × (b ≡ true))
+and-iff true b = (λ e. (refl, e), λ s. s .1)
+and-iff false b = (λ e. absurd (false≢true e), λ s. s .0)
+
+pub implies-iff : (a b : Bool) → (implies a b ≡ true) ↔ (a ≡ true → b ≡ true)
+implies-iff true b = (λ e h. e, λ h. h refl)
+implies-iff false b = (λ e h. absurd (false≢true h), λ h. refl)
+
+pub among-iff : (n a : ℕ) → (among n a ≡ true) ↔ Among n a
+among-iff n a = (
+  λ e. let s = and-iff (leb 1 a) (leb a n) .0 e in (leb-true 1 a (s .0), leb-true a n (s .1)),
+  λ w. and-iff (leb 1 a) (leb a n) .1 (le-leb 1 a (w .0), le-leb a n (w .1)),
+)
+
+-- what is not true is false, and nothing is both
+pub untrue : (a : Bool) → (a ≡ true → ⊥) → a ≡ false
+untrue true h = absurd (h refl)
+untrue false h = refl
+
+pub both : {a : Bool} → a ≡ true → a ≡ false → ⊥
+both p q = true≢false (sym p ∙ q)
+
+-- two tests that are true in the same cases are one
+pub same : (a b : Bool) → (a ≡ true → b ≡ true) → (b ≡ true → a ≡ true) → a ≡ b
+same true b f g = sym (f refl)
+same false b f g = sym (untrue b (λ e. false≢true (g e)))
