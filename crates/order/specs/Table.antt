@@ -2,14 +2,16 @@
 --     marks s a          s has a mark at a: a set of the things 1 to 32
 --     mark t a b         t has a mark in row a and column b: a relation among them
 --     Rows size n h e f  f is h in its rows 1 to n, and e in the rows after, up to `size`
+--     related xs at a b  the table of role sets at `at` relates a to b
 -- Assumes nothing.
-use Prim.Native.Nat.{ℕ, _-_, _≤_, _<_}
+use Prim.Native.Nat.{ℕ, _+_, _*_, _-_, _≤_, _<_}
 use mathlib.Core.Path.{_≡_}
 use mathlib.Core.Bool.{Bool, false, _&&_, _||_}
 use mathlib.Core.List.{List, []}
 use lib.Dec.{eqb}
-use lib.ListN.{getD}
+use lib.ListN.{length, getD}
 use Rattle.search.specs.Search.{Among}
+use Rattle.roleset.specs.Row.{member}
 use Rattle.order.specs.Closure.{Relation}
 
 abbrev pub marks : List Bool → ℕ → Bool
@@ -29,3 +31,18 @@ round e k a b = e a b || (e a k && e k b)
 -- each thing with itself
 abbrev pub reflexive : Relation → Relation
 reflexive e a b = eqb a b || e a b
+
+-- ---- the same for up to 128 things, each row a set of roles: the row of thing a starts 16 × (a - 1) bytes after `at`
+
+abbrev pub related : List ℕ → ℕ → Relation
+related xs at a b = member xs (at + 16 * (a - 1)) b
+
+-- the row at `at` with the roles of another, where it has role k
+abbrev pub stepped : List ℕ → ℕ → ℕ → List ℕ → ℕ → Bool
+stepped xs at k other r = member xs at r || (member xs at k && member other 0 r)
+
+-- ys is xs with the rows 1 to n of the table at `at` as h says, and nothing else changed; a table that does not lie wholly in xs is left alone
+pub record Tabled (at n : ℕ) (h : Relation) (xs ys : List ℕ) : Type 0 where
+  pub rows : at + 2048 ≤ length xs → Rows 128 n h (related xs at) (related ys at)
+  pub rest : (i : ℕ) → (at ≤ i → at + 16 * n ≤ i) → getD ys i 0 ≡ getD xs i 0
+  pub none : length xs < at + 2048 → ys ≡ xs

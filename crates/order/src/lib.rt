@@ -4,3 +4,4 @@
 // as an array of arrays by value, and `rows` one among up to 128 as rows of role sets in a slice.
 pub mod bounds;
 pub mod marks;
+pub mod rows;

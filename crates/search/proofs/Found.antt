@@ -52,6 +52,12 @@ module _ (p : ℕ → Bool) where
   abbrev pub None : ℕ → Type 0
   None n = (a : ℕ) → Among n a → p a ≡ false
 
+  pub some-none : (n : ℕ) → (some n p ≡ false) ↔ None n
+  some-none n = (
+    λ e a w. untrue (p a) (λ h. both (some-of n a w h) e),
+    λ none. untrue (some n p) (λ e. let (a, w, h) = some-witness n e in both h (none a w)),
+  )
+
   -- what `first` answers: 0 where there is none, else the lowest
   abbrev pub Finds : ℕ → ℕ → Type 0
   Finds n zero = None n

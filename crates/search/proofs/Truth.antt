@@ -5,7 +5,7 @@ use mathlib.Core.Path.{_≡_, refl, sym, _∙_}
 use mathlib.Core.Logic.{_↔_, _⊎_, inl, inr, ⊎-elim}
 use mathlib.Core.Bool.{Bool, true, false, not, _&&_, _||_, false≢true, true≢false}
 use lib.Dec.{leb}
-use borrow.Author.Tests.{leb-true, le-leb}
+use borrow.Author.Tests.{leb-true, le-leb, not-true, not-false}
 use Rattle.search.specs.Search.{among, implies, Among}
 
 pub or-iff : (a b : Bool) → ((a || b) ≡ true) ↔ ((a ≡ true) ⊎ (b ≡ true))
@@ -15,6 +15,11 @@ or-iff false b = (λ e. inr e, λ s. ⊎-elim (λ e. absurd (false≢true e)) (�
 pub and-iff : (a b : Bool) → ((a && b) ≡ true) ↔ ((a ≡ true) × (b ≡ true))
 and-iff true b = (λ e. (refl, e), λ s. s .1)
 and-iff false b = (λ e. absurd (false≢true e), λ s. s .0)
+
+-- the second part of a conjunction matters only where the first holds
+pub and-when : (a : Bool) {b c : Bool} → (a ≡ true → b ≡ c) → (a && b) ≡ (a && c)
+and-when true h = h refl
+and-when false h = refl
 
 pub implies-iff : (a b : Bool) → (implies a b ≡ true) ↔ (a ≡ true → b ≡ true)
 implies-iff true b = (λ e h. e, λ h. h refl)
@@ -33,6 +38,13 @@ untrue false h = refl
 
 pub both : {a : Bool} → a ≡ true → a ≡ false → ⊥
 both p q = true≢false (sym p ∙ q)
+
+-- what code that branches on `!test()` knows of the test that was answered
+pub passed : {t u : Bool} → t ≡ u → not t ≡ false → u ≡ true
+passed {t} e h = sym e ∙ not-false t h
+
+pub failed : {t u : Bool} → t ≡ u → not t ≡ true → u ≡ false
+failed {t} e h = sym e ∙ not-true t h
 
 -- two tests that are true in the same cases are one
 pub same : (a b : Bool) → (a ≡ true → b ≡ true) → (b ≡ true → a ≡ true) → a ≡ b

@@ -1,0 +1,99 @@
+-- A table of role sets in a list of bytes, changed row by row from the front: what a turn does, and what the table is at the end. Assumes nothing.
+use Prim.Native.Nat.{ℕ, _+_, _*_, _-_, _≤_, _<_}
+use mathlib.Core.Path.{_≡_, refl, sym, _∙_}
+use mathlib.Core.Logic.{inl, inr}
+use mathlib.Core.Bool.{Bool, true, false, _&&_, or-false, or-comm}
+use mathlib.Core.List.{List}
+use native.Mathlib.Omega.{arith}
+use native.Mathlib.Decide.{decLt}
+use lib.ListN.{length, getD}
+use lib.Dec.{eqb}
+use borrow.Author.Tests.{eq-eqb, eqb-true}
+use Rattle.search.specs.Search.{Among}
+use Rattle.search.proofs.Truth.{among-iff, same}
+use Rattle.roleset.specs.Row.{whole, member, added, united, Placed}
+use Rattle.roleset.proofs.Rows.{other-row, whole-true, unwritten, placed-as}
+use Rattle.order.specs.Closure.{Relation, via}
+use Rattle.order.specs.Table.{Rows, related, stepped, round, reflexive, Tabled}
+use Rattle.order.proofs.Closure.{RowSet, rows-none, rows-more, rounds-none, rounds-more}
+use Rattle.order.proofs.Stored.{place}
+
+-- no table is there
+pub no-table : {at n : ℕ} {h : Relation} {xs : List ℕ} → length xs < at + 2048 → Tabled at n h xs xs
+no-table l = record { rows = λ m. absurd (omega arith); rest = λ i o. refl; none = λ m. refl }
+
+module _ (at : ℕ) (h : Relation) (xs : List ℕ) (fits : at + 2048 ≤ length xs) where
+  pub seats-none : Tabled at 0 h xs xs
+  seats-none = record { rows = λ l. rows-none 128 h (related xs at); rest = λ i o. refl; none = λ l. refl }
+
+  -- the row of thing i + 1 is placed
+  pub seats-more : (i : ℕ) (s : ℕ → Bool) (ys zs : List ℕ) → i < 128 → length ys ≡ length xs → Tabled at i h xs ys → Placed (at + 16 * i) s ys zs
+      → ((b : ℕ) → Among 128 b → s b ≡ h (i + 1) b) → Tabled at (i + 1) h xs zs
+  seats-more i s ys zs l long t p new = record {
+    rows = λ m. rows-more 128 h (related xs at) i (related ys at) (related zs at) l (t .rows m) row;
+    rest = λ j o. p .rest j (λ m. let q = o (omega arith) in omega arith) ∙ t .rest j (λ m. let q = o m in omega arith);
+    none = λ m. absurd (omega arith);
+  }
+    where
+      row : RowSet 128 (i + 1) h (related ys at) (related zs at)
+      row = record {
+        own = λ b w. rw (place i) (p .row (omega arith) b ∙ new b w);
+        others = λ a b v ne w. other-row (at + 16 * i) (at + 16 * (a - 1)) s ys zs p
+            (elim (decLt (a - 1) i) [ yes k ↦ inl (omega arith) | no k ↦ inr (omega arith) ]) b;
+      }
+
+  -- a row that has had no turn yet
+  pub seat-left : (i b : ℕ) (ys : List ℕ) → i < 128 → Among 128 b → Tabled at i h xs ys → member ys (at + 16 * i) b ≡ member xs (at + 16 * i) b
+  seat-left i b ys l w t = rw (place i) at (t .rows fits .left (i + 1) b (omega arith) (omega arith) w)
+
+-- a thing put into its own row
+module _ (at : ℕ) (xs : List ℕ) (fits : at + 2048 ≤ length xs) where
+  eqb-swap : (a b : ℕ) → eqb a b ≡ eqb b a
+  eqb-swap a b = same (eqb a b) (eqb b a) (λ e. eq-eqb b a (sym (eqb-true a b e))) (λ e. eq-eqb a b (sym (eqb-true b a e)))
+
+  pub reflexive-row : (i b : ℕ) (ys : List ℕ) → i < 128 → Among 128 b → Tabled at i (reflexive (related xs at)) xs ys
+      → added ys (at + 16 * i) (i + 1) b ≡ reflexive (related xs at) (i + 1) b
+  reflexive-row i b ys l w t =
+      rw (seat-left at (reflexive (related xs at)) xs fits i b ys l w t, among-iff 128 (i + 1) .1 (omega arith), eqb-swap b (i + 1), place i)
+      (or-comm (member xs (at + 16 * i) b) (eqb (i + 1) b))
+
+-- a row is stepped by uniting it where it has the role, and else by nothing
+module _ (xs other : List ℕ) (at k : ℕ) (fits : at + 16 ≤ length xs) where
+  has : (b : Bool) → b ≡ (whole xs at && member xs at k) → member xs at k ≡ b
+  has b e = sym (e ∙ rw (whole-true xs at fits))
+
+  pub step-taken : (ys : List ℕ) (b : Bool) → b ≡ (whole xs at && member xs at k) → b ≡ true → Placed at (united xs at other) xs ys → Placed at (stepped xs at k other) xs ys
+  step-taken ys b e t p = placed-as (λ r. rw (has b e, t)) p
+
+  pub step-left : (b : Bool) → b ≡ (whole xs at && member xs at k) → b ≡ false → Placed at (stepped xs at k other) xs xs
+  step-left b e f = unwritten (λ l r. rw (has b e, f) (sym (or-false (member xs at r))))
+
+-- a round of closing
+module _ (at : ℕ) (xs : List ℕ) (fits : at + 2048 ≤ length xs) where
+  abbrev e : Relation
+  e = related xs at
+
+  -- what a turn of it makes of the row of thing i + 1, given the row `other` of thing k + 1
+  pub round-row : (k i b : ℕ) (ys other : List ℕ) → k < 128 → i < 128 → Among 128 b → Tabled at i (round e (k + 1)) xs ys
+      → ((r : ℕ) → member other 0 r ≡ (whole xs (at + 16 * k) && member xs (at + 16 * k) r))
+      → stepped ys (at + 16 * i) (k + 1) other b ≡ round e (k + 1) (i + 1) b
+  round-row k i b ys other lk li w t o =
+      rw (
+        seat-left at (round e (k + 1)) xs fits i b ys li w t,
+        seat-left at (round e (k + 1)) xs fits i (k + 1) ys li (omega arith) t,
+        o b,
+        whole-true xs (at + 16 * k) (omega arith),
+        place i,
+        place k,
+      )
+
+  pub closing-none : (n : ℕ) → Tabled at n (via e 0) xs xs
+  closing-none n = record { rows = λ l. rounds-none 128 n e; rest = λ i o. refl; none = λ l. refl }
+
+  pub closing-more : (n k : ℕ) (ys zs : List ℕ) → k < n → n ≤ 128 → length ys ≡ length xs
+      → Tabled at n (via e k) xs ys → Tabled at n (round (related ys at) (k + 1)) ys zs → Tabled at n (via e (k + 1)) xs zs
+  closing-more n k ys zs l m long t u = record {
+    rows = λ f. rounds-more 128 n e k (related ys at) (related zs at) l m (t .rows f) (u .rows (omega arith));
+    rest = λ i o. u .rest i o ∙ t .rest i o;
+    none = λ f. absurd (omega arith);
+  }

@@ -1,0 +1,56 @@
+-- Each turn puts one role into its own row.
+use Prim.Native.Nat.{ℕ, _+_, _≤_, _-_, min}
+use mathlib.Core.Path.{_≡_}
+use native.Mathlib.Omega.{arith}
+use borrow.Author.Needs.{needs}
+use denote.Ref.{now}
+use lib.ListN.{length}
+use Rattle.order.specs.Table.{related, reflexive, Tabled}
+use Rattle.order.proofs.Seats.{no-table, seats-none, seats-more, reflexive-row}
+use Rattle.order.proofs.rows.reflect.Statement.{statement}
+use Rattle.order.proofs.rows.reflect.Tie as tie
+
+abbrev Inv-loop : tie.InvT-loop
+Inv-loop s₀ at n m i₀ s i =
+    (m ≤ 128) × (i ≤ m) × (at + 2048 ≤ length s₀) × (length s ≡ length s₀) × Tabled at i (reflexive (related s₀ at)) s₀ s
+
+abbrev μ-loop : tie.MeasureT-loop
+μ-loop s₀ at n m i₀ s i = m - i
+
+loop-again : tie.Need-loop-again Inv-loop μ-loop
+loop-again c =
+    let w = c .before .before .before .before .before .loop in (
+      search needs,
+      search needs,
+      search needs,
+      search needs,
+      seats-more _ _ _ (w .inv .2) (w .i) _ (w .s) _ (search needs) (w .inv .3) (w .inv .4) (c .before .before .add .ensures)
+          (λ b v. reflexive-row _ _ (w .inv .2) (w .i) b (w .s) (search needs) v (w .inv .4)),
+    )
+
+returns-3 : tie.Need-returns-3 Inv-loop μ-loop
+returns-3 c =
+    let w = c .before .loop in
+    let q : w .i ≡ min (c .before .before .before .before .before .before .args .n) 128 = omega arith in
+    rw q at (w .inv .4)
+
+pub reflect-spec : {M : Type 1} → statement M
+reflect-spec =
+    tie.close
+    (tie.spec
+    Inv-loop
+    μ-loop
+    (λ c. no-table (search needs))
+    (λ c. search needs)
+    (λ c. no-table (search needs))
+    (λ c κs. search needs)
+    (λ c. (search needs, search needs, search needs, search needs, seats-none _ _ _ (search needs)))
+    (λ c. search needs)
+    (λ c. search needs)
+    (λ c. search needs)
+    (λ c κs. search needs)
+    (λ c. search needs)
+    (λ c. search needs)
+    loop-again
+    (λ c. search needs)
+    returns-3)

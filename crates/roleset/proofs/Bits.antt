@@ -1,0 +1,109 @@
+-- The bits of a number: of one made by `|`, `&` and `^`, of 2 ^ k and of 0; and a number below 2 ^ k is settled by its first k bits.
+-- Assumes nothing.
+use Prim.Native.Nat.{ℕ, zero, suc, _*_, _/_, _%_, _^_, _<_}
+use mathlib.Core.Path.{_≡_, refl, sym, ap, ap₂, _∙_}
+use mathlib.Core.Logic.{_↔_}
+use mathlib.Core.Bool.{Bool, true, false, not, _&&_, _||_, cond, or-true, or-false}
+use native.Mathlib.Nat.{one-mul, zero-div, div-one, mul-mod-left, mul-div-cancel, div-div-eq-div-mul, pow-suc, pow-succ'}
+use native.Mathlib.Omega.{arith}
+use lib.Dec.{eqb, eqb·zero-suc, eqb·suc-zero, eqb·suc-suc}
+use lib.Pow.{shl-exact}
+use lib.Bits.{bitAnd, bitOr, bitXor, and-shr, and-mod, and-lt, and-le-l, and-le-r, or-shr, or-mod, or-add-and, xor-shr, xor-mod}
+use borrow.Author.Tests.{eqb-true}
+use Rattle.roleset.specs.Row.{bit}
+
+-- a binary digit, from whether it is 1
+abbrev digit : Bool → ℕ
+digit b = cond b 1 0
+
+digit-of : (x : ℕ) → x % 2 ≡ digit (eqb (x % 2) 1)
+digit-of x = which (x % 2) (omega arith)
+  where
+    which : (d : ℕ) → d < 2 → d ≡ digit (eqb d 1)
+    which zero l = refl
+    which (suc zero) l = refl
+    which (suc (suc d)) l = absurd (omega arith)
+
+-- an operation that goes digit by digit does at each bit what it does to two digits
+module _ (f : ℕ → ℕ → ℕ) (g : Bool → Bool → Bool)
+    (high : (x y k : ℕ) → f x y / 2 ^ k ≡ f (x / 2 ^ k) (y / 2 ^ k))
+    (low : (x y k : ℕ) → f x y % 2 ^ k ≡ f (x % 2 ^ k) (y % 2 ^ k))
+    (one-one : eqb (f 1 1) 1 ≡ g true true) (one-zero : eqb (f 1 0) 1 ≡ g true false)
+    (zero-one : eqb (f 0 1) 1 ≡ g false true) (zero-zero : eqb (f 0 0) 1 ≡ g false false) where
+  digits : (a b : Bool) → eqb (f (digit a) (digit b)) 1 ≡ g a b
+  digits true true = one-one
+  digits true false = one-zero
+  digits false true = zero-one
+  digits false false = zero-zero
+
+  each-bit : (x y j : ℕ) → bit (f x y) j ≡ g (bit x j) (bit y j)
+  each-bit x y j =
+      ap (λ (d : ℕ). eqb (d % 2) 1) (high x y j) ∙ ap (λ (d : ℕ). eqb d 1) (low (x / 2 ^ j) (y / 2 ^ j) 1)
+      ∙ ap₂ (λ (d e : ℕ). eqb (f d e) 1) (digit-of (x / 2 ^ j)) (digit-of (y / 2 ^ j)) ∙ digits (bit x j) (bit y j)
+
+pub bit-or : (x y j : ℕ) → bit (bitOr x y) j ≡ (bit x j || bit y j)
+bit-or = each-bit bitOr _||_ or-shr or-mod refl refl refl refl
+
+pub bit-and : (x y j : ℕ) → bit (bitAnd x y) j ≡ (bit x j && bit y j)
+bit-and = each-bit bitAnd _&&_ and-shr and-mod refl refl refl refl
+
+bit-xor : (x y j : ℕ) → bit (bitXor x y) j ≡ cond (bit y j) (not (bit x j)) (bit x j)
+bit-xor = each-bit bitXor (λ a b. cond b (not a) a) xor-shr xor-mod refl refl refl refl
+
+pub bit-zero : (j : ℕ) → bit 0 j ≡ false
+bit-zero j = rw zero-div
+
+bit-first : (x : ℕ) → bit x 0 ≡ eqb (x % 2) 1
+bit-first x = rw div-one
+
+bit-next : (x j : ℕ) → bit x (suc j) ≡ bit (x / 2) j
+bit-next x j = rw (pow-succ' 2 j, ← div-div-eq-div-mul x 2 (2 ^ j))
+
+bit-pow : (k j : ℕ) → bit (2 ^ k) j ≡ eqb j k
+bit-pow zero zero = refl
+bit-pow zero (suc j) = bit-next 1 j ∙ bit-zero j ∙ sym (eqb·suc-zero j)
+bit-pow (suc k) zero = bit-first (2 ^ suc k) ∙ rw (pow-suc 2 k, mul-mod-left (2 ^ k) 2) (sym (eqb·zero-suc k))
+bit-pow (suc k) (suc j) =
+    bit-next (2 ^ suc k) j ∙ rw (pow-suc 2 k, mul-div-cancel (2 ^ k) {n = 2} (omega arith)) (bit-pow k j) ∙ sym (eqb·suc-suc j k)
+
+pub same-bits : (k x y : ℕ) → x < 2 ^ k → y < 2 ^ k → ((j : ℕ) → j < k → bit x j ≡ bit y j) → x ≡ y
+same-bits zero x y l m h = omega arith
+same-bits (suc k) x y l m h =
+    let next : (j : ℕ) → j < k → bit (x / 2) j ≡ bit (y / 2) j = λ j i. sym (bit-next x j) ∙ h (suc j) (omega arith) ∙ bit-next y j in
+    let rest : x / 2 ≡ y / 2 = same-bits k (x / 2) (y / 2) (omega arith) (omega arith) next in
+    let last : x % 2 ≡ y % 2 = digit-of x ∙ ap digit (sym (bit-first x) ∙ h 0 (omega arith) ∙ bit-first y) ∙ sym (digit-of y) in
+    omega arith
+
+-- `1 << k` at a byte
+bit-shifted : (k : ℕ) → k < 8 → (j : ℕ) → bit (1 * 2 ^ k % 256) j ≡ eqb j k
+bit-shifted k l j = ap (λ (x : ℕ). bit x j) (shl-exact {a = 1} 1 k 8 (omega arith) (omega arith) ∙ one-mul (2 ^ k)) ∙ bit-pow k j
+
+-- setting bit k, and flipping it where it is set
+module _ (x k : ℕ) (l : k < 8) where
+  pub bit-on : (j : ℕ) → bit (bitOr x (1 * 2 ^ k % 256)) j ≡ cond (eqb j k) true (bit x j)
+  bit-on j = bit-or x (1 * 2 ^ k % 256) j ∙ rw (bit-shifted k l j) (on (bit x j) (eqb j k))
+    where
+      on : (a b : Bool) → (a || b) ≡ cond b true a
+      on a true = or-true a
+      on a false = or-false a
+
+  pub bit-off : bit x k ≡ true → (j : ℕ) → bit (bitXor x (1 * 2 ^ k % 256)) j ≡ cond (eqb j k) false (bit x j)
+  bit-off h j = bit-xor x (1 * 2 ^ k % 256) j ∙ rw (bit-shifted k l j) (off (eqb j k) refl)
+    where
+      off : (b : Bool) → eqb j k ≡ b → cond b (not (bit x j)) (bit x j) ≡ cond b false (bit x j)
+      off true e = ap not (ap (bit x) (eqb-true j k e) ∙ h)
+      off false e = refl
+
+-- two bytes share no bit where their `&` is 0, and two numbers are 0 where their `|` is
+pub and-none : (x y : ℕ) → x < 256 → y < 256 → (bitAnd x y ≡ 0) ↔ ((j : ℕ) → j < 8 → (bit x j && bit y j) ≡ false)
+and-none x y l m = (
+  λ e j i. sym (bit-and x y j) ∙ ap (λ (z : ℕ). bit z j) e ∙ bit-zero j,
+  λ h. same-bits 8 (bitAnd x y) 0 (and-lt 8 x y l m) (omega arith) (λ j i. bit-and x y j ∙ h j i ∙ sym (bit-zero j)),
+)
+
+pub or-none : (x y : ℕ) → (bitOr x y ≡ 0) ↔ ((x ≡ 0) × (y ≡ 0))
+or-none x y =
+    let sum = or-add-and x y in
+    let left = and-le-l x y in
+    let right = and-le-r x y in
+    (λ e. omega arith, λ e. omega arith)

@@ -1,0 +1,158 @@
+-- Rows as sets: what a row holds after its bytes are changed, and that `Placed` settles every byte and leaves the other rows alone.
+-- Assumes nothing.
+use Prim.Native.Nat.{ℕ, _+_, _-_, _*_, _/_, _%_, _≤_, _<_}
+use mathlib.Core.Path.{_≡_, refl, sym, ap, _∙_}
+use mathlib.Core.Logic.{_⊎_, inl, inr, ⊎-elim}
+use mathlib.Core.Bool.{Bool, true, false, _&&_, cond, and-false}
+use mathlib.Core.List.{List}
+use native.Mathlib.Omega.{arith}
+use native.Mathlib.Decide.{decLe, decLt, ℕ-discrete}
+use lib.Dec.{eqb}
+use lib.ListN.{length, getD, set, length-set}
+use lib.Seq.{getD-set-same, getD-set-other, ext-getD}
+use borrow.Author.Count.{below-more}
+use borrow.Author.Tests.{le-leb, eq-eqb, ne-eqb}
+use Rattle.search.specs.Search.{among, Among}
+use Rattle.search.proofs.Truth.{and-iff, and-when, among-iff, both}
+use Rattle.roleset.specs.Row.{bit, whole, member, Outside, Placed}
+use Rattle.roleset.proofs.Bits.{bit-zero, same-bits}
+
+pub whole-true : (xs : List ℕ) (at : ℕ) → at + 16 ≤ length xs → whole xs at ≡ true
+whole-true xs at = le-leb (at + 16) (length xs)
+
+-- where role r stands in a row
+abbrev byteOf : ℕ → ℕ
+byteOf r = (r - 1) / 8
+
+abbrev bitOf : ℕ → ℕ
+bitOf r = (r - 1) % 8
+
+module _ (xs : List ℕ) (at : ℕ) where
+  pub member-role : (r : ℕ) → member xs at r ≡ true → Among 128 r
+  unfolding member
+  member-role r e = among-iff 128 r .0 (and-iff (among 128 r) _ .0 e .0)
+
+  -- a row whose bytes are known
+  pub member-of : (f : ℕ → ℕ) → ((k : ℕ) → k < 16 → getD xs (at + k) 0 ≡ f k)
+      → (r : ℕ) → member xs at r ≡ (among 128 r && bit (f (byteOf r)) (bitOf r))
+  unfolding member
+  member-of f h r =
+      and-when (among 128 r) (λ e. let w = among-iff 128 r .0 e in ap (λ (x : ℕ). bit x (bitOf r)) (h (byteOf r) (omega arith)))
+
+  -- the other way round: a row's bits are its members
+  pub bit-member : (k j : ℕ) → k < 16 → j < 8 → bit (getD xs (at + k) 0) j ≡ member xs at (8 * k + j + 1)
+  unfolding member
+  bit-member k j l m =
+      let byte : byteOf (8 * k + j + 1) ≡ k = omega arith in
+      let place : bitOf (8 * k + j + 1) ≡ j = omega arith in
+      rw (among-iff 128 (8 * k + j + 1) .1 (omega arith), byte, place)
+
+-- two rows of the same bytes hold the same roles
+pub same-bytes : (xs ys : List ℕ) (a b : ℕ) → ((k : ℕ) → k < 16 → getD ys (b + k) 0 ≡ getD xs (a + k) 0)
+    → (r : ℕ) → member ys b r ≡ member xs a r
+unfolding member
+same-bytes xs ys a b = member-of ys b (λ k. getD xs (a + k) 0)
+
+-- a byte is one of the row's 16 or outside it
+inside-or : (at i : ℕ) → ((k : ℕ) × (k < 16) × (i ≡ at + k)) ⊎ Outside at i
+inside-or at i = elim (decLe at i) [
+  | yes l ↦ elim (decLt i (at + 16)) [ yes m ↦ inl (i - at, omega arith, omega arith) | no m ↦ inr (λ n. omega arith) ]
+  | no l ↦ inr (λ n. omega arith)
+]
+
+pub other-row : (at b : ℕ) (s : ℕ → Bool) (xs ys : List ℕ) → Placed at s xs ys → (b + 16 ≤ at) ⊎ (at + 16 ≤ b)
+    → (r : ℕ) → member ys b r ≡ member xs b r
+other-row at b s xs ys p apart =
+    same-bytes xs ys b b (λ k l. p .rest (b + k) (λ m. ⊎-elim (λ n. omega arith) (λ n. omega arith) apart))
+
+-- no two lists of bytes are `Placed` alike
+module _ (at : ℕ) (s : ℕ → Bool) (xs ys zs : List ℕ) (p : Placed at s xs ys) (q : Placed at s xs zs)
+    (ys-long : length ys ≡ length xs) (zs-long : length zs ≡ length xs)
+    (ys-bytes : (i : ℕ) → getD ys i 0 < 256) (zs-bytes : (i : ℕ) → getD zs i 0 < 256) where
+  row-byte : at + 16 ≤ length xs → (k : ℕ) → k < 16 → getD ys (at + k) 0 ≡ getD zs (at + k) 0
+  row-byte fits k l =
+      same-bits 8 _ _ (ys-bytes (at + k)) (zs-bytes (at + k))
+      (λ j m. bit-member ys at k j l m ∙ p .row fits _ ∙ sym (q .row fits _) ∙ sym (bit-member zs at k j l m))
+
+  other-byte : (i : ℕ) → Outside at i → getD ys i 0 ≡ getD zs i 0
+  other-byte i o = p .rest i o ∙ sym (q .rest i o)
+
+  pub placed-once : ys ≡ zs
+  placed-once = elim (decLe (at + 16) (length xs)) [
+    | yes fits ↦
+        ext-getD 0 ys zs (ys-long ∙ sym zs-long)
+        (λ i l. ⊎-elim (λ (k, m, e). rw e (row-byte fits k m)) (other-byte i) (inside-or at i))
+    | no l ↦ p .none (omega arith) ∙ sym (q .none (omega arith))
+  ]
+
+-- nothing is written
+pub unwritten : {at : ℕ} {s : ℕ → Bool} {xs : List ℕ} → (at + 16 ≤ length xs → (r : ℕ) → member xs at r ≡ s r) → Placed at s xs xs
+unwritten h = record { row = h; rest = λ i o. refl; none = λ l. refl }
+
+pub no-row : {at : ℕ} {s : ℕ → Bool} {xs : List ℕ} → whole xs at ≡ false → Placed at s xs xs
+no-row {at} {xs = xs} e = unwritten (λ l. absurd (both (whole-true xs at l) e))
+
+-- the same set by another name
+pub placed-as : {at : ℕ} {s t : ℕ → Bool} {xs ys : List ℕ} → ((r : ℕ) → s r ≡ t r) → Placed at s xs ys → Placed at t xs ys
+placed-as e p = record { row = λ l r. p .row l r ∙ e r; rest = p .rest; none = p .none }
+
+-- a row whose bytes are 0 is empty
+pub no-bits : (r : ℕ) → (among 128 r && bit 0 (bitOf r)) ≡ false
+no-bits r = rw (bit-zero (bitOf r)) (and-false (among 128 r))
+
+-- one byte is written, in which the bit of one role becomes b
+module _ (xs : List ℕ) (at role byte : ℕ) (b : Bool) (fits : at + 16 ≤ length xs) (w : Among 128 role)
+    (new : (j : ℕ) → bit byte j ≡ cond (eqb j (bitOf role)) b (bit (getD xs (at + byteOf role) 0) j)) where
+  here : member (set xs (at + byteOf role) byte) at role ≡ b
+  unfolding member
+  here =
+      rw (among-iff 128 role .1 w, getD-set-same xs (at + byteOf role) byte 0 (omega arith))
+      (new (bitOf role) ∙ rw (eq-eqb (bitOf role) (bitOf role) refl))
+
+  there : (r : ℕ) → (r ≡ role → ⊥) → member (set xs (at + byteOf role) byte) at r ≡ member xs at r
+  unfolding member
+  there r other = and-when (among 128 r) (λ e. let v = among-iff 128 r .0 e in elim (ℕ-discrete (byteOf r) (byteOf role)) [
+    | yes i ↦
+        rw (i, getD-set-same xs (at + byteOf role) byte 0 (omega arith))
+        (new (bitOf r) ∙ rw (ne-eqb (bitOf r) (bitOf role) (λ j. other (omega arith))))
+    | no i ↦ rw (getD-set-other xs (at + byteOf role) (at + byteOf r) byte 0 (λ j. i (omega arith)))
+  ])
+
+  pub one-written : {s : ℕ → Bool} → b ≡ s role → ((r : ℕ) → (r ≡ role → ⊥) → member xs at r ≡ s r)
+      → Placed at s xs (set xs (at + byteOf role) byte)
+  one-written e h = record {
+    row = λ l r. elim (ℕ-discrete r role) [ yes i ↦ rw i (here ∙ e) | no i ↦ there r i ∙ h r i ];
+    rest = λ i o. getD-set-other xs (at + byteOf role) i byte 0 (λ j. omega (arith, o (omega arith)));
+    none = λ l. absurd (omega arith);
+  }
+
+-- the bytes are written one by one: i of them are done, and are now f's
+pub record Written (at i : ℕ) (f : ℕ → ℕ) (xs ys : List ℕ) : Type 0 where
+  pub upto : i ≤ 16
+  pub long : length ys ≡ length xs
+  pub done : (k : ℕ) → k < i → getD ys (at + k) 0 ≡ f k
+  pub rest : (k : ℕ) → (at ≤ k → at + i ≤ k) → getD ys k 0 ≡ getD xs k 0
+
+module _ {at : ℕ} {f : ℕ → ℕ} {xs : List ℕ} where
+  pub write-none : Written at 0 f xs xs
+  write-none = record { upto = omega arith; long = refl; done = λ k l. absurd (omega arith); rest = λ k o. refl }
+
+  pub write-more : {i byte : ℕ} {ys : List ℕ} → Written at i f xs ys → i < 16 → at + 16 ≤ length xs → byte ≡ f i
+      → Written at (i + 1) f xs (set ys (at + i) byte)
+  write-more {i} {byte} {ys} w l fits e = record {
+    upto = omega arith;
+    long = length-set ys (at + i) byte ∙ w .long;
+    done =
+        below-more _ i
+        (λ k m. getD-set-other ys (at + i) (at + k) byte 0 (λ j. omega arith) ∙ w .done k m)
+        (getD-set-same ys (at + i) byte 0 (omega arith) ∙ e);
+    rest = λ k o. getD-set-other ys (at + i) k byte 0 (λ j. omega (arith, o (omega arith))) ∙ w .rest k (λ m. omega (arith, o m));
+  }
+
+  pub write-all : {s : ℕ → Bool} {i : ℕ} {ys : List ℕ} → Written at i f xs ys → 16 ≤ i → at + 16 ≤ length xs
+      → ((r : ℕ) → (among 128 r && bit (f (byteOf r)) (bitOf r)) ≡ s r) → Placed at s xs ys
+  write-all {s} {i} {ys} w l fits h = record {
+    row = λ m r. member-of ys at f (λ k n. w .done k (omega arith)) r ∙ h r;
+    rest = λ k o. w .rest k (λ m. omega (arith, o m));
+    none = λ m. absurd (omega arith);
+  }

@@ -1,0 +1,49 @@
+-- Sets of roles 1 to 128, each a row of 16 bytes of a list: role r is bit (r - 1) % 8 of the row's byte (r - 1) / 8.
+--     whole xs at           the row at `at` lies wholly in xs
+--     member xs at r        the row of xs at `at` holds role r
+--     common xs a b         the rows at a and at b have a role in common
+--     Placed at s xs ys     ys is xs with the set s in the row at `at`, and nothing else changed
+-- Assumes nothing.
+use Prim.Native.Nat.{ℕ, _+_, _-_, _/_, _%_, _^_, _≤_, _<_}
+use mathlib.Core.Path.{_≡_}
+use mathlib.Core.Bool.{Bool, not, _&&_, _||_}
+use mathlib.Core.List.{List}
+use lib.Dec.{leb, eqb}
+use lib.ListN.{length, getD}
+use Rattle.search.specs.Search.{among, some}
+
+-- bit j of x
+abbrev pub bit : ℕ → ℕ → Bool
+bit x j = eqb (x / 2 ^ j % 2) 1
+
+abbrev pub whole : List ℕ → ℕ → Bool
+whole xs at = leb (at + 16) (length xs)
+
+unfoldable pub member : List ℕ → ℕ → ℕ → Bool
+member xs at r = among 128 r && bit (getD xs (at + (r - 1) / 8) 0) ((r - 1) % 8)
+
+unfoldable pub common : List ℕ → ℕ → ℕ → Bool
+common xs a b = whole xs a && whole xs b && some 128 (λ r. member xs a r && member xs b r)
+
+-- the set in the row at `at`, with and without a role, and with another's roles; a number that is no role's changes nothing
+abbrev pub added : List ℕ → ℕ → ℕ → ℕ → Bool
+added xs at role r = member xs at r || (among 128 role && eqb r role)
+
+abbrev pub removed : List ℕ → ℕ → ℕ → ℕ → Bool
+removed xs at role r = member xs at r && not (eqb r role)
+
+abbrev pub united : List ℕ → ℕ → List ℕ → ℕ → Bool
+united xs at other r = member xs at r || member other 0 r
+
+abbrev pub joined : List ℕ → ℕ → ℕ → ℕ → Bool
+joined xs into from r = member xs into r || (whole xs from && member xs from r)
+
+-- byte i is none of the row at `at`
+abbrev pub Outside : ℕ → ℕ → Type 0
+Outside at i = at ≤ i → at + 16 ≤ i
+
+-- a row that does not lie wholly in xs is left alone
+pub record Placed (at : ℕ) (s : ℕ → Bool) (xs ys : List ℕ) : Type 0 where
+  pub row : at + 16 ≤ length xs → (r : ℕ) → member ys at r ≡ s r
+  pub rest : (i : ℕ) → Outside at i → getD ys i 0 ≡ getD xs i 0
+  pub none : length xs < at + 16 → ys ≡ xs

@@ -1,0 +1,94 @@
+// Sets of roles 1 to 128 as rows of 16 bytes, each at an offset of a byte slice.
+//
+// Every public function takes any slice, offset and role. A row that does not lie wholly in the
+// slice is empty and stays so, and a number that is no role's is in no row.
+mod inner;
+
+ghost use mathlib.Core.Path.{_≡_};
+ghost use mathlib.Core.Bool.{false, _&&_};
+ghost use Prim.Native.Nat.{ℕ};
+ghost use Rattle.roleset.specs.Row.{whole, member, common, Placed, added, removed, united, joined};
+
+// Whether the row at `at` holds the role.
+pub fn has(s: &[u8], at: usize, role: usize) -> bool
+    ensures { λ r. ⌜ r ≡ (whole (now (s .entry)) at && member (now (s .entry)) at role) ⌝ }
+{
+    if !inner::lies(s.len(), at) {
+        return false;
+    }
+    if !inner::is_role(role) {
+        return false;
+    }
+    inner::has(s, at, role)
+}
+
+// Puts the role into the row at `at`.
+pub fn add(s: &mut [u8], at: usize, role: usize)
+    ensures { λ _. ⌜ Placed at (added (now (s .entry)) at role) (now (s .entry)) (now (s .exit)) ⌝ }
+{
+    if !inner::lies(s.len(), at) {
+        return;
+    }
+    if !inner::is_role(role) {
+        return;
+    }
+    inner::add(s, at, role);
+}
+
+// Takes the role out of the row at `at`.
+pub fn remove(s: &mut [u8], at: usize, role: usize)
+    ensures { λ _. ⌜ Placed at (removed (now (s .entry)) at role) (now (s .entry)) (now (s .exit)) ⌝ }
+{
+    if has(s, at, role) {
+        inner::remove(s, at, role);
+    }
+}
+
+// Empties the row at `at`.
+pub fn clear(s: &mut [u8], at: usize)
+    ensures { λ _. ⌜ Placed at (λ r. false) (now (s .entry)) (now (s .exit)) ⌝ }
+{
+    if inner::lies(s.len(), at) {
+        inner::clear(s, at);
+    }
+}
+
+// The row at `at`, by value.
+pub fn row(s: &[u8], at: usize) -> [u8; 16]
+    ensures { λ row. ⌜ ((r : ℕ) → member row 0 r ≡ (whole (now (s .entry)) at && member (now (s .entry)) at r)) ⌝ }
+{
+    if !inner::lies(s.len(), at) {
+        return [0u8; 16];
+    }
+    inner::row(s, at)
+}
+
+// Puts the roles of a row that was taken by value into the row at `at`.
+pub fn unite(s: &mut [u8], at: usize, other: [u8; 16])
+    ensures { λ _. ⌜ Placed at (united (now (s .entry)) at other) (now (s .entry)) (now (s .exit)) ⌝ }
+{
+    if inner::lies(s.len(), at) {
+        inner::unite(s, at, other);
+    }
+}
+
+// Puts the roles of the row at `from` into the row at `into`. The two may overlap.
+pub fn join(s: &mut [u8], into: usize, from: usize)
+    ensures { λ _. ⌜ Placed into (joined (now (s .entry)) into from) (now (s .entry)) (now (s .exit)) ⌝ }
+{
+    let other = row(s, from);
+    unite(s, into, other);
+}
+
+// Whether the rows at `a` and at `b` have a role in common.
+pub fn meet(s: &[u8], a: usize, b: usize) -> bool
+    ensures { λ r. ⌜ r ≡ common (now (s .entry)) a b ⌝ }
+{
+    if !inner::lies(s.len(), a) {
+        return false;
+    }
+    if !inner::lies(s.len(), b) {
+        return false;
+    }
+    inner::meet(s, a, b)
+}
