@@ -1,0 +1,114 @@
+-- What an accepted file is, as properties: `Accepted`. `Outcome f v` says what each verdict v on the file f means, place included; each file has
+-- just one outcome, its verdict (`Outcomes` under proofs/). Assumes nothing.
+use Prim.Native.Nat.{ℕ, _-_, _≤_, _<_}
+use mathlib.Core.Path.{_≡_}
+use mathlib.Core.Logic.{_⊎_}
+use mathlib.Core.List.{List}
+use mathlib.Core.Bool.{Bool, true}
+use Rattle.search.specs.Search.{Among}
+use Rattle.order.specs.Closure.{Relation, OnCircle, PartialOrder, Irreflexive}
+use Rattle.order.specs.Bound.{turned, IsLub, AllJoined, FirstPair}
+use Rattle.rolefile.specs.declared.Verdict.{Verdict}
+use Rattle.rolefile.specs.Line.{H, U, O, A, lineAt, lines}
+use Rattle.rolefile.specs.Form.{header, fine, refusal}
+use Rattle.rolefile.specs.Said.{labels, roles, users, cards, over, above, clearance}
+use Rattle.rolefile.specs.WellFormed.{Sized, GoodCounts, GoodNumbers, Rises, GoodLine, One, WellFormed}
+use Rattle.policy.specs.Policy.{dominates, senior, mayAt}
+
+-- ---- levels, 003 Definitions 6 and 7
+
+-- s is not empty
+abbrev pub Some : ℕ → (ℕ → Bool) → Type 0
+Some n s = (l : ℕ) × Among n l × (s l ≡ true)
+
+-- s is not empty and has no least upper bound: an undefined level
+abbrev pub Boundless : ℕ → Relation → (ℕ → Bool) → Type 0
+Boundless n ge s = Some n s × ((c : ℕ) → IsLub n ge s c → ⊥)
+
+-- s is empty, a free level, or its least upper bound has p
+abbrev pub Passing : ℕ → Relation → (ℕ → Bool) → (ℕ → Bool) → Type 0
+Passing n ge s p = (Some n s → ⊥) ⊎ ((c : ℕ) × Some n s × IsLub n ge s c × (p c ≡ true))
+
+-- "the clearance must dominate the r-level": a bound of the labels read
+abbrev pub ReadsUnder : List ℕ → ℕ → ℕ → Type 0
+ReadsUnder f u r = Passing (labels f) (dominates f) (mayAt f 1 r) (λ c. dominates f (clearance f u) c)
+
+-- "the w-level must dominate the clearance": a bound of the labels written, in the order turned round
+abbrev pub WritesOver : List ℕ → ℕ → ℕ → Type 0
+WritesOver f u r = Passing (labels f) (turned (dominates f)) (mayAt f 2 r) (λ c. dominates f c (clearance f u))
+
+abbrev pub NoWriteLevel : List ℕ → ℕ → Type 0
+NoWriteLevel f r = Boundless (labels f) (turned (dominates f)) (mayAt f 2 r)
+
+-- 003, Theorem 3, for an A line
+pub record Assigned (f : List ℕ) (u r : ℕ) : Type 0 where
+  pub reads : ReadsUnder f u r
+  pub writes : WritesOver f u r
+
+-- ---- an accepted file
+
+-- "Both must be partial orders", and no thing is said to be over itself
+pub record GoodOrder (n : ℕ) (e ge : Relation) : Type 0 where
+  pub order : PartialOrder n ge
+  pub strict : Irreflexive n e
+
+abbrev pub LabelOrder : List ℕ → Type 0
+LabelOrder f = GoodOrder (labels f) (over f) (dominates f)
+
+-- each A line up to line k is as Theorem 3 asks
+abbrev pub AssignedTo : List ℕ → ℕ → Type 0
+AssignedTo f k = (i : ℕ) → Among k i → lineAt f i .letter ≡ A → Assigned f (lineAt f i .a) (lineAt f i .b)
+
+-- what holds when the assignments are looked at
+pub record Ordered (f : List ℕ) : Type 0 where
+  pub form : WellFormed f
+  pub dominance : LabelOrder f
+  pub joins : AllJoined (labels f) (dominates f)
+
+pub record Accepted (f : List ℕ) : Type 0 where
+  pub ordered : Ordered f
+  pub seniority : GoodOrder (roles f) (above f) (senior f)
+  pub assignments : AssignedTo f (lines f)
+
+-- ---- the outcomes
+
+-- line k is the first that is not good, and why
+pub data LineRefused (f : List ℕ) (k : ℕ) : ℕ → Type 0 where
+  noHeader : k ≡ 1 → (lineAt f k .letter ≡ H → ⊥) → LineRefused f k 2
+  badCounts : k ≡ 1 → lineAt f k .letter ≡ H → (GoodCounts (lineAt f k) → ⊥) → LineRefused f k 3
+  malformed : (k ≡ 1 → ⊥) → lineAt f k .letter ≤ H → LineRefused f k 2
+  badNumbers : (k ≡ 1 → ⊥) → H < lineAt f k .letter → (GoodNumbers (header f) (lineAt f k) → ⊥) → LineRefused f k 4
+  unordered : (k ≡ 1 → ⊥) → H < lineAt f k .letter → GoodNumbers (header f) (lineAt f k)
+      → (Rises (lineAt f (k - 1)) (lineAt f k) → ⊥) → LineRefused f k 5
+
+-- the lowest thing of n that has not one line of the letter k
+pub record LowestUnlabelled (f : List ℕ) (k n x : ℕ) : Type 0 where
+  pub inside : Among n x
+  pub bad : One f k x → ⊥
+  pub lower : (y : ℕ) → Among n y → y < x → One f k y
+
+-- the lowest thing on a circle
+pub record LowestOnCircle (n : ℕ) (e : Relation) (a : ℕ) : Type 0 where
+  pub inside : Among n a
+  pub circle : OnCircle n e a
+  pub lower : (b : ℕ) → Among n b → b < a → OnCircle n e b → ⊥
+
+-- why the assignment of u to r is refused
+pub data AssignRefused (f : List ℕ) (u r : ℕ) : ℕ → Type 0 where
+  noLevel : NoWriteLevel f r → AssignRefused f u r 14
+  readsMore : (NoWriteLevel f r → ⊥) → (ReadsUnder f u r → ⊥) → AssignRefused f u r 15
+  writesLess : (NoWriteLevel f r → ⊥) → ReadsUnder f u r → (WritesOver f u r → ⊥) → AssignRefused f u r 16
+
+pub data Outcome (f : List ℕ) : Verdict → Type 0 where
+  accepted : Accepted f → Outcome f fine
+  badSize : (Sized f → ⊥) → Outcome f (refusal 1 0 0)
+  badLine : {n k : ℕ} → Sized f → Among (lines f) k → ((j : ℕ) → Among (lines f) j → j < k → GoodLine f j) → LineRefused f k n → Outcome f (refusal n k 0)
+  badUser : {u : ℕ} → Sized f → ((k : ℕ) → Among (lines f) k → GoodLine f k) → LowestUnlabelled f U (users f) u → Outcome f (refusal 6 1 u)
+  badCard : {o : ℕ} → Sized f → ((k : ℕ) → Among (lines f) k → GoodLine f k) → ((u : ℕ) → Among (users f) u → One f U u)
+      → LowestUnlabelled f O (cards f) o → Outcome f (refusal 6 2 o)
+  labelCircle : {a : ℕ} → WellFormed f → LowestOnCircle (labels f) (over f) a → Outcome f (refusal 11 a 0)
+  noBound : {a b : ℕ} → WellFormed f → LabelOrder f → FirstPair (labels f) (dominates f) a b → Outcome f (refusal 12 a b)
+  roleCircle : {r : ℕ} → Ordered f → LowestOnCircle (roles f) (above f) r → Outcome f (refusal 13 r 0)
+  badAssignment : {n i : ℕ} → Ordered f → GoodOrder (roles f) (above f) (senior f) → Among (lines f) i → lineAt f i .letter ≡ A
+      → ((j : ℕ) → Among (lines f) j → j < i → lineAt f j .letter ≡ A → Assigned f (lineAt f j .a) (lineAt f j .b))
+      → AssignRefused f (lineAt f i .a) (lineAt f i .b) n → Outcome f (refusal n (lineAt f i .a) (lineAt f i .b))

@@ -1,0 +1,4 @@
+pub mod Policy
+pub mod Verdict
+pub mod Flow
+pub mod Accepted

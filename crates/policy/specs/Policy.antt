@@ -1,0 +1,60 @@
+-- "Orders and levels": dominance, seniority, inherited permissions, and the levels of a role. Assumes nothing.
+use Prim.Native.Nat.{ℕ, zero, suc}
+use mathlib.Core.List.{List}
+use mathlib.Core.Bool.{Bool, true, false, _&&_, cond}
+use lib.Dec.{eqb}
+use Rattle.search.specs.Search.{some}
+use Rattle.order.specs.Closure.{Relation, closure}
+use Rattle.order.specs.Bound.{lub, turned}
+use Rattle.rolefile.specs.Said.{labels, roles, cards, over, above, permits, cardLabel}
+use Rattle.policy.specs.declared.Level.{Level}
+use Rattle.policy.specs.declared.Level.the-variants.{Free, Label, Undefined}
+
+-- "Dominance is the reflexive, transitive closure of the D lines, and seniority that of the S lines"
+unfoldable pub dominates : List ℕ → Relation
+dominates f = closure (labels f) (over f)
+
+unfoldable pub senior : List ℕ → Relation
+senior f = closure (roles f) (above f)
+
+-- "A role has the permissions of its own P lines and of all its juniors": r may read (m = 1) or write (m = 2) card o
+unfoldable pub may : List ℕ → ℕ → Relation
+may f m r o = some (roles f) (λ q. senior f r q && permits f m q o)
+
+-- r may read, or write, a card of label l
+unfoldable pub mayAt : List ℕ → ℕ → Relation
+mayAt f m r l = some (cards f) (λ o. may f m r o && eqb (cardLabel f o) l)
+
+-- the level at a bound, where 0 is no bound: "where no such bound exists it is undefined"
+abbrev pub levelAt : ℕ → Level
+levelAt zero = Undefined
+levelAt (suc a) = Label (suc a)
+
+-- the least upper bound of the labels of s; "with no read it is free, no limit"
+unfoldable pub level : ℕ → Relation → (ℕ → Bool) → Level
+level n ge s = cond (some n s) (levelAt (lub n ge s)) Free
+
+-- "Its r-level is the least upper bound of the labels it may read"
+unfoldable pub rLevel : List ℕ → ℕ → Level
+rLevel f r = level (labels f) (dominates f) (mayAt f 1 r)
+
+-- "Its w-level is the greatest lower bound of the labels it may write": the least upper bound in the order turned round
+unfoldable pub wLevel : List ℕ → ℕ → Level
+wLevel f r = level (labels f) (turned (dominates f)) (mayAt f 2 r)
+
+-- "A free level always passes; an undefined one never"
+abbrev pub passes : (ℕ → Bool) → Level → Bool
+passes p Free = true
+passes p (Label a) = p a
+passes p Undefined = false
+
+abbrev pub isDefined : Level → Bool
+isDefined Free = true
+isDefined (Label a) = true
+isDefined Undefined = false
+
+-- how a level is printed and kept: "0 free, 99 undefined"
+abbrev pub shown : Level → ℕ
+shown Free = 0
+shown (Label a) = a
+shown Undefined = 99

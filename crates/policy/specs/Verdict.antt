@@ -1,0 +1,38 @@
+-- "The security officer, by what the file says": the numbers 11 to 16, and the verdict on a whole file. Assumes nothing.
+use Prim.Native.Nat.{ℕ}
+use mathlib.Core.List.{List}
+use mathlib.Core.Bool.{Bool, cond}
+use lib.Dec.{eqb}
+use Rattle.order.specs.Closure.{circle}
+use Rattle.order.specs.Bound.{unjoined, lonely}
+use Rattle.rolefile.specs.declared.Line.{Line}
+use Rattle.rolefile.specs.declared.Verdict.{Verdict}
+use Rattle.rolefile.specs.Line.{A, lineAt, lines}
+use Rattle.rolefile.specs.Form.{fine, refusal, unless, _then_, scan, found, formVerdict}
+use Rattle.rolefile.specs.Said.{labels, roles, over, above, clearance}
+use Rattle.policy.specs.Policy.{dominates, rLevel, wLevel, passes, isDefined}
+
+-- 14 to 16: "the w-level must not be undefined, the clearance must dominate the r-level, and the w-level must dominate the clearance"
+unfoldable pub assignVerdict : List ℕ → ℕ → ℕ → Verdict
+assignVerdict f u r =
+    unless (isDefined (wLevel f r)) (refusal 14 u r)
+    (unless (passes (λ l. dominates f (clearance f u) l) (rLevel f r)) (refusal 15 u r)
+    (unless (passes (λ l. dominates f l (clearance f u)) (wLevel f r)) (refusal 16 u r) fine))
+
+-- of line i, where it is an assignment
+unfoldable pub assignmentVerdict : List ℕ → ℕ → Verdict
+assignmentVerdict f i = cond (eqb (lineAt f i .letter) A) (assignVerdict f (lineAt f i .a) (lineAt f i .b)) fine
+
+-- "11, 12, 13, then assignments in file order, 14 to 16 within each"
+unfoldable pub policyVerdict : List ℕ → Verdict
+policyVerdict f =
+    let a = circle (labels f) (over f) in
+    let b = unjoined (labels f) (dominates f) in
+    let r = circle (roles f) (above f) in
+    found a (refusal 11 a 0)
+    then (found b (refusal 12 b (lonely (labels f) (dominates f) b))
+    then (found r (refusal 13 r 0)
+    then scan (lines f) (assignmentVerdict f)))
+
+unfoldable pub verdict : List ℕ → Verdict
+verdict f = formVerdict f then policyVerdict f

@@ -1,0 +1,92 @@
+-- Reading a line field by field: a field that does not read as asked ends it, and where none does the line is what the fields say.
+-- Assumes nothing.
+use Prim.Native.Nat.{ℕ, _+_, _*_, _-_, _/_, _≤_, _<_}
+use mathlib.Core.Path.{_≡_, refl, sym, ap, _∙_}
+use mathlib.Core.Logic.{⊎-elim}
+use mathlib.Core.List.{List, [], _∷_}
+use mathlib.Core.Bool.{Bool, true, false, _&&_, cond}
+use native.Mathlib.Omega.{arith}
+use lib.Dec.{leb, eqb}
+use lib.ListN.{length, getD, List·getD-eq-default}
+use borrow.Author.Tests.{eq-eqb, ne-eqb, le-leb, lt-leb}
+use denote.Enum.Declared
+use types.Run
+use Rattle.rolefile.specs.declared.Field.{Field}
+use Rattle.rolefile.specs.declared.Field.the-variants.{Blank, Number, Bad}
+use Rattle.rolefile.specs.declared.Line.{Line}
+use Rattle.rolefile.specs.Field.{fieldAt}
+use Rattle.rolefile.specs.Line.{letterOf, fields, fits, value, taken, formed, noLine, lineOf, lineFrom, start, lineAt}
+use Rattle.rolefile.proofs.Field as field-type
+
+-- the field was not taken out: the match saw no number
+pub ended : (x : Field) (used : Bool) (f : Field) → x ≡ taken used f
+    → Run.OneOf (0 ∷ 2 ∷ []) (Declared.tagOf field-type.the-type x) → fits used f ≡ false
+unfolding taken
+ended x used f e seen = go (fits used f) refl
+  where
+    go : (b : Bool) → fits used f ≡ b → b ≡ false
+    go true q =
+        let n : x ≡ Number (value f) = e ∙ rw q in
+        absurd (⊎-elim (λ t. omega arith) (λ t. omega arith) (rw n at seen))
+    go false q = refl
+
+-- the field was taken out as n
+pub got : (x : Field) (used : Bool) (f : Field) (n : ℕ) → x ≡ taken used f → x ≡ Number n → (fits used f ≡ true) × (value f ≡ n)
+unfolding taken
+got x used f n taking seen = go (fits used f) refl
+  where
+    e : Number n ≡ taken used f
+    e = sym seen ∙ taking
+
+    go : (b : Bool) → fits used f ≡ b → (b ≡ true) × (value f ≡ n)
+    go true q = let m : Number n ≡ Number (value f) = e ∙ rw q in (refl, cc)
+    go false q = let m : Number n ≡ Bad = e ∙ rw q in let z : _≡_ {A = ℕ} 0 1 = cc in absurd (omega arith)
+
+and-right : (a : Bool) {b : Bool} → b ≡ false → (a && b) ≡ false
+and-right true e = e
+and-right false e = refl
+
+module _ (k end : ℕ) (p q r s : Field) where
+  none : formed k end p q r s ≡ false → noLine ≡ lineOf k end p q r s
+  unfolding lineOf
+  none e = rw e
+
+  pub no-first : fits true p ≡ false → noLine ≡ lineOf k end p q r s
+  unfolding formed
+  no-first e = none (and-right (leb 1 k) (and-right (eqb end 10) (rw e)))
+
+  pub no-second : fits true q ≡ false → noLine ≡ lineOf k end p q r s
+  unfolding formed
+  no-second e = none (and-right (leb 1 k) (and-right (eqb end 10) (and-right (fits true p) (rw e))))
+
+  pub no-third : fits (leb 3 (fields k)) r ≡ false → noLine ≡ lineOf k end p q r s
+  unfolding formed
+  no-third e = none (and-right (leb 1 k) (and-right (eqb end 10) (and-right (fits true p) (and-right (fits true q) (rw e)))))
+
+  pub no-fourth : fits (leb 4 (fields k)) s ≡ false → noLine ≡ lineOf k end p q r s
+  unfolding formed
+  no-fourth e =
+      none
+      (and-right (leb 1 k)
+      (and-right (eqb end 10) (and-right (fits true p) (and-right (fits true q) (and-right (fits (leb 3 (fields k)) r) e)))))
+
+  pub no-letter : k < 1 → noLine ≡ lineOf k end p q r s
+  unfolding formed
+  no-letter l = none (rw (lt-leb 1 k l))
+
+  pub no-end : (end ≡ 10 → ⊥) → noLine ≡ lineOf k end p q r s
+  unfolding formed
+  no-end h = none (and-right (leb 1 k) (rw (ne-eqb end 10 h)))
+
+  pub whole-line : (a b c d : ℕ) → (fits true p ≡ true) × (value p ≡ a) → (fits true q ≡ true) × (value q ≡ b)
+      → (fits (leb 3 (fields k)) r ≡ true) × (value r ≡ c) → (fits (leb 4 (fields k)) s ≡ true) × (value s ≡ d) → 1 ≤ k → end ≡ 10
+      → record { letter = k; a = a; b = b; c = c; d = d } ≡ lineOf k end p q r s
+  unfolding lineOf formed
+  whole-line a b c d ep eq er es l e =
+      rw (le-leb 1 k l, eq-eqb end 10 e, ep .0, eq .0, er .0, es .0, ep .1, eq .1, er .1, es .1)
+
+-- past its end a file has no line
+pub past-end : (f : List ℕ) (i : ℕ) → length f ≤ i + 21 → noLine ≡ lineFrom f i
+past-end f i l =
+    no-end (letterOf (getD f i 0)) (getD f (i + 21) 0) (fieldAt f (i + 1)) (fieldAt f (i + 6)) (fieldAt f (i + 11)) (fieldAt f (i + 16))
+    (λ e. let z : getD f (i + 21) 0 ≡ 0 = List·getD-eq-default f 0 l in omega arith)

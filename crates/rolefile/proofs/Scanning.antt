@@ -1,0 +1,90 @@
+-- Scanning the lines: what a line's verdict is where the line before is at hand, and that a line with nothing to refuse is fine. Assumes nothing.
+use Prim.Native.Nat.{ℕ, _+_, _-_, _%_, _≤_, _<_}
+use mathlib.Core.Path.{_≡_, refl, sym, _∙_}
+use mathlib.Core.List.{List}
+use mathlib.Core.Bool.{Bool, true, false, cond}
+use native.Mathlib.Omega.{arith}
+use lib.Dec.{eqb, ltb, leb}
+use lib.ListN.{length}
+use borrow.Author.Tests.{eqb-true, eq-eqb, ne-eqb, le-leb, lt-leb}
+use Rattle.search.proofs.Truth.{and-iff, untrue, both}
+use Rattle.rolefile.specs.declared.Line.{Line}
+use Rattle.rolefile.specs.declared.Verdict.{Verdict}
+use Rattle.rolefile.specs.Line.{H, lineAt, lines}
+use Rattle.rolefile.specs.Form.{fine, refusal, unless, sized, counted, ranged, rises, headVerdict, bodyVerdict, lineVerdict, scan, linesVerdict}
+use Rattle.rolefile.proofs.Verdicts.{scan-fine, scan-yet, scan-found, scan-more}
+
+-- line i + 1 after line i
+pub next-line : (f : List ℕ) (i : ℕ) (h p l : Line) → 1 ≤ i → h ≡ lineAt f 1 → p ≡ lineAt f i → l ≡ lineAt f (i + 1)
+    → bodyVerdict h p (i + 1) l ≡ lineVerdict f (i + 1)
+unfolding lineVerdict
+next-line f i h p l w eh ep el =
+    let q : i + 1 - 1 ≡ i = omega arith in
+    rw (ne-eqb (i + 1) 1 (λ e. omega arith), q, eh, ep, el)
+
+-- no number, no place
+Clean : Verdict → Type 0
+Clean v = v .number ≡ 0 → v ≡ fine
+
+clean-unless : (t : Bool) (n p q : ℕ) (rest : Verdict) → 1 ≤ n → Clean rest → Clean (unless t (refusal n p q) rest)
+unfolding Clean
+clean-unless true n p q rest l h = h
+clean-unless false n p q rest l h = λ e. absurd (omega arith)
+
+clean-fine : Clean fine
+unfolding Clean
+clean-fine = λ e. refl
+
+clean-line : (f : List ℕ) (k : ℕ) → Clean (lineVerdict f k)
+unfolding lineVerdict headVerdict bodyVerdict
+clean-line f k = go (eqb k 1)
+  where
+    go : (b : Bool) → Clean (cond b (headVerdict (lineAt f 1)) (bodyVerdict (lineAt f 1) (lineAt f (k - 1)) k (lineAt f k)))
+    go true =
+        clean-unless (eqb (lineAt f 1 .letter) H) 2 1 0 _ (omega arith) (clean-unless (counted (lineAt f 1)) 3 1 0 _ (omega arith) clean-fine)
+    go false =
+        clean-unless (ltb H (lineAt f k .letter)) 2 k 0 _ (omega arith)
+        (clean-unless (ranged (lineAt f 1) (lineAt f k)) 4 k 0 _ (omega arith)
+        (clean-unless (rises (lineAt f (k - 1)) (lineAt f k)) 5 k 0 _ (omega arith) clean-fine))
+
+pub lines-fine : (f : List ℕ) (n : ℕ) → scan n (lineVerdict f) .number ≡ 0 → fine ≡ scan n (lineVerdict f)
+unfolding Clean
+lines-fine f n e = sym (scan-fine (lineVerdict f) n (λ k w. clean-line f k) e)
+
+-- ---- the length first
+
+module _ (f : List ℕ) where
+  pub bad-size : sized f ≡ false → refusal 1 0 0 ≡ linesVerdict f
+  unfolding linesVerdict
+  bad-size e = rw e
+
+  pub good-size : sized f ≡ true → scan (lines f) (lineVerdict f) ≡ linesVerdict f
+  unfolding linesVerdict
+  good-size e = rw e
+
+  pub empty : length f < 1 → sized f ≡ false
+  unfolding sized
+  empty l = rw (lt-leb 1 (length f) l)
+
+  pub torn : (length f % 22 ≡ 0 → ⊥) → sized f ≡ false
+  unfolding sized
+  torn h = untrue _ (λ e. h (eqb-true (length f % 22) 0 (and-iff _ (leb (length f) 63800) .0 (and-iff (leb 1 (length f)) _ .0 e .1) .0)))
+
+  pub long : 63800 < length f → sized f ≡ false
+  unfolding sized
+  long l = untrue _ (λ e. both (and-iff (eqb (length f % 22) 0) _ .0 (and-iff (leb 1 (length f)) _ .0 e .1) .1) (lt-leb (length f) 63800 l))
+
+  pub fitting : 1 ≤ length f → length f % 22 ≡ 0 → length f ≤ 63800 → sized f ≡ true
+  unfolding sized
+  fitting a b c = rw (le-leb 1 (length f) a, eq-eqb (length f % 22) 0 b, le-leb (length f) 63800 c)
+
+  -- then line 1
+  pub head-line : (l : Line) → l ≡ lineAt f 1 → headVerdict l ≡ lineVerdict f 1
+  unfolding lineVerdict
+  head-line l e = rw e
+
+  pub head-found : 1 ≤ lines f → (lineVerdict f 1 .number ≡ 0 → ⊥) → lineVerdict f 1 ≡ scan (lines f) (lineVerdict f)
+  head-found l h = scan-found (lineVerdict f) (lines f) 0 l (scan-yet (lineVerdict f)) h
+
+  pub head-passed : lineVerdict f 1 .number ≡ 0 → scan 1 (lineVerdict f) .number ≡ 0
+  head-passed e = scan-more (lineVerdict f) 0 (scan-yet (lineVerdict f)) e

@@ -1,0 +1,15 @@
+-- The three tests, one after the other.
+use mathlib.Core.Path.{_≡_, sym, _∙_}
+use borrow.Author.Needs.{needs}
+use Rattle.rolefile.specs.Form.{ranged}
+use Rattle.rolefile.proofs.check.numbers_fit.Statement.{statement}
+use Rattle.rolefile.proofs.check.numbers_fit.Tie as tie
+
+returns : tie.Need-returns
+unfolding ranged
+returns c = cc
+
+pub numbers-fit-spec : {M : Type 1} → statement M
+numbers-fit-spec =
+    tie.close
+    (tie.spec (λ c κs. search needs) (λ c κs. search needs) (λ c κs. search needs) (λ c κs. search needs) (λ c κs. search needs) returns)

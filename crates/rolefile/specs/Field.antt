@@ -1,0 +1,34 @@
+-- A field of five columns: "A number is right-justified with blanks before it, has no leading zeros, and 0 is the single digit. A field without use is
+-- five blanks." Its columns are read from left to right. Assumes nothing.
+use Prim.Native.Nat.{ℕ, _+_, _*_, _-_}
+use mathlib.Core.List.{List, [], _∷_}
+use mathlib.Core.Bool.{Bool, _&&_, cond}
+use lib.Dec.{leb, eqb}
+use lib.ListN.{getD}
+use Rattle.search.specs.Search.{among}
+use Rattle.rolefile.specs.declared.Field.{Field}
+use Rattle.rolefile.specs.declared.Field.the-variants.{Blank, Number, Bad}
+
+-- the bytes of blank and of the digits
+abbrev pub isBlank : ℕ → Bool
+isBlank b = eqb b 32
+
+abbrev pub isDigit : ℕ → Bool
+isDigit b = leb 48 b && leb b 57
+
+-- one column more: after blanks a blank or a first digit; after a number, unless it is 0 or has five digits, a digit
+unfoldable pub column : Field → ℕ → Field
+column Blank b = cond (isBlank b) Blank (cond (isDigit b) (Number (b - 48)) Bad)
+column (Number n) b = cond (isDigit b && among 9999 n) (Number (10 * n + (b - 48))) Bad
+column Bad b = Bad
+
+unfoldable pub columns : Field → List ℕ → Field
+columns f [] = f
+columns f (b ∷ bs) = columns (column f b) bs
+
+-- the five columns of f from `at` on
+abbrev pub five : List ℕ → ℕ → List ℕ
+five f at = getD f at 0 ∷ getD f (at + 1) 0 ∷ getD f (at + 2) 0 ∷ getD f (at + 3) 0 ∷ getD f (at + 4) 0 ∷ []
+
+abbrev pub fieldAt : List ℕ → ℕ → Field
+fieldAt f at = columns Blank (five f at)

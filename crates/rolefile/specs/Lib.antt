@@ -1,0 +1,5 @@
+pub mod Field
+pub mod Line
+pub mod Form
+pub mod Said
+pub mod WellFormed

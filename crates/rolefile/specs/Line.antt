@@ -1,0 +1,80 @@
+-- The lines of a role file: "A line is 22 bytes: one letter, four fields of 5 columns, and byte 10." Assumes nothing.
+use Prim.Native.Nat.{ℕ, _+_, _*_, _-_, _/_}
+use mathlib.Core.List.{List}
+use mathlib.Core.Bool.{Bool, true, false, not, _&&_, cond}
+use lib.Dec.{leb, eqb}
+use lib.ListN.{length, getD}
+use Rattle.rolefile.specs.declared.Field.{Field}
+use Rattle.rolefile.specs.declared.Field.the-variants.{Blank, Number, Bad}
+use Rattle.rolefile.specs.declared.Line.{Line}
+use Rattle.rolefile.specs.Field.{fieldAt}
+
+-- a letter by its row in the document's table: H, D, S, U, O, P, A; 0 is none of them
+abbrev pub H : ℕ
+H = 1
+
+abbrev pub D : ℕ
+D = 2
+
+abbrev pub S : ℕ
+S = 3
+
+abbrev pub U : ℕ
+U = 4
+
+abbrev pub O : ℕ
+O = 5
+
+abbrev pub P : ℕ
+P = 6
+
+abbrev pub A : ℕ
+A = 7
+
+unfoldable pub letterOf : ℕ → ℕ
+letterOf b =
+    cond (eqb b 72) H (cond (eqb b 68) D (cond (eqb b 83) S (cond (eqb b 85) U (cond (eqb b 79) O (cond (eqb b 80) P (cond (eqb b 65) A 0))))))
+
+-- how many fields a letter's lines have
+unfoldable pub fields : ℕ → ℕ
+fields k = cond (eqb k H) 4 (cond (eqb k P) 3 2)
+
+-- "A field without use is five blanks", and one in use is a number
+abbrev pub fits : Bool → Field → Bool
+fits used Blank = not used
+fits used (Number n) = used
+fits used Bad = false
+
+abbrev pub value : Field → ℕ
+value Blank = 0
+value (Number n) = n
+value Bad = 0
+
+-- what a line reader takes out of a field: its number, or 0 where it has no use; "a field that doesn't read as a number ends its line with 2"
+unfoldable pub taken : Bool → Field → Field
+taken used f = cond (fits used f) (Number (value f)) Bad
+
+unfoldable pub formed : ℕ → ℕ → Field → Field → Field → Field → Bool
+formed k end p q r s = leb 1 k && (eqb end 10 && (fits true p && (fits true q && (fits (leb 3 (fields k)) r && fits (leb 4 (fields k)) s))))
+
+-- a malformed line has no letter
+abbrev pub noLine : Line
+noLine = record { letter = 0; a = 0; b = 0; c = 0; d = 0 }
+
+unfoldable pub lineOf : ℕ → ℕ → Field → Field → Field → Field → Line
+lineOf k end p q r s = cond (formed k end p q r s) (record { letter = k; a = value p; b = value q; c = value r; d = value s }) noLine
+
+-- the line whose first byte is at i
+abbrev pub lineFrom : List ℕ → ℕ → Line
+lineFrom f i =
+    lineOf (letterOf (getD f i 0)) (getD f (i + 21) 0) (fieldAt f (i + 1)) (fieldAt f (i + 6)) (fieldAt f (i + 11)) (fieldAt f (i + 16))
+
+-- line k, counted from 1, starts here
+abbrev pub start : ℕ → ℕ
+start k = 22 * (k - 1)
+
+unfoldable pub lineAt : List ℕ → ℕ → Line
+lineAt f k = lineFrom f (start k)
+
+abbrev pub lines : List ℕ → ℕ
+lines f = length f / 22

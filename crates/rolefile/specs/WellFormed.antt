@@ -1,0 +1,63 @@
+-- What a well-formed file is, as properties: `Sized` is number 1's rule, `GoodLine` that of 2 to 5 for one line, and `One` that of 6. Assumes nothing.
+use Prim.Native.Nat.{ℕ, _-_, _%_, _≤_, _<_}
+use mathlib.Core.Path.{_≡_}
+use mathlib.Core.Logic.{_⊎_}
+use mathlib.Core.List.{List}
+use mathlib.Core.Bool.{true}
+use lib.ListN.{length}
+use Rattle.search.specs.Search.{Among}
+use Rattle.rolefile.specs.declared.Line.{Line}
+use Rattle.rolefile.specs.Line.{H, U, O, P, lineAt, lines}
+use Rattle.rolefile.specs.Form.{header, firstLimit, secondLimit, about}
+use Rattle.rolefile.specs.Said.{users, cards}
+
+pub record Sized (f : List ℕ) : Type 0 where
+  pub some : 1 ≤ length f
+  pub whole : length f % 22 ≡ 0
+  pub short : length f ≤ 63800
+
+pub record GoodCounts (h : Line) : Type 0 where
+  pub labels : Among 32 (h .a)
+  pub roles : h .b ≤ 128
+  pub users : h .c ≤ 256
+  pub cards : h .d ≤ 512
+
+pub record GoodNumbers (h l : Line) : Type 0 where
+  pub one : Among (firstLimit h (l .letter)) (l .a)
+  pub two : Among (secondLimit h (l .letter)) (l .b)
+  pub mode : l .letter ≡ P → Among 2 (l .c)
+
+-- x is less than y, or is y and the rest decides
+abbrev pub Before : ℕ → ℕ → Type 0 → Type 0
+Before x y R = (x < y) ⊎ ((x ≡ y) × R)
+
+-- by letter, then by the fields read left to right
+abbrev pub Rises : Line → Line → Type 0
+Rises p l = Before (p .letter) (l .letter) (Before (p .a) (l .a) (Before (p .b) (l .b) (p .c < l .c)))
+
+pub record GoodHead (l : Line) : Type 0 where
+  pub letter : l .letter ≡ H
+  pub counts : GoodCounts l
+
+-- a line l after a line p, under the counts h
+pub record GoodBody (h p l : Line) : Type 0 where
+  pub letter : H < l .letter
+  pub numbers : GoodNumbers h l
+  pub order : Rises p l
+
+pub record GoodLine (f : List ℕ) (k : ℕ) : Type 0 where
+  pub head : k ≡ 1 → GoodHead (lineAt f 1)
+  pub body : (k ≡ 1 → ⊥) → GoodBody (header f) (lineAt f (k - 1)) (lineAt f k)
+
+-- "Each user has one U line and each card one O line": there is a line of the letter k about x, and no other
+pub record One (f : List ℕ) (k x : ℕ) : Type 0 where
+  pub line : ℕ
+  pub inside : Among (lines f) line
+  pub tells : about f k x line ≡ true
+  pub only : (i : ℕ) → Among (lines f) i → about f k x i ≡ true → i ≡ line
+
+pub record WellFormed (f : List ℕ) : Type 0 where
+  pub sized : Sized f
+  pub good : (k : ℕ) → Among (lines f) k → GoodLine f k
+  pub user : (u : ℕ) → Among (users f) u → One f U u
+  pub card : (o : ℕ) → Among (cards f) o → One f O o

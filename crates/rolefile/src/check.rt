@@ -1,0 +1,165 @@
+// The numbers 1 to 5: the file's length, and line by line its form, its numbers and its order.
+use super::Line;
+use super::Verdict;
+use super::read;
+ghost use mathlib.Core.Path.{_≡_};
+ghost use mathlib.Core.Bool.{_&&_, _||_, cond};
+ghost use Prim.Native.Nat.{_≤_};
+ghost use lib.ListN.{length};
+ghost use Rattle.search.specs.Search.{among, implies};
+ghost use Rattle.rolefile.specs.Line.{lines};
+ghost use Rattle.rolefile.specs.Form.{fine, refusal, sized, counted, firstLimit, secondLimit, ranged, before, rises, headVerdict, bodyVerdict, lineVerdict, scan, linesVerdict};
+
+fn nothing() -> Verdict
+    ensures { λ v. ⌜ v ≡ fine ⌝ }
+{
+    Verdict {
+        number: 0,
+        first: 0,
+        second: 0,
+    }
+}
+
+fn refused(number: u64, first: u64, second: u64) -> Verdict
+    ensures { λ v. ⌜ v ≡ refusal number first second ⌝ }
+{
+    Verdict {
+        number,
+        first,
+        second,
+    }
+}
+
+// 3: the counts are within their limits.
+fn counts_fit(h: Line) -> bool
+    ensures { λ r. ⌜ r ≡ counted h ⌝ }
+{
+    within(h.a, 32) & ((h.b <= 128) & ((h.c <= 256) & (h.d <= 512)))
+}
+
+// Whether x is one of the numbers 1 to n.
+fn within(x: u64, n: u64) -> bool
+    ensures { λ r. ⌜ r ≡ among n x ⌝ }
+{
+    (1 <= x) & (x <= n)
+}
+
+// 4: the count that the first field of a letter's lines goes up to, and the second.
+fn first_limit(h: Line, k: u64) -> u64
+    ensures { λ r. ⌜ r ≡ firstLimit h k ⌝ }
+{
+    match k {
+        2 => h.a,
+        3 => h.b,
+        6 => h.b,
+        5 => h.d,
+        _ => h.c,
+    }
+}
+
+fn second_limit(h: Line, k: u64) -> u64
+    ensures { λ r. ⌜ r ≡ secondLimit h k ⌝ }
+{
+    match k {
+        3 => h.b,
+        7 => h.b,
+        6 => h.d,
+        _ => h.a,
+    }
+}
+
+// 4: the numbers of a line are within their limits.
+fn numbers_fit(h: Line, l: Line) -> bool
+    ensures { λ r. ⌜ r ≡ ranged h l ⌝ }
+{
+    let k = l.letter;
+    let one = within(l.a, first_limit(h, k));
+    let two = within(l.b, second_limit(h, k));
+    one & (two & ((k != 6) | within(l.c, 2)))
+}
+
+// x is less than y, or is y and the rest decides.
+fn earlier(x: u64, y: u64, rest: bool) -> bool
+    ensures { λ r. ⌜ r ≡ before x y rest ⌝ }
+{
+    (x < y) | ((x == y) & rest)
+}
+
+// 5: the line l comes after the line p.
+fn comes_after(p: Line, l: Line) -> bool
+    ensures { λ r. ⌜ r ≡ rises p l ⌝ }
+{
+    let by_b = earlier(p.b, l.b, p.c < l.c);
+    let by_a = earlier(p.a, l.a, by_b);
+    earlier(p.letter, l.letter, by_a)
+}
+
+// 2 and 3, of line 1.
+fn head(l: Line) -> Verdict
+    ensures { λ v. ⌜ v ≡ headVerdict l ⌝ }
+{
+    if l.letter != 1 {
+        return refused(2, 1, 0);
+    }
+    if !counts_fit(l) {
+        return refused(3, 1, 0);
+    }
+    nothing()
+}
+
+// 2, 4 and 5, of line k after line p.
+fn body(h: Line, p: Line, k: u64, l: Line) -> Verdict
+    ensures { λ v. ⌜ v ≡ bodyVerdict h p k l ⌝ }
+{
+    if l.letter <= 1 {
+        return refused(2, k, 0);
+    }
+    if !numbers_fit(h, l) {
+        return refused(4, k, 0);
+    }
+    if !comes_after(p, l) {
+        return refused(5, k, 0);
+    }
+    nothing()
+}
+
+// 2 to 5 of the lines after line 1, which has nothing to refuse.
+fn bodies(f: &[u8]) -> Verdict
+    requires { ⌜ (1 ≤ lines (now f)) × (scan 1 (lineVerdict (now f)) .number ≡ 0) ⌝ }
+    ensures { λ v. ⌜ v ≡ scan (lines (now (f .entry))) (lineVerdict (now (f .entry))) ⌝ }
+{
+    let n = f.len() / 22;
+    let h = read::line(f, 1);
+    let mut p = h;
+    let mut i = 1;
+    while i < n {
+        let l = read::line(f, i + 1);
+        let v = body(h, p, (i + 1) as u64, l);
+        if v.number != 0 {
+            return v;
+        }
+        p = l;
+        i += 1;
+    }
+    nothing()
+}
+
+// 1 to 5.
+pub fn lines(f: &[u8]) -> Verdict
+    ensures { λ v. ⌜ v ≡ linesVerdict (now (f .entry)) ⌝ }
+{
+    if f.len() < 1 {
+        return refused(1, 0, 0);
+    }
+    if f.len() % 22 != 0 {
+        return refused(1, 0, 0);
+    }
+    if 63800 < f.len() {
+        return refused(1, 0, 0);
+    }
+    let v = head(read::line(f, 1));
+    if v.number != 0 {
+        return v;
+    }
+    bodies(f)
+}

@@ -1,0 +1,179 @@
+// Reading fields and lines.
+use super::Field;
+use super::Line;
+ghost use mathlib.Core.Path.{_≡_};
+ghost use mathlib.Core.Bool.{true, _&&_, cond};
+ghost use Prim.Native.Nat.{ℕ, _+_, _*_, _-_, _%_, _≤_, _<_};
+ghost use lib.Dec.{leb};
+ghost use lib.ListN.{length, getD};
+ghost use Rattle.rolefile.specs.Field.{isDigit, column, fieldAt};
+ghost use Rattle.rolefile.specs.Line.{letterOf, fields, taken, noLine, lineOf, lineFrom, lineAt};
+
+// The number n with the digit b after it, unless n is 0 or has five digits.
+fn next_digit(n: u64, b: u8) -> Field
+    ensures { λ r. ⌜ r ≡ column (Field.Number n) b ⌝ }
+{
+    if b < 48 {
+        return Field::Bad;
+    }
+    if 57 < b {
+        return Field::Bad;
+    }
+    if n < 1 {
+        return Field::Bad;
+    }
+    if 9999 < n {
+        return Field::Bad;
+    }
+    Field::Number(10 * n + (b - 48) as u64)
+}
+
+// A blank, or a first digit.
+fn first_digit(b: u8) -> Field
+    ensures { λ r. ⌜ r ≡ column Field.Blank b ⌝ }
+{
+    if b == 32 {
+        return Field::Blank;
+    }
+    if b < 48 {
+        return Field::Bad;
+    }
+    if 57 < b {
+        return Field::Bad;
+    }
+    Field::Number((b - 48) as u64)
+}
+
+// What the columns so far say, with one column more.
+fn column(f: Field, b: u8) -> Field
+    ensures { λ r. ⌜ r ≡ column f b ⌝ }
+{
+    match f {
+        Field::Blank => first_digit(b),
+        Field::Number(n) => next_digit(n, b),
+        Field::Bad => Field::Bad,
+    }
+}
+
+// The field of five columns at `at`.
+fn field(s: &[u8], at: usize) -> Field
+    requires { ⌜ at + 5 ≤ length (now s) ⌝ }
+    ensures { λ r. ⌜ r ≡ fieldAt (now (s .entry)) at ⌝ }
+{
+    let one = first_digit(s[at]);
+    let two = column(one, s[at + 1]);
+    let three = column(two, s[at + 2]);
+    let four = column(three, s[at + 3]);
+    column(four, s[at + 4])
+}
+
+// A letter's row in the table of letters, or 0.
+fn letter(b: u8) -> u64
+    ensures { λ r. ⌜ r ≡ letterOf b ⌝ }
+{
+    match b {
+        72 => 1,
+        68 => 2,
+        83 => 3,
+        85 => 4,
+        79 => 5,
+        80 => 6,
+        65 => 7,
+        _ => 0,
+    }
+}
+
+// How many fields a letter's lines have.
+fn field_count(k: u64) -> u64
+    ensures { λ r. ⌜ r ≡ fields k ⌝ }
+{
+    if k == 1 {
+        return 4;
+    }
+    if k == 6 {
+        return 3;
+    }
+    2
+}
+
+// What a line takes out of a field: its number where the field is in use, 0 where it has no use.
+fn taken(f: Field, used: bool) -> Field
+    ensures { λ r. ⌜ r ≡ taken used f ⌝ }
+{
+    match f {
+        Field::Blank => { if used { Field::Bad } else { Field::Number(0) } }
+        Field::Number(n) => { if used { Field::Number(n) } else { Field::Bad } }
+        Field::Bad => Field::Bad,
+    }
+}
+
+// A malformed line.
+fn no_line() -> Line
+    ensures { λ l. ⌜ l ≡ noLine ⌝ }
+{
+    Line {
+        letter: 0,
+        a: 0,
+        b: 0,
+        c: 0,
+        d: 0,
+    }
+}
+
+// The line of a letter's row, the byte at its end and its four fields. A field that does not read
+// as asked ends it.
+fn line_of(k: u64, end: u8, p: Field, q: Field, r: Field, s: Field) -> Line
+    ensures { λ l. ⌜ l ≡ lineOf k end p q r s ⌝ }
+{
+    let Field::Number(a) = taken(p, true) else {
+        return no_line();
+    };
+    let Field::Number(b) = taken(q, true) else {
+        return no_line();
+    };
+    let Field::Number(c) = taken(r, 3 <= field_count(k)) else {
+        return no_line();
+    };
+    let Field::Number(d) = taken(s, 4 <= field_count(k)) else {
+        return no_line();
+    };
+    if k < 1 {
+        return no_line();
+    }
+    if end != 10 {
+        return no_line();
+    }
+    Line {
+        letter: k,
+        a,
+        b,
+        c,
+        d,
+    }
+}
+
+// The line that starts at `at`.
+fn line_from(f: &[u8], at: usize) -> Line
+    requires { ⌜ at + 22 ≤ length (now f) ⌝ }
+    ensures { λ l. ⌜ l ≡ lineFrom (now (f .entry)) at ⌝ }
+{
+    let p = field(f, at + 1);
+    let q = field(f, at + 6);
+    let r = field(f, at + 11);
+    let s = field(f, at + 16);
+    line_of(letter(f[at]), f[at + 21], p, q, r, s)
+}
+
+// Line k of the file, counted from 1; a malformed one where the file has fewer.
+pub fn line(f: &[u8], k: usize) -> Line
+    ensures { λ l. ⌜ l ≡ lineAt (now (f .entry)) k ⌝ }
+{
+    let mut i = 0;
+    if 1 < k {
+        i = k - 1;
+    }
+    if f.len() / 22 <= i {
+        return no_line();
+    }
+    line_from(f, 22 * i)
+}
