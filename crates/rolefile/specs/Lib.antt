@@ -3,3 +3,4 @@ pub mod Line
 pub mod Form
 pub mod Said
 pub mod WellFormed
+pub mod Section

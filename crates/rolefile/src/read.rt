@@ -7,6 +7,7 @@ ghost use Prim.Native.Nat.{ℕ, _+_, _*_, _-_, _%_, _≤_, _<_};
 ghost use lib.Dec.{leb};
 ghost use lib.ListN.{length, getD};
 ghost use Rattle.rolefile.specs.Field.{isDigit, column, fieldAt};
+ghost use Rattle.rolefile.specs.Section.{figure, Leads, Reads};
 ghost use Rattle.rolefile.specs.Line.{letterOf, fields, taken, noLine, lineOf, lineFrom, lineAt};
 
 // The number n with the digit b after it, unless n is 0 or has five digits.
@@ -176,4 +177,57 @@ pub fn line(f: &[u8], k: usize) -> Line
         return no_line();
     }
     line_from(f, 22 * i)
+}
+
+// The numbers of a line.
+pub struct Numbers {
+    pub a: usize,
+    pub b: usize,
+    pub c: usize,
+}
+
+fn wide(x: u8) -> usize
+    ensures { λ r. ⌜ (r ≡ x) × (r < 256) ⌝ }
+{
+    x as usize
+}
+
+// What the five columns at `at` come to, where they are known to be a number.
+fn figure(s: &[u8], at: usize) -> usize
+    requires { ⌜ at + 5 ≤ length (now s) ⌝ }
+    ensures { λ r. ⌜ r ≡ figure (now (s .entry)) at ⌝ }
+{
+    let high = 10000 * (wide(s[at]) % 16) + 1000 * (wide(s[at + 1]) % 16);
+    let low = 10 * (wide(s[at + 3]) % 16) + wide(s[at + 4]) % 16;
+    high + (100 * (wide(s[at + 2]) % 16) + low)
+}
+
+// The numbers of line i + 1 of a part whose lines are known to be well formed.
+pub fn numbers_of(p: &[u8], i: usize) -> Numbers
+    ensures { λ r. ⌜ Reads (now (p .entry)) i (r .a) (r .b) (r .c) ⌝ }
+{
+    if p.len() / 22 <= i {
+        return Numbers { a: 0, b: 0, c: 0 };
+    }
+    let at = 22 * i;
+    Numbers {
+        a: figure(p, at + 1),
+        b: figure(p, at + 6),
+        c: figure(p, at + 11),
+    }
+}
+
+// How many lines at the front of a part have the letter.
+pub fn leading(p: &[u8], letter: u8) -> usize
+    ensures { λ m. ⌜ Leads (now (p .entry)) letter m ⌝ }
+{
+    let n = p.len() / 22;
+    let mut i = 0;
+    while i < n {
+        if p[22 * i] != letter {
+            return i;
+        }
+        i += 1;
+    }
+    n
 }

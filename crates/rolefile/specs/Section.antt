@@ -1,0 +1,39 @@
+-- "Each letter's lines are handed on as the part of the file that starts there": the lines of one letter as a section of the file, and the numbers of a
+-- line that is known to be well formed. Assumes nothing.
+use Prim.Native.Nat.{ℕ, _+_, _*_, _-_, _%_, _≤_, _<_}
+use mathlib.Core.Path.{_≡_}
+use mathlib.Core.List.{List}
+use lib.ListN.{getD}
+use Rattle.search.specs.Search.{Among}
+use Rattle.rolefile.specs.Line.{start, lineAt, lines}
+
+-- what five columns come to, each by its last four bits: a blank counts 0, and a digit its value
+abbrev pub figure : List ℕ → ℕ → ℕ
+figure p at =
+    10000 * (getD p at 0 % 16)
+    + (1000 * (getD p (at + 1) 0 % 16) + (100 * (getD p (at + 2) 0 % 16) + (10 * (getD p (at + 3) 0 % 16) + getD p (at + 4) 0 % 16)))
+
+-- the first three numbers of line i of a part
+unfoldable pub one : List ℕ → ℕ → ℕ
+one p i = figure p (start i + 1)
+
+unfoldable pub two : List ℕ → ℕ → ℕ
+two p i = figure p (start i + 6)
+
+unfoldable pub three : List ℕ → ℕ → ℕ
+three p i = figure p (start i + 11)
+
+-- the byte of line i's letter
+unfoldable pub letterByte : List ℕ → ℕ → ℕ
+letterByte p i = getD p (start i) 0
+
+-- m lines at the front of the part p have the letter b, and the next has not
+pub record Leads (p : List ℕ) (b m : ℕ) : Type 0 where
+  pub fits : m ≤ lines p
+  pub front : (i : ℕ) → Among m i → letterByte p i ≡ b
+  pub next : m < lines p → letterByte p (m + 1) ≡ b → ⊥
+
+-- what a reader of line i + 1 of a part gets: its numbers, or zeros where the part has no such line
+pub record Reads (p : List ℕ) (i a b c : ℕ) : Type 0 where
+  pub inside : i < lines p → (a ≡ one p (i + 1)) × (b ≡ two p (i + 1)) × (c ≡ three p (i + 1))
+  pub outside : lines p ≤ i → (a ≡ 0) × (b ≡ 0) × (c ≡ 0)
