@@ -2,3 +2,5 @@ pub mod Policy
 pub mod Verdict
 pub mod Flow
 pub mod Accepted
+pub mod Tables
+pub mod Cases

@@ -4,3 +4,4 @@ pub mod Form
 pub mod Said
 pub mod WellFormed
 pub mod Section
+pub mod Decimal

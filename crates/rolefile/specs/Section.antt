@@ -24,14 +24,14 @@ unfoldable pub three : List ℕ → ℕ → ℕ
 three p i = figure p (start i + 11)
 
 -- the byte of line i's letter
-unfoldable pub letterByte : List ℕ → ℕ → ℕ
-letterByte p i = getD p (start i) 0
+unfoldable pub letterAt : List ℕ → ℕ → ℕ
+letterAt p i = getD p (start i) 0
 
 -- m lines at the front of the part p have the letter b, and the next has not
 pub record Leads (p : List ℕ) (b m : ℕ) : Type 0 where
   pub fits : m ≤ lines p
-  pub front : (i : ℕ) → Among m i → letterByte p i ≡ b
-  pub next : m < lines p → letterByte p (m + 1) ≡ b → ⊥
+  pub front : (i : ℕ) → Among m i → letterAt p i ≡ b
+  pub next : m < lines p → letterAt p (m + 1) ≡ b → ⊥
 
 -- what a reader of line i + 1 of a part gets: its numbers, or zeros where the part has no such line
 pub record Reads (p : List ℕ) (i a b c : ℕ) : Type 0 where

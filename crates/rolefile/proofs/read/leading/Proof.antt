@@ -9,12 +9,12 @@ use denote.Ref.{now}
 use Rattle.search.specs.Search.{Among}
 use Rattle.search.proofs.Found.{last-or}
 use Rattle.rolefile.specs.Line.{lines}
-use Rattle.rolefile.specs.Section.{letterByte}
+use Rattle.rolefile.specs.Section.{letterAt}
 use Rattle.rolefile.proofs.read.leading.Statement.{statement}
 use Rattle.rolefile.proofs.read.leading.Tie as tie
 
 abbrev Inv-loop : tie.InvT-loop
-Inv-loop p letter n i₀ i = (i ≤ lines p) × ((j : ℕ) → Among i j → letterByte p j ≡ letter)
+Inv-loop p letter n i₀ i = (i ≤ lines p) × ((j : ℕ) → Among i j → letterAt p j ≡ letter)
 
 abbrev μ-loop : tie.MeasureT-loop
 μ-loop p letter n i₀ i = lines p - i
@@ -24,13 +24,13 @@ place : (i : ℕ) → 22 * (i + 1 - 1) ≡ 22 * i
 place i = omega arith
 
 returns : tie.Need-returns Inv-loop μ-loop
-unfolding letterByte
+unfolding letterAt
 returns c =
     let w = c .before .before .before .loop in
     record { fits = w .inv .0; front = w .inv .1; next = λ l e. c .if1 .taken (rw (place (w .i)) at e) }
 
 loop-again : tie.Need-loop-again Inv-loop μ-loop
-unfolding letterByte
+unfolding letterAt
 loop-again c =
     let w = c .before .before .before .loop in (
       search needs,

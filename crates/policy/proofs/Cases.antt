@@ -1,0 +1,34 @@
+-- The definitions answer each case of `Cases` as the document does: one test, computed over the whole table, and one lemma. Assumes nothing.
+use mathlib.Core.Path.{_≡_, refl}
+use mathlib.Core.List.{List, _∷_, map, List·Memᴰ, List·Memᴰ·head, List·Memᴰ·tail}
+use Rattle.search.specs.Search.{some, every, first}
+use Rattle.order.specs.Closure.{via}
+use Rattle.order.specs.Bound.{upper, isLeast, least, lub, apart, lonely, unjoined}
+use Rattle.rolefile.specs.Field.{column, columns}
+use Rattle.rolefile.specs.Line.{letterOf, fields, formed, lineOf, lineAt}
+use Rattle.rolefile.specs.Form.{scan, sized, counted, firstLimit, secondLimit, ranged, rises, headVerdict, bodyVerdict, lineVerdict}
+use Rattle.rolefile.specs.Form.{count, unlabelled, unlabelledVerdict, formVerdict}
+use Rattle.rolefile.specs.Said.{says, last, labelBy}
+use Rattle.policy.specs.Policy.{dominates, senior, may, mayAt, level, rLevel, wLevel}
+use Rattle.policy.specs.Verdict.{assignVerdict, assignmentVerdict, policyVerdict, verdict}
+use Rattle.policy.specs.Flow.{flows, flowCircle}
+use Rattle.policy.specs.Cases.{line, bytes, Answer, answer, Case, cases}
+
+-- the definitions' answer for a case's file
+abbrev given : Case → Answer
+given c = answer (bytes (c .file)) (c .expected)
+
+computed : map given cases ≡ map (λ c. c .expected) cases
+unfolding cases answer line bytes
+    column columns letterOf fields formed lineOf lineAt
+    sized counted firstLimit secondLimit ranged rises headVerdict bodyVerdict lineVerdict scan count unlabelled unlabelledVerdict formVerdict
+    says last labelBy some every first via upper isLeast least lub apart lonely unjoined
+    dominates senior may mayAt level rLevel wLevel assignVerdict assignmentVerdict policyVerdict verdict flows flowCircle
+computed = refl
+
+of-each : (cs : List Case) → map given cs ≡ map (λ c. c .expected) cs → (c : Case) → List·Memᴰ c cs → given c ≡ c .expected
+of-each (x ∷ cs) e c (List·Memᴰ·head same) = cc
+of-each (x ∷ cs) e c (List·Memᴰ·tail m) = of-each cs (cc) c m
+
+pub cases-hold : (c : Case) → List·Memᴰ c cases → answer (bytes (c .file)) (c .expected) ≡ c .expected
+cases-hold = of-each cases computed

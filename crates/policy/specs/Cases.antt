@@ -1,0 +1,199 @@
+-- The cases of "Example files" that are about files, those with a star and the two on an H line alone: each file with the answer that the document
+-- gives for it. Where the document tells of a file without showing it, the file is a small one of that kind. Assumes nothing.
+use Prim.Native.Nat.{ℕ}
+use Prim.Native.Char.{code}
+use Prim.Native.String.{String, [] as end, _∷_ as _▸_}
+use mathlib.Core.List.{List, [], _∷_, map}
+use mathlib.Core.Option.{Option, none, some, Option·map}
+use Rattle.rolefile.specs.declared.Verdict.{Verdict}
+use Rattle.rolefile.specs.Form.{fine, refusal}
+use Rattle.policy.specs.Policy.{rLevel, wLevel, shown}
+use Rattle.policy.specs.Verdict.{verdict}
+use Rattle.policy.specs.Flow.{flowCircle}
+
+-- a line's text and byte 10, and then the rest of the file
+unfoldable pub line : String → List ℕ → List ℕ
+line end rest = 10 ∷ rest
+line (c ▸ text) rest = code c ∷ line text rest
+
+unfoldable pub bytes : List String → List ℕ
+bytes [] = []
+bytes (text ∷ texts) = line text (bytes texts)
+
+-- "R for each role (role, r-level, w-level; 0 free, 99 undefined)"
+abbrev pub Row : Type 0
+Row = ℕ × ℕ × ℕ
+
+abbrev pub row : List ℕ → ℕ → Row
+row f r = (r, shown (rLevel f r), shown (wLevel f r))
+
+-- the verdict on a file; and, as far as the document gives them, the rows of its roles and the role on a circle of flow
+pub record Answer : Type 0 where
+  pub verdict : Verdict
+  pub rows : List Row
+  pub circle : Option ℕ
+
+-- the definitions' answer for the file f, about the roles that the document's answer is about
+unfoldable pub answer : List ℕ → Answer → Answer
+answer f a = record {
+  verdict = verdict f;
+  rows = map (λ x. row f (x .0)) (a .rows);
+  circle = Option·map (λ r. flowCircle f) (a .circle);
+}
+
+pub record Case : Type 0 where
+  pub file : List String
+  pub expected : Answer
+
+unfoldable pub cases : List Case
+cases =
+    record {
+      -- "the file above: accepted"
+      file =
+          "H    2    2    1    2"
+          ∷ "D    2    1          "
+          ∷ "S    2    1          "
+          ∷ "U    1    2          "
+          ∷ "O    1    1          "
+          ∷ "O    2    2          "
+          ∷ "P    1    1    1     "
+          ∷ "P    2    2    2     "
+          ∷ "A    1    2          "
+          ∷ [];
+      expected = record { verdict = fine; rows = (1, 1, 0) ∷ (2, 1, 2) ∷ []; circle = some 0 };
+    }
+    ∷ record {
+      -- "without its D line: 12 at [1, 2]"
+      file =
+          "H    2    2    1    2"
+          ∷ "S    2    1          "
+          ∷ "U    1    2          "
+          ∷ "O    1    1          "
+          ∷ "O    2    2          "
+          ∷ "P    1    1    1     "
+          ∷ "P    2    2    2     "
+          ∷ "A    1    2          "
+          ∷ [];
+      expected = record { verdict = refusal 12 1 2; rows = []; circle = none };
+    }
+    ∷ record {
+      -- "user 1 cleared to 1 instead: accepted"
+      file =
+          "H    2    2    1    2"
+          ∷ "D    2    1          "
+          ∷ "S    2    1          "
+          ∷ "U    1    1          "
+          ∷ "O    1    1          "
+          ∷ "O    2    2          "
+          ∷ "P    1    1    1     "
+          ∷ "P    2    2    2     "
+          ∷ "A    1    2          "
+          ∷ [];
+      expected = record { verdict = fine; rows = []; circle = none };
+    }
+    ∷ record {
+      -- "and role 1 reading card 2 as well: 15 at [1, 2]"
+      file =
+          "H    2    2    1    2"
+          ∷ "D    2    1          "
+          ∷ "S    2    1          "
+          ∷ "U    1    1          "
+          ∷ "O    1    1          "
+          ∷ "O    2    2          "
+          ∷ "P    1    1    1     "
+          ∷ "P    1    2    1     "
+          ∷ "P    2    2    2     "
+          ∷ "A    1    2          "
+          ∷ [];
+      expected = record { verdict = refusal 15 1 2; rows = []; circle = none };
+    }
+    ∷ record {
+      -- "role 2 writing card 1 too: w-level 1, 16 at [1, 2]"
+      file =
+          "H    2    2    1    2"
+          ∷ "D    2    1          "
+          ∷ "S    2    1          "
+          ∷ "U    1    2          "
+          ∷ "O    1    1          "
+          ∷ "O    2    2          "
+          ∷ "P    1    1    1     "
+          ∷ "P    2    1    2     "
+          ∷ "P    2    2    2     "
+          ∷ "A    1    2          "
+          ∷ [];
+      expected = record { verdict = refusal 16 1 2; rows = (2, 1, 1) ∷ []; circle = none };
+    }
+    ∷ record {
+      -- "D 1 1 in front: 11 at [1, 0]"
+      file =
+          "H    2    2    1    2"
+          ∷ "D    1    1          "
+          ∷ "D    2    1          "
+          ∷ "S    2    1          "
+          ∷ "U    1    2          "
+          ∷ "O    1    1          "
+          ∷ "O    2    2          "
+          ∷ "P    1    1    1     "
+          ∷ "P    2    2    2     "
+          ∷ "A    1    2          "
+          ∷ [];
+      expected = record { verdict = refusal 11 1 0; rows = []; circle = none };
+    }
+    ∷ record {
+      -- "labels 1, 2, 3 with D 3 1 and D 3 2: an assigned role that writes at 1 and 2 gets 14"
+      file =
+          "H    3    1    1    2"
+          ∷ "D    3    1          "
+          ∷ "D    3    2          "
+          ∷ "U    1    1          "
+          ∷ "O    1    1          "
+          ∷ "O    2    2          "
+          ∷ "P    1    1    2     "
+          ∷ "P    1    2    2     "
+          ∷ "A    1    1          "
+          ∷ [];
+      expected = record { verdict = refusal 14 1 1; rows = (1, 0, 99) ∷ []; circle = none };
+    }
+    ∷ record {
+      -- "one that reads there has r-level 3"
+      file =
+          "H    3    1    1    2"
+          ∷ "D    3    1          "
+          ∷ "D    3    2          "
+          ∷ "U    1    3          "
+          ∷ "O    1    1          "
+          ∷ "O    2    2          "
+          ∷ "P    1    1    1     "
+          ∷ "P    1    2    1     "
+          ∷ "A    1    1          "
+          ∷ [];
+      expected = record { verdict = fine; rows = (1, 3, 0) ∷ []; circle = none };
+    }
+    ∷ record {
+      -- "four labels, 2 and 3 above 1 and below 4: writing at 2 and 3 gives w-level 1"
+      file =
+          "H    4    1    1    2"
+          ∷ "D    2    1          "
+          ∷ "D    3    1          "
+          ∷ "D    4    2          "
+          ∷ "D    4    3          "
+          ∷ "U    1    1          "
+          ∷ "O    1    2          "
+          ∷ "O    2    3          "
+          ∷ "P    1    1    2     "
+          ∷ "P    1    2    2     "
+          ∷ "A    1    1          "
+          ∷ [];
+      expected = record { verdict = fine; rows = (1, 0, 1) ∷ []; circle = none };
+    }
+    ∷ record {
+      -- "only H with counts 1 0 0 0: accepted"
+      file = "H    1    0    0    0" ∷ [];
+      expected = record { verdict = fine; rows = []; circle = none };
+    }
+    ∷ record {
+      -- "with 33 labels: 3 at [1, 0]"
+      file = "H   33    0    0    0" ∷ [];
+      expected = record { verdict = refusal 3 1 0; rows = []; circle = none };
+    }
+    ∷ []

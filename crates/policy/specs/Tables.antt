@@ -1,0 +1,104 @@
+-- The tables of a policy in a list of bytes: where each stands, how it is read, and what the lines of a part put into it. Assumes nothing.
+use Prim.Native.Nat.{ℕ, zero, suc, _+_, _*_, _-_, _%_, _≤_, _<_}
+use mathlib.Core.Path.{_≡_}
+use mathlib.Core.List.{List}
+use mathlib.Core.Bool.{Bool, true, false, _&&_, _||_, cond}
+use lib.Dec.{leb, eqb}
+use lib.ListN.{length, getD}
+use Rattle.search.specs.Search.{among, some, first, Among}
+use Rattle.roleset.specs.Row.{member}
+use Rattle.order.specs.Closure.{Relation}
+use Rattle.rolefile.specs.Section.{one, two, three}
+
+-- ---- where the tables start
+
+abbrev pub dominanceAt : ℕ
+dominanceAt = 16
+
+abbrev pub clearancesAt : ℕ
+clearancesAt = 1040
+
+abbrev pub cardLabelsAt : ℕ
+cardLabelsAt = 1296
+
+abbrev pub rLevelsAt : ℕ
+rLevelsAt = 1808
+
+abbrev pub wLevelsAt : ℕ
+wLevelsAt = 1936
+
+abbrev pub seniorsAt : ℕ
+seniorsAt = 2064
+
+abbrev pub assignedAt : ℕ
+assignedAt = 4112
+
+abbrev pub readersAt : ℕ
+readersAt = 12304
+
+abbrev pub writersAt : ℕ
+writersAt = 20496
+
+-- the state's size
+abbrev pub stateSize : ℕ
+stateSize = 65536
+
+-- ---- how they are read
+
+-- two bytes, the lower first
+abbrev pub word : List ℕ → ℕ → ℕ
+word xs at = getD xs at 0 + 256 * getD xs (at + 1) 0
+
+-- thing x's byte in a table of bytes
+abbrev pub byteOf : List ℕ → ℕ → ℕ → ℕ
+byteOf xs at x = getD xs (at + (x - 1)) 0
+
+-- thing x's row in a table of role sets
+abbrev pub rowOf : ℕ → ℕ → ℕ
+rowOf at x = at + 16 * (x - 1)
+
+-- the marks of dominance
+abbrev pub marked : List ℕ → Relation
+marked xs a b = among 32 a && (among 32 b && eqb (getD xs (dominanceAt + (32 * (a - 1) + (b - 1))) 0) 1)
+
+-- every byte but those from a up to b is as it was
+abbrev pub Kept : ℕ → ℕ → List ℕ → List ℕ → Type 0
+Kept a b xs ys = (i : ℕ) → (a ≤ i → b ≤ i) → getD ys i 0 ≡ getD xs i 0
+
+-- ---- what the first m lines of a part put into them
+
+-- a line has the numbers x and y
+unfoldable pub pairs : List ℕ → ℕ → ℕ → ℕ → Bool
+pairs p m x y = some m (λ i. eqb (one p i) x && eqb (two p i) y)
+
+-- a byte for thing x, 0 before: the label of its line, or 255 where it has several
+unfoldable pub noted : ℕ → ℕ → ℕ
+noted old l = cond (eqb old 0) (l % 256) 255
+
+unfoldable pub notes : List ℕ → ℕ → ℕ → ℕ → ℕ
+notes p zero x old = old
+notes p (suc i) x old = cond (eqb (one p (suc i)) x) (noted (notes p i x old) (two p (suc i))) (notes p i x old)
+
+-- no label, or several
+abbrev pub unlabelledByte : ℕ → Bool
+unlabelledByte v = eqb v 0 || eqb v 255
+
+-- a line of mode d for card o has a role whose seniors, itself included, hold r
+unfoldable pub granted : List ℕ → List ℕ → ℕ → ℕ → ℕ → ℕ → Bool
+granted xs p m d o r = some m (λ i. eqb (two p i) o && (eqb (three p i) d && (among 128 (one p i) && member xs (rowOf seniorsAt (one p i)) r)))
+
+-- of the first n cards, one of label l has r in its row of the table at `at`
+unfoldable pub gathered : List ℕ → ℕ → ℕ → ℕ → ℕ → Bool
+gathered xs at n l r = some n (λ o. eqb (byteOf xs cardLabelsAt o) l && member xs (rowOf at o) r)
+
+-- ---- records of what the functions over the tables leave
+
+-- a table of role sets with a line's pair more: row x holds r where a line says so
+pub record Related (at size : ℕ) (said : Relation) (xs ys : List ℕ) : Type 0 where
+  pub rows : (x r : ℕ) → Among size x → Among 128 r → member ys (rowOf at x) r ≡ (member xs (rowOf at x) r || said x r)
+  pub rest : Kept at (at + 16 * size) xs ys
+
+-- a table of bytes: thing x's is now v x
+pub record Bytes (at size : ℕ) (v : ℕ → ℕ) (xs ys : List ℕ) : Type 0 where
+  pub bytes : (x : ℕ) → Among size x → byteOf ys at x ≡ v x
+  pub rest : Kept at (at + size) xs ys

@@ -1,0 +1,229 @@
+-- A field reads as the number n just where its five columns are n in decimal, as blank just where they are blanks, and as bad otherwise; and the number
+-- read is also the columns' last four bits in decimal. Assumes nothing.
+use Prim.Native.Nat.{ℕ, zero, suc, _+_, _*_, _-_, _/_, _%_, _^_, _≤_, _<_}
+use mathlib.Core.Path.{_≡_, refl, sym, ap, subst, _∙_}
+use mathlib.Core.Logic.{_↔_}
+use mathlib.Core.List.{List, [], _∷_, _++_, append-assoc, append-nil}
+use mathlib.Core.Bool.{Bool, true, false, _&&_, cond}
+use native.Mathlib.Omega.{arith}
+use native.Mathlib.Decide.{decLt}
+use lib.Dec.{leb}
+use lib.ListN.{length, getD, replicate, length-append, length-replicate, replicate-append-replicate}
+use borrow.Author.Tests.{leb-true, le-leb, lt-ltb, le-ltb, eqb-true, ne-eqb}
+use Rattle.search.specs.Search.{among}
+use Rattle.search.proofs.Truth.{and-iff, among-iff}
+use Rattle.rolefile.specs.declared.Field.{Field}
+use Rattle.rolefile.specs.declared.Field.the-variants.{Blank, Number, Bad}
+use Rattle.rolefile.specs.Field.{isBlank, isDigit, column, columns, five, fieldAt}
+use Rattle.rolefile.specs.Decimal.{lastDigits, digits, padded, blanks}
+
+isDigit-iff : (b : ℕ) → (isDigit b ≡ true) ↔ ((48 ≤ b) × (b ≤ 57))
+isDigit-iff b = (
+  λ e. let s = and-iff (leb 48 b) (leb b 57) .0 e in (leb-true 48 b (s .0), leb-true b 57 (s .1)),
+  λ w. and-iff (leb 48 b) (leb b 57) .1 (le-leb 48 b (w .0), le-leb b 57 (w .1)),
+)
+
+-- ---- the digits of n, by those of n / 10
+
+-- more places than n has digits change nothing
+enough : (k m n : ℕ) → n < k → n < m → lastDigits k n ≡ lastDigits m n
+unfolding lastDigits
+enough zero m n p q = absurd (omega arith)
+enough (suc k) zero n p q = absurd (omega arith)
+enough (suc k) (suc m) n p q = elim (decLt n 10) [
+  | yes l ↦ rw (lt-ltb n 10 l)
+  | no l ↦ rw (le-ltb n 10 (omega arith), enough k m (n / 10) (omega arith) (omega arith))
+]
+
+single-digit : (n : ℕ) → n < 10 → digits n ≡ (48 + n) ∷ []
+unfolding digits lastDigits
+single-digit n l = rw (lt-ltb n 10 l)
+
+more-digits : (n : ℕ) → 10 ≤ n → digits n ≡ digits (n / 10) ++ ((48 + n % 10) ∷ [])
+unfolding digits lastDigits
+more-digits n l = rw (le-ltb n 10 l, enough n (suc (n / 10)) (n / 10) (omega arith) (omega arith))
+
+few-digits : (k n : ℕ) → n < 10 ^ suc k → length (digits n) ≤ suc k
+few-digits zero n p = rw (single-digit n p) (omega arith)
+few-digits (suc k) n p = elim (decLt n 10) [
+  | yes l ↦ rw (single-digit n l) (omega arith)
+  | no l ↦ rw (more-digits n (omega arith), length-append) (omega (arith, few-digits k (n / 10) (omega arith)))
+]
+
+pub padded-length : (n : ℕ) → n < 100000 → length (padded n) ≡ 5
+unfolding padded
+padded-length n l = simp (length-append, length-replicate) (omega (arith, few-digits 4 n l))
+
+-- ---- what is read is shown
+
+-- the columns cs show what f says: blanks, or blanks and then the digits of a number
+abbrev Shows : List ℕ → Field → Type 0
+Shows cs Blank = (k : ℕ) × (cs ≡ replicate k 32)
+Shows cs (Number n) = (k : ℕ) × (n < 100000) × (cs ≡ replicate k 32 ++ digits n)
+Shows cs Bad = Unit {0}
+
+shown-first : (b : ℕ) → isDigit b ≡ true → digits (b - 48) ≡ b ∷ []
+shown-first b d =
+    let w = isDigit-iff b .0 d in
+    let whole : 48 + (b - 48) ≡ b = omega arith in
+    single-digit (b - 48) (omega arith) ∙ rw whole
+
+shown-next : (n b : ℕ) → 1 ≤ n → isDigit b ≡ true → digits (10 * n + (b - 48)) ≡ digits n ++ (b ∷ [])
+shown-next n b l d =
+    let w = isDigit-iff b .0 d in
+    let front : (10 * n + (b - 48)) / 10 ≡ n = omega arith in
+    let last : 48 + (10 * n + (b - 48)) % 10 ≡ b = omega arith in
+    more-digits (10 * n + (b - 48)) (omega arith) ∙ rw (front, last)
+
+shows-more : (cs : List ℕ) (f : Field) (b : ℕ) → Shows cs f → Shows (cs ++ (b ∷ [])) (column f b)
+unfolding column
+shows-more cs Blank b (k, e) = go (isBlank b) (isDigit b) refl refl
+  where
+    go : (t d : Bool) → isBlank b ≡ t → isDigit b ≡ d → Shows (cs ++ (b ∷ [])) (cond t Blank (cond d (Number (b - 48)) Bad))
+    go true d p q = (k + 1, rw (e, eqb-true b 32 p) (replicate-append-replicate k 1 32))
+    go false true p q = (k, omega (arith, isDigit-iff b .0 q), rw (e, shown-first b q))
+    go false false p q = tt
+shows-more cs (Number n) b (k, l, e) = go (isDigit b && among 9999 n) refl
+  where
+    go : (t : Bool) → (isDigit b && among 9999 n) ≡ t → Shows (cs ++ (b ∷ [])) (cond t (Number (10 * n + (b - 48))) Bad)
+    go true p =
+        let (d, a) = and-iff (isDigit b) (among 9999 n) .0 p in
+        let w = among-iff 9999 n .0 a in
+        (k, omega (arith, isDigit-iff b .0 d), rw (e, shown-next n b (w .0) d, append-assoc))
+    go false p = tt
+shows-more cs Bad b s = tt
+
+shows-all : (done cs : List ℕ) (f : Field) → Shows done f → Shows (done ++ cs) (columns f cs)
+unfolding columns
+shows-all done [] f s = rw append-nil s
+shows-all done (b ∷ cs) f s = rw append-assoc at (shows-all (done ++ (b ∷ [])) cs (column f b) (shows-more done f b s))
+
+shows : (cs : List ℕ) → Shows cs (columns Blank cs)
+shows cs = shows-all [] cs Blank (0, refl)
+
+-- ---- what is shown is read
+
+columns-append : (f : Field) (xs ys : List ℕ) → columns f (xs ++ ys) ≡ columns (columns f xs) ys
+unfolding columns
+columns-append f [] ys = refl
+columns-append f (b ∷ xs) ys = columns-append (column f b) xs ys
+
+blanks-read : (k : ℕ) → columns Blank (replicate k 32) ≡ Blank
+unfolding columns column
+blanks-read zero = refl
+blanks-read (suc k) = blanks-read k
+
+first-read : (n : ℕ) → n < 10 → column Blank (48 + n) ≡ Number n
+unfolding column
+first-read n l =
+    let whole : 48 + n - 48 ≡ n = omega arith in
+    rw (ne-eqb (48 + n) 32 (omega arith), isDigit-iff (48 + n) .1 (omega arith), whole)
+
+next-read : (n : ℕ) → 10 ≤ n → n < 100000 → column (Number (n / 10)) (48 + n % 10) ≡ Number n
+unfolding column
+next-read n l m =
+    let whole : 10 * (n / 10) + (48 + n % 10 - 48) ≡ n = omega arith in
+    rw (isDigit-iff (48 + n % 10) .1 (omega arith), among-iff 9999 (n / 10) .1 (omega arith), whole)
+
+digits-read : (k n : ℕ) → n < k → n < 100000 → columns Blank (digits n) ≡ Number n
+unfolding columns
+digits-read zero n p q = absurd (omega arith)
+digits-read (suc k) n p q = elim (decLt n 10) [
+  | yes l ↦ rw (single-digit n l) (first-read n l)
+  | no l ↦
+      let m : 10 ≤ n = omega arith in
+      rw (more-digits n m, columns-append, digits-read k (n / 10) (omega arith) (omega arith)) (next-read n m q)
+]
+
+padded-read : (n : ℕ) → n < 100000 → columns Blank (padded n) ≡ Number n
+unfolding padded
+padded-read n l = rw (columns-append, blanks-read) (digits-read (suc n) n (omega arith) l)
+
+-- ---- five columns
+
+abbrev IsBad : Field → Type 0
+IsBad Blank = ⊥
+IsBad (Number n) = ⊥
+IsBad Bad = Unit {0}
+
+module _ (cs : List ℕ) (h : length cs ≡ 5) where
+  pub reads-number : (n : ℕ) → (columns Blank cs ≡ Number n) ↔ ((n < 100000) × (cs ≡ padded n))
+  unfolding padded
+  reads-number n = (to, λ (l, e). rw e (padded-read n l))
+    where
+      to : columns Blank cs ≡ Number n → (n < 100000) × (cs ≡ padded n)
+      to e =
+          let (k, l, s) = rw e at (shows cs) in
+          let before : 5 - length (digits n) ≡ k = omega (arith, simp (length-append, length-replicate) at (ap length s)) in
+          (l, rw before s)
+
+  pub reads-blank : (columns Blank cs ≡ Blank) ↔ (cs ≡ blanks)
+  reads-blank = (to, λ e. rw e (blanks-read 5))
+    where
+      to : columns Blank cs ≡ Blank → cs ≡ blanks
+      to e =
+          let (k, s) = rw e at (shows cs) in
+          let all : k ≡ 5 = omega (arith, simp length-replicate at (ap length s)) in
+          rw all at s
+
+  pub reads-bad : (columns Blank cs ≡ Bad) ↔ ((cs ≡ blanks → ⊥) × ((n : ℕ) → n < 100000 → cs ≡ padded n → ⊥))
+  reads-bad = (
+    λ e. (λ s. subst IsBad (sym e ∙ reads-blank .1 s) tt, λ n l s. subst IsBad (sym e ∙ reads-number n .1 (l, s)) tt),
+    only (columns Blank cs) refl,
+  )
+    where
+      only : (f : Field) → columns Blank cs ≡ f → (cs ≡ blanks → ⊥) × ((n : ℕ) → n < 100000 → cs ≡ padded n → ⊥) → f ≡ Bad
+      only Blank e w = absurd (w .0 (reads-blank .0 e))
+      only (Number n) e w = let (l, s) = reads-number n .0 e in absurd (w .1 n l s)
+      only Bad e w = refl
+
+-- ---- a field of a file
+
+module _ (f : List ℕ) (at : ℕ) where
+  pub field-number : (n : ℕ) → (fieldAt f at ≡ Number n) ↔ ((n < 100000) × (five f at ≡ padded n))
+  field-number = reads-number (five f at) refl
+
+  pub field-blank : (fieldAt f at ≡ Blank) ↔ (five f at ≡ blanks)
+  field-blank = reads-blank (five f at) refl
+
+  pub field-bad : (fieldAt f at ≡ Bad) ↔ ((five f at ≡ blanks → ⊥) × ((n : ℕ) → n < 100000 → five f at ≡ padded n → ⊥))
+  field-bad = reads-bad (five f at) refl
+
+-- ---- a number by its columns' last four bits: a blank is 32, the digit 0 is 48, and both are multiples of 16
+
+-- the figures v are the number that f says
+abbrev Worth : Field → ℕ → Type 0
+Worth Blank v = v ≡ 0
+Worth (Number n) v = v ≡ n
+Worth Bad v = Unit {0}
+
+worth-more : (f : Field) (v b : ℕ) → Worth f v → Worth (column f b) (10 * v + b % 16)
+unfolding column
+worth-more Blank v b w = go (isBlank b) (isDigit b) refl refl
+  where
+    go : (t d : Bool) → isBlank b ≡ t → isDigit b ≡ d → Worth (cond t Blank (cond d (Number (b - 48)) Bad)) (10 * v + b % 16)
+    go true d p q = omega (arith, eqb-true b 32 p)
+    go false true p q = omega (arith, isDigit-iff b .0 q)
+    go false false p q = tt
+worth-more (Number n) v b w = go (isDigit b && among 9999 n) refl
+  where
+    go : (t : Bool) → (isDigit b && among 9999 n) ≡ t → Worth (cond t (Number (10 * n + (b - 48))) Bad) (10 * v + b % 16)
+    go true p = omega (arith, isDigit-iff b .0 (and-iff (isDigit b) (among 9999 n) .0 p .0))
+    go false p = tt
+worth-more Bad v b w = tt
+
+-- the figures v and then those of the columns bs
+abbrev figured : ℕ → List ℕ → ℕ
+figured v [] = v
+figured v (b ∷ bs) = figured (10 * v + b % 16) bs
+
+worth-all : (f : Field) (v : ℕ) (bs : List ℕ) → Worth f v → Worth (columns f bs) (figured v bs)
+unfolding columns
+worth-all f v [] w = w
+worth-all f v (b ∷ bs) w = worth-all (column f b) (10 * v + b % 16) bs (worth-more f v b w)
+
+pub figures : (f : List ℕ) (at n : ℕ) → fieldAt f at ≡ Number n
+    → 10000 * (getD f at 0 % 16)
+    + (1000 * (getD f (at + 1) 0 % 16) + (100 * (getD f (at + 2) 0 % 16) + (10 * (getD f (at + 3) 0 % 16) + getD f (at + 4) 0 % 16)))
+    ≡ n
+figures f at n e = omega (arith, rw e at (worth-all Blank 0 (five f at) refl))

@@ -1,0 +1,19 @@
+-- "Each letter's lines are handed on as the part of the file that starts there": the part that starts after j lines has the file's other lines, and
+-- its line k is the file's line j + k. Assumes nothing.
+use Prim.Native.Nat.{ℕ, _+_, _*_, _-_, _≤_}
+use mathlib.Core.Path.{_≡_}
+use mathlib.Core.List.{List}
+use native.Mathlib.Omega.{arith}
+use native.Mathlib.Nat.{add-assoc}
+use lib.ListN.{drop, length-drop}
+use lib.Seq.{getD-drop}
+use Rattle.rolefile.specs.Line.{lineAt, lines, start}
+
+pub part-line : (f : List ℕ) (j k : ℕ) → 1 ≤ k → lineAt (drop (22 * j) f) k ≡ lineAt f (j + k)
+unfolding lineAt
+part-line f j k l =
+    let from : start (j + k) ≡ 22 * j + start k = omega arith in
+    simp (getD-drop, from, add-assoc)
+
+pub part-lines : (f : List ℕ) (j : ℕ) → lines (drop (22 * j) f) ≡ lines f - j
+part-lines f j = rw length-drop (omega arith)

@@ -1,0 +1,196 @@
+-- A line reads as l just where its 22 bytes are l as it is written. Assumes nothing.
+use Prim.Native.Nat.{ℕ, zero, suc, _+_, _≤_}
+use mathlib.Core.Path.{_≡_, refl, sym, ap, ap₂, subst, _∙_}
+use mathlib.Core.Logic.{_↔_}
+use mathlib.Core.List.{List, [], _∷_, _++_}
+use mathlib.Core.Bool.{Bool, true, false, cond, false≢true}
+use native.Mathlib.Omega.{arith}
+use native.Mathlib.Nat.{add-assoc}
+use native.Mathlib.Numerals.{add-one}
+use lib.Dec.{leb, eqb}
+use lib.ListN.{length, getD, take, drop}
+use lib.Seq.{take-at, drop-at, drop-cons}
+use borrow.Author.Tests.{eqb-true, eq-eqb, leb-true, le-leb}
+use Rattle.search.specs.Search.{every, Among}
+use Rattle.search.proofs.Truth.{and-iff}
+use Rattle.search.proofs.Found.{every-at}
+use Rattle.rolefile.specs.declared.Field.{Field}
+use Rattle.rolefile.specs.declared.Field.the-variants.{Blank, Number, Bad}
+use Rattle.rolefile.specs.declared.Line.{Line}
+use Rattle.rolefile.specs.Field.{five, fieldAt}
+use Rattle.rolefile.specs.Line.{letterOf, fits, value, formed, noLine, lineOf, start, lineAt, lines}
+use Rattle.rolefile.specs.Decimal.{letterByte, inUse, columnsOf, written, Held, Writable}
+use Rattle.rolefile.proofs.Decimals.{padded-length, field-number, field-blank}
+
+-- ---- its letter
+
+-- b is the byte of the letter k, where k is one
+abbrev Named : ℕ → ℕ → Type 0
+Named b k = 1 ≤ k → (b ≡ letterByte k) × (k ≤ 7)
+
+named-next : (b x k rest : ℕ) → (b ≡ x → Named b k) → Named b rest → Named b (cond (eqb b x) k rest)
+named-next b x k rest is other = go (eqb b x) refl
+  where
+    go : (t : Bool) → eqb b x ≡ t → Named b (cond t k rest)
+    go true e = is (eqb-true b x e)
+    go false e = other
+
+named : (b : ℕ) → Named b (letterOf b)
+unfolding letterOf letterByte
+named b =
+    named-next b 72 1 _ (λ e w. (e, omega arith))
+    (named-next b 68 2 _ (λ e w. (e, omega arith))
+    (named-next b 83 3 _ (λ e w. (e, omega arith))
+    (named-next b 85 4 _ (λ e w. (e, omega arith))
+    (named-next b 79 5 _ (λ e w. (e, omega arith))
+    (named-next b 80 6 _ (λ e w. (e, omega arith))
+    (named-next b 65 7 _ (λ e w. (e, omega arith)) (λ w. absurd (omega arith))))))))
+
+letter-read : (k : ℕ) → Among 7 k → letterOf (letterByte k) ≡ k
+unfolding every letterOf letterByte
+letter-read k w = eqb-true (letterOf (letterByte k)) k (every-at (λ j. eqb (letterOf (letterByte j)) j) 7 refl k w)
+
+letter-iff : (b k : ℕ) → ((letterOf b ≡ k) × (1 ≤ k)) ↔ ((b ≡ letterByte k) × Among 7 k)
+letter-iff b k = (λ (e, l). let (p, q) = named b (rw e l) in (rw e at p, omega arith), λ (e, w). (rw e (letter-read k w), w .0))
+
+-- ---- its fields
+
+-- the field p is the number n, in use, or blank, without use
+abbrev pub Stands : Bool → Field → ℕ → Type 0
+Stands true p n = p ≡ Number n
+Stands false p n = (p ≡ Blank) × (n ≡ 0)
+
+fits-stands : (used : Bool) (p : Field) → fits used p ≡ true → Stands used p (value p)
+fits-stands true Blank e = absurd (false≢true e)
+fits-stands true (Number n) e = refl
+fits-stands true Bad e = absurd (false≢true e)
+fits-stands false Blank e = (refl, refl)
+fits-stands false (Number n) e = absurd (false≢true e)
+fits-stands false Bad e = absurd (false≢true e)
+
+stands-fits : (used : Bool) (p : Field) (n : ℕ) → Stands used p n → (fits used p ≡ true) × (value p ≡ n)
+stands-fits true p n e = rw e (refl, refl)
+stands-fits false p n (e, z) = rw (e, z) (refl, refl)
+
+stands-iff : (used : Bool) (f : List ℕ) (at n : ℕ) → Stands used (fieldAt f at) n ↔ ((five f at ≡ columnsOf used n) × Held used n)
+stands-iff true f at n = (λ e. let (l, s) = field-number f at n .0 e in (s, l), λ (s, l). field-number f at n .1 (l, s))
+stands-iff false f at n = (λ (e, z). (field-blank f at .0 e, z), λ (s, z). (field-blank f at .1 s, z))
+
+five-long : (used : Bool) (n : ℕ) → Held used n → length (columnsOf used n) ≡ 5
+five-long true n h = padded-length n h
+five-long false n h = refl
+
+-- a field and then the rest of its line
+split : (used : Bool) (f : List ℕ) (at n : ℕ) {rest more : List ℕ} → Held used n → five f at ++ rest ≡ columnsOf used n ++ more
+    → Stands used (fieldAt f at) n × (rest ≡ more)
+split used f at n {rest} {more} h e =
+    let same : five f at ≡ columnsOf used n = ap (take 5) e ∙ take-at (columnsOf used n) more 5 (five-long used n h) in
+    (stands-iff used f at n .1 (same, h), ap (drop 5) e ∙ drop-at (columnsOf used n) more 5 (five-long used n h))
+
+-- ---- the line
+
+-- a letter, a last byte and four fields make the line l
+pub record Makes (k last : ℕ) (p q r s : Field) (l : Line) : Type 0 where
+  pub letter : k ≡ l .letter
+  pub some : 1 ≤ l .letter
+  pub end : last ≡ 10
+  pub a : p ≡ Number (l .a)
+  pub b : q ≡ Number (l .b)
+  pub c : Stands (inUse 3 (l .letter)) r (l .c)
+  pub d : Stands (inUse 4 (l .letter)) s (l .d)
+
+module _ (k last : ℕ) (p q r s : Field) (l : Line) where
+  makes : (lineOf k last p q r s ≡ l) × (1 ≤ l .letter) → Makes k last p q r s l
+  unfolding lineOf formed
+  makes (is, m) = go (formed k last p q r s) refl is
+    where
+      go : (t : Bool) → formed k last p q r s ≡ t
+          → cond t (record { letter = k; a = value p; b = value q; c = value r; d = value s }) noLine ≡ l → Makes k last p q r s l
+      go true e same =
+          let (e₁, t₁) = and-iff (leb 1 k) _ .0 e in
+          let (e₂, t₂) = and-iff (eqb last 10) _ .0 t₁ in
+          let (e₃, t₃) = and-iff (fits true p) _ .0 t₂ in
+          let (e₄, t₄) = and-iff (fits true q) _ .0 t₃ in
+          let (e₅, e₆) = and-iff (fits (inUse 3 k) r) _ .0 t₄ in
+          subst (Makes k last p q r s) same record {
+            letter = refl;
+            some = leb-true 1 k e₁;
+            end = eqb-true last 10 e₂;
+            a = fits-stands true p e₃;
+            b = fits-stands true q e₄;
+            c = fits-stands (inUse 3 k) r e₅;
+            d = fits-stands (inUse 4 k) s e₆;
+          }
+      go false e same = absurd (omega (arith, ap (λ x. x .letter) same))
+
+  made : Makes k last p q r s l → (lineOf k last p q r s ≡ l) × (1 ≤ l .letter)
+  unfolding lineOf formed
+  made w =
+      let (e₁, a) = stands-fits true p (l .a) (w .a) in
+      let (e₂, b) = stands-fits true q (l .b) (w .b) in
+      let (e₃, c) = stands-fits (inUse 3 (l .letter)) r (l .c) (w .c) in
+      let (e₄, d) = stands-fits (inUse 4 (l .letter)) s (l .d) (w .d) in
+      let good : formed (l .letter) last p q r s ≡ true = rw (le-leb 1 (l .letter) (w .some), eq-eqb last 10 (w .end), e₁, e₂, e₃, e₄) in
+      (rw (w .letter, good) (λ i. record { letter = l .letter; a = a i; b = b i; c = c i; d = d i }), w .some)
+
+-- the line of f that starts at i is l
+abbrev pub Reads : List ℕ → ℕ → Line → Type 0
+Reads f i l = Makes (letterOf (getD f i 0)) (getD f (i + 21) 0) (fieldAt f (i + 1)) (fieldAt f (i + 6)) (fieldAt f (i + 11)) (fieldAt f (i + 16)) l
+
+pub line-iff : (f : List ℕ) (k : ℕ) (l : Line) → ((lineAt f k ≡ l) × (1 ≤ l .letter)) ↔ Reads f (start k) l
+unfolding lineAt
+line-iff f k l =
+    let i = start k in
+    let letter = letterOf (getD f i 0) in
+    let last = getD f (i + 21) 0 in
+    let p = fieldAt f (i + 1) in
+    let q = fieldAt f (i + 6) in
+    let r = fieldAt f (i + 11) in
+    let s = fieldAt f (i + 16) in
+    (makes letter last p q r s l, made letter last p q r s l)
+
+-- ---- its bytes
+
+-- n bytes of f from i on
+abbrev bytes : List ℕ → ℕ → ℕ → List ℕ
+bytes f i zero = []
+bytes f i (suc n) = getD f i 0 ∷ bytes f (i + 1) n
+
+take-bytes : (f : List ℕ) (i n : ℕ) → i + n ≤ length f → take n (drop i f) ≡ bytes f i n
+take-bytes f i zero h = refl
+take-bytes f i (suc n) h = rw (drop-cons f i 0 (omega arith), ← (add-one i), take-bytes f (i + 1) n (omega arith))
+
+module _ (f : List ℕ) (i : ℕ) (l : Line) (h : i + 22 ≤ length f) where
+  line-bytes :
+      take 22 (drop i f) ≡ getD f i 0 ∷ (five f (i + 1) ++ (five f (i + 6) ++ (five f (i + 11) ++ (five f (i + 16) ++ (getD f (i + 21) 0 ∷ [])))))
+  line-bytes = take-bytes f i 22 h ∙ simp add-assoc
+
+  to-bytes : Reads f i l → (take 22 (drop i f) ≡ written l) × Writable l
+  unfolding written
+  to-bytes w =
+      let (e₀, h₀) = letter-iff (getD f i 0) (l .letter) .0 (w .letter, w .some) in
+      let (e₁, h₁) = stands-iff true f (i + 1) (l .a) .0 (w .a) in
+      let (e₂, h₂) = stands-iff true f (i + 6) (l .b) .0 (w .b) in
+      let (e₃, h₃) = stands-iff (inUse 3 (l .letter)) f (i + 11) (l .c) .0 (w .c) in
+      let (e₄, h₄) = stands-iff (inUse 4 (l .letter)) f (i + 16) (l .d) .0 (w .d) in
+      let tail = ap (λ b. b ∷ []) (w .end) in (
+        line-bytes ∙ ap₂ _∷_ e₀ (ap₂ _++_ e₁ (ap₂ _++_ e₂ (ap₂ _++_ e₃ (ap₂ _++_ e₄ tail)))),
+        record { letter = h₀; a = h₁; b = h₂; c = h₃; d = h₄ },
+      )
+
+  from-bytes : (take 22 (drop i f) ≡ written l) × Writable l → Reads f i l
+  unfolding written
+  from-bytes (e, w) =
+      let all = sym line-bytes ∙ e in
+      let (letter, some) = letter-iff (getD f i 0) (l .letter) .1 (ap (λ x. getD x 0 0) all, w .letter) in
+      let (a, t₁) = split true f (i + 1) (l .a) (w .a) (ap (drop 1) all) in
+      let (b, t₂) = split true f (i + 6) (l .b) (w .b) t₁ in
+      let (c, t₃) = split (inUse 3 (l .letter)) f (i + 11) (l .c) (w .c) t₂ in
+      let (d, t₄) = split (inUse 4 (l .letter)) f (i + 16) (l .d) (w .d) t₃ in
+      record { letter = letter; some = some; end = ap (λ x. getD x 0 0) t₄; a = a; b = b; c = c; d = d }
+
+pub reads-line : (f : List ℕ) (k : ℕ) (l : Line) → 1 ≤ k → k ≤ lines f
+    → ((lineAt f k ≡ l) × (1 ≤ l .letter)) ↔ ((take 22 (drop (start k) f) ≡ written l) × Writable l)
+reads-line f k l p q =
+    let h : start k + 22 ≤ length f = omega arith in
+    (λ e. to-bytes f (start k) l h (line-iff f k l .0 e), λ w. line-iff f k l .1 (from-bytes f (start k) l h w))

@@ -1,0 +1,58 @@
+-- How numbers and lines are written: "All numbers in the file are decimal. A line is 22 bytes: one letter, four fields of 5 columns, and byte 10. A
+-- number is right-justified with blanks before it, has no leading zeros, and 0 is the single digit. A field without use is five blanks." Assumes nothing.
+use Prim.Native.Nat.{ℕ, zero, suc, _+_, _-_, _/_, _%_, _<_}
+use mathlib.Core.Path.{_≡_}
+use mathlib.Core.List.{List, [], _∷_, _++_}
+use mathlib.Core.Bool.{Bool, true, false, cond}
+use lib.Dec.{leb, ltb}
+use lib.ListN.{length, getD, replicate}
+use Rattle.search.specs.Search.{Among}
+use Rattle.rolefile.specs.declared.Line.{Line}
+use Rattle.rolefile.specs.Line.{fields}
+
+-- the last k digits of n; 48 is the byte of the digit 0
+unfoldable pub lastDigits : ℕ → ℕ → List ℕ
+lastDigits zero n = []
+lastDigits (suc k) n = cond (ltb n 10) ((48 + n) ∷ []) (lastDigits k (n / 10) ++ ((48 + n % 10) ∷ []))
+
+-- n has no more than n + 1 digits
+unfoldable pub digits : ℕ → List ℕ
+digits n = lastDigits (suc n) n
+
+-- the five columns of a number, and of a field without use; 32 is the byte of a blank
+unfoldable pub padded : ℕ → List ℕ
+padded n = replicate (5 - length (digits n)) 32 ++ digits n
+
+abbrev pub blanks : List ℕ
+blanks = replicate 5 32
+
+-- ---- lines
+
+-- the byte of a letter by its row in the document's table: H, D, S, U, O, P, A
+unfoldable pub letterByte : ℕ → ℕ
+letterByte k = getD (72 ∷ 68 ∷ 83 ∷ 85 ∷ 79 ∷ 80 ∷ 65 ∷ []) (k - 1) 0
+
+-- field number j of a line of the letter k has a use
+abbrev pub inUse : ℕ → ℕ → Bool
+inUse j k = leb j (fields k)
+
+abbrev pub columnsOf : Bool → ℕ → List ℕ
+columnsOf used n = cond used (padded n) blanks
+
+unfoldable pub written : Line → List ℕ
+written l =
+    letterByte (l .letter)
+    ∷ (padded (l .a) ++ (padded (l .b) ++ (columnsOf (inUse 3 (l .letter)) (l .c) ++ (columnsOf (inUse 4 (l .letter)) (l .d) ++ (10 ∷ [])))))
+
+-- five columns hold the number of a field in use; that of a field without use is 0
+abbrev pub Held : Bool → ℕ → Type 0
+Held true n = n < 100000
+Held false n = n ≡ 0
+
+-- a line that can be written
+pub record Writable (l : Line) : Type 0 where
+  pub letter : Among 7 (l .letter)
+  pub a : l .a < 100000
+  pub b : l .b < 100000
+  pub c : Held (inUse 3 (l .letter)) (l .c)
+  pub d : Held (inUse 4 (l .letter)) (l .d)
