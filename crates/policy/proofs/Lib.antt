@@ -1,1 +1,4 @@
 pub mod Cases
+pub mod Levels
+pub mod Checks
+pub mod Outcomes

@@ -59,7 +59,7 @@ LabelOrder f = GoodOrder (labels f) (over f) (dominates f)
 abbrev pub AssignedTo : List ℕ → ℕ → Type 0
 AssignedTo f k = (i : ℕ) → Among k i → lineAt f i .letter ≡ A → Assigned f (lineAt f i .a) (lineAt f i .b)
 
--- what holds when the assignments are looked at
+-- what holds when seniority is looked at
 pub record Ordered (f : List ℕ) : Type 0 where
   pub form : WellFormed f
   pub dominance : LabelOrder f
@@ -72,7 +72,7 @@ pub record Accepted (f : List ℕ) : Type 0 where
 
 -- ---- the outcomes
 
--- line k is the first that is not good, and why
+-- why line k is not good
 pub data LineRefused (f : List ℕ) (k : ℕ) : ℕ → Type 0 where
   noHeader : k ≡ 1 → (lineAt f k .letter ≡ H → ⊥) → LineRefused f k 2
   badCounts : k ≡ 1 → lineAt f k .letter ≡ H → (GoodCounts (lineAt f k) → ⊥) → LineRefused f k 3

@@ -102,3 +102,9 @@ pub record Related (at size : ℕ) (said : Relation) (xs ys : List ℕ) : Type 0
 pub record Bytes (at size : ℕ) (v : ℕ → ℕ) (xs ys : List ℕ) : Type 0 where
   pub bytes : (x : ℕ) → Among size x → byteOf ys at x ≡ v x
   pub rest : Kept at (at + size) xs ys
+
+-- the readers' and the writers' rows with what `said` gives for mode 1 and mode 2
+pub record Granted (said : ℕ → ℕ → ℕ → Bool) (xs ys : List ℕ) : Type 0 where
+  pub readers : (o r : ℕ) → Among 512 o → Among 128 r → member ys (rowOf readersAt o) r ≡ (member xs (rowOf readersAt o) r || said 1 o r)
+  pub writers : (o r : ℕ) → Among 512 o → Among 128 r → member ys (rowOf writersAt o) r ≡ (member xs (rowOf writersAt o) r || said 2 o r)
+  pub rest : Kept readersAt 28688 xs ys

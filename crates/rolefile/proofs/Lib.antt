@@ -1,5 +1,8 @@
 pub mod Reading
 pub mod Verdicts
+pub mod Decides
+pub mod Counts
+pub mod Formed
 pub mod Scanning
 pub mod Decimals
 pub mod Written

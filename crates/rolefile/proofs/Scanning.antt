@@ -1,18 +1,18 @@
--- Scanning the lines: what a line's verdict is where the line before is at hand, and that a line with nothing to refuse is fine. Assumes nothing.
+-- Scanning the lines: what a line's verdict is where the line before is at hand, and the length before the lines. Assumes nothing.
 use Prim.Native.Nat.{ℕ, _+_, _-_, _%_, _≤_, _<_}
 use mathlib.Core.Path.{_≡_, refl, sym, _∙_}
 use mathlib.Core.List.{List}
-use mathlib.Core.Bool.{Bool, true, false, cond}
+use mathlib.Core.Bool.{true, false}
 use native.Mathlib.Omega.{arith}
-use lib.Dec.{eqb, ltb, leb}
+use lib.Dec.{eqb, leb}
 use lib.ListN.{length}
 use borrow.Author.Tests.{eqb-true, eq-eqb, ne-eqb, le-leb, lt-leb}
 use Rattle.search.proofs.Truth.{and-iff, untrue, both}
 use Rattle.rolefile.specs.declared.Line.{Line}
-use Rattle.rolefile.specs.declared.Verdict.{Verdict}
-use Rattle.rolefile.specs.Line.{H, lineAt, lines}
-use Rattle.rolefile.specs.Form.{fine, refusal, unless, sized, counted, ranged, rises, headVerdict, bodyVerdict, lineVerdict, scan, linesVerdict}
-use Rattle.rolefile.proofs.Verdicts.{scan-fine, scan-yet, scan-found, scan-more}
+use Rattle.rolefile.specs.Line.{lineAt, lines}
+use Rattle.rolefile.specs.Form.{fine, refusal, sized, headVerdict, bodyVerdict, lineVerdict, scan, linesVerdict}
+use Rattle.rolefile.proofs.Verdicts.{scan-clean, scan-yet, scan-found, scan-more}
+use Rattle.rolefile.proofs.Formed.{line-clean}
 
 -- line i + 1 after line i
 pub next-line : (f : List ℕ) (i : ℕ) (h p l : Line) → 1 ≤ i → h ≡ lineAt f 1 → p ≡ lineAt f i → l ≡ lineAt f (i + 1)
@@ -22,34 +22,9 @@ next-line f i h p l w eh ep el =
     let q : i + 1 - 1 ≡ i = omega arith in
     rw (ne-eqb (i + 1) 1 (λ e. omega arith), q, eh, ep, el)
 
--- no number, no place
-Clean : Verdict → Type 0
-Clean v = v .number ≡ 0 → v ≡ fine
-
-clean-unless : (t : Bool) (n p q : ℕ) (rest : Verdict) → 1 ≤ n → Clean rest → Clean (unless t (refusal n p q) rest)
-unfolding Clean
-clean-unless true n p q rest l h = h
-clean-unless false n p q rest l h = λ e. absurd (omega arith)
-
-clean-fine : Clean fine
-unfolding Clean
-clean-fine = λ e. refl
-
-clean-line : (f : List ℕ) (k : ℕ) → Clean (lineVerdict f k)
-unfolding lineVerdict headVerdict bodyVerdict
-clean-line f k = go (eqb k 1)
-  where
-    go : (b : Bool) → Clean (cond b (headVerdict (lineAt f 1)) (bodyVerdict (lineAt f 1) (lineAt f (k - 1)) k (lineAt f k)))
-    go true =
-        clean-unless (eqb (lineAt f 1 .letter) H) 2 1 0 _ (omega arith) (clean-unless (counted (lineAt f 1)) 3 1 0 _ (omega arith) clean-fine)
-    go false =
-        clean-unless (ltb H (lineAt f k .letter)) 2 k 0 _ (omega arith)
-        (clean-unless (ranged (lineAt f 1) (lineAt f k)) 4 k 0 _ (omega arith)
-        (clean-unless (rises (lineAt f (k - 1)) (lineAt f k)) 5 k 0 _ (omega arith) clean-fine))
-
+-- lines with nothing to refuse are fine
 pub lines-fine : (f : List ℕ) (n : ℕ) → scan n (lineVerdict f) .number ≡ 0 → fine ≡ scan n (lineVerdict f)
-unfolding Clean
-lines-fine f n e = sym (scan-fine (lineVerdict f) n (λ k w. clean-line f k) e)
+lines-fine f n e = sym (scan-clean (lineVerdict f) n (λ k w. line-clean f k) e)
 
 -- ---- the length first
 

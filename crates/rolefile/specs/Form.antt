@@ -72,7 +72,7 @@ rises p l = before (p .letter) (l .letter) (before (p .a) (l .a) (before (p .b) 
 unfoldable pub headVerdict : Line → Verdict
 headVerdict l = unless (eqb (l .letter) H) (refusal 2 1 0) (unless (counted l) (refusal 3 1 0) fine)
 
--- line k after line p, under the counts h: a letter that is not H, its numbers, its place after the line before
+-- line k after line p, under the counts h: a letter, and not H; its numbers; its place after the line before
 unfoldable pub bodyVerdict : Line → Line → ℕ → Line → Verdict
 bodyVerdict h p k l =
     unless (ltb H (l .letter)) (refusal 2 k 0) (unless (ranged h l) (refusal 4 k 0) (unless (rises p l) (refusal 5 k 0) fine))

@@ -1,0 +1,160 @@
+-- What each check of the policy decides: circles (11 and 13, for any relation), pairs without a bound (12), and assignments (14 to 16).
+-- Assumes nothing.
+use Prim.Native.Nat.{ℕ, suc, _<_}
+use mathlib.Core.Path.{_≡_, refl, _∙_}
+use mathlib.Core.Logic.{inl, inr, ⊎-elim}
+use mathlib.Core.List.{List}
+use mathlib.Core.Bool.{Bool, true, false, cond}
+use native.Mathlib.Omega.{arith}
+use lib.Dec.{eqb}
+use borrow.Author.Tests.{eqb-true, eq-eqb}
+use Rattle.search.proofs.Truth.{untrue, both}
+use Rattle.order.specs.Closure.{Relation, path, closure, circle, OnCircle, PartialOrder}
+use Rattle.order.specs.Bound.{turned, unjoined, lonely, AllJoined, FirstPair}
+use Rattle.order.proofs.Closure.{circle-finds, circle-none}
+use Rattle.order.proofs.Bound.{unjoined-none, unjoined-first}
+use Rattle.rolefile.specs.declared.Verdict.{Verdict}
+use Rattle.rolefile.specs.Line.{A, lineAt}
+use Rattle.rolefile.specs.Form.{fine, refusal, found}
+use Rattle.rolefile.specs.Said.{labels, clearance}
+use Rattle.rolefile.proofs.Verdicts.{Clean, unless-clean}
+use Rattle.rolefile.proofs.Decides.{Decides, Else, Fails, LowestOf, decides-as}
+use Rattle.rolefile.proofs.Decides.{cond-decides, fine-decides, test-decides, unless-decides, found-decides, search-decides}
+use Rattle.policy.specs.Policy.{dominates, mayAt, rLevel, wLevel, passes, isDefined}
+use Rattle.policy.specs.Verdict.{assignVerdict, assignmentVerdict}
+use Rattle.policy.specs.Accepted.{ReadsUnder, WritesOver, NoWriteLevel, Assigned, GoodOrder, AssignRefused, noLevel, readsMore, writesLess}
+use Rattle.policy.proofs.Levels.{turned-order, defined-iff, boundless, passing-bounded, passes-iff}
+
+-- ---- 11 and 13
+
+abbrev pub OnCircleFirst : ℕ → Relation → ℕ → Type 0
+OnCircleFirst n e = LowestOf (OnCircle n e) (λ a. OnCircle n e a → ⊥) n
+
+abbrev pub CircleRefusal : ℕ → Relation → ℕ → Verdict → Type 0
+CircleRefusal n e number v = (a : ℕ) × OnCircleFirst n e a × (v ≡ refusal number a 0)
+
+pub circle-decides : (n : ℕ) (e : Relation) (number : ℕ)
+    → Decides (found (circle n e) (refusal (suc number) (circle n e) 0)) (GoodOrder n e (closure n e)) (CircleRefusal n e (suc number))
+circle-decides n e number =
+    search-decides n (λ a. path n e a a) (
+      λ z. let (o, i) = circle-none e n .0 z in record { order = o; strict = i },
+      λ g. circle-none e n .1 (g .order, g .strict),
+    )
+    (circle-finds e n)
+    (λ a w. (
+      λ q c. both (circle-finds e n a w .1 c) q,
+      λ h. untrue (path n e a a) (λ p. h (circle-finds e n a w .0 p)),
+    ))
+    (λ a. refusal (suc number) a 0) (λ a. omega arith)
+
+-- ---- 12
+
+module _ (n : ℕ) (ge : Relation) where
+  -- there is only one first pair
+  first-pair : (a b c d : ℕ) → FirstPair n ge a b → FirstPair n ge c d → (a ≡ c) × (b ≡ d)
+  first-pair a b c d h g =
+      let l = lower a b c d h g in
+      let m = lower c d a b g h in
+      let i : c ≡ a = omega arith in
+      let k : FirstPair n ge a d = rw i at g in
+      let p = higher a b d h k in
+      let q = higher a d b k h in
+      omega arith
+    where
+      lower : (a b c d : ℕ) → FirstPair n ge a b → FirstPair n ge c d → a < c → ⊥
+      lower a b c d h g l = h .apart (g .earlier a b (h .lower) (h .higher) (h .rising) l)
+
+      higher : (a b d : ℕ) → FirstPair n ge a b → FirstPair n ge a d → b < d → ⊥
+      higher a b d h g l = h .apart (g .sooner b (h .higher) (h .rising) l)
+
+  abbrev pub PairRefusal : Verdict → Type 0
+  PairRefusal v = (a : ℕ) × (b : ℕ) × FirstPair n ge a b × (v ≡ refusal 12 a b)
+
+  pub pair-decides : PartialOrder n ge
+      → Decides (found (unjoined n ge) (refusal 12 (unjoined n ge) (lonely n ge (unjoined n ge)))) (AllJoined n ge) PairRefusal
+  pair-decides o =
+      decides-as (found-decides low (refusal 12 low high) (omega arith)) (unjoined-none n ge o)
+      (λ v. (
+        λ (z, e). (low, high, pair z, e),
+        λ (a, b, h, e).
+            let z : low ≡ 0 → ⊥ = λ z. h .apart (unjoined-none n ge o .0 z a b (h .lower) (h .higher)) in
+            let (p, q) = first-pair a b low high h (pair z) in
+            (z, e ∙ rw (p, q)),
+      ))
+    where
+      low : ℕ
+      low = unjoined n ge
+
+      high : ℕ
+      high = lonely n ge low
+
+      pair : (low ≡ 0 → ⊥) → FirstPair n ge low high
+      pair z = unjoined-first n ge low (omega arith) refl
+
+-- ---- 14 to 16
+
+abbrev pub AssignRefusal : List ℕ → ℕ → ℕ → Verdict → Type 0
+AssignRefusal f u r v = (n : ℕ) × AssignRefused f u r n × (v ≡ refusal n u r)
+
+-- for line i, where it is an assignment
+abbrev pub AssignmentRefusal : List ℕ → ℕ → Verdict → Type 0
+AssignmentRefusal f i v = (lineAt f i .letter ≡ A) × AssignRefusal f (lineAt f i .a) (lineAt f i .b) v
+
+abbrev pub GoodAssignment : List ℕ → ℕ → Type 0
+GoodAssignment f i = lineAt f i .letter ≡ A → Assigned f (lineAt f i .a) (lineAt f i .b)
+
+module _ (f : List ℕ) (o : PartialOrder (labels f) (dominates f)) where
+  assign-decides : (u r : ℕ) → Decides (assignVerdict f u r) (Assigned f u r) (AssignRefusal f u r)
+  unfolding assignVerdict rLevel wLevel
+  assign-decides u r =
+      decides-as
+      (unless-decides (defined-iff (labels f) (turned (dominates f)) (mayAt f 2 r)) (refusal 14 u r) (omega arith) (λ d.
+      unless-decides (passes-iff (labels f) (dominates f) (mayAt f 1 r) o (λ l. dominates f (clearance f u) l)) (refusal 15 u r) (omega arith) (λ p.
+      test-decides (passes-iff (labels f) (turned (dominates f)) (mayAt f 2 r) (turned-order o) writes) (refusal 16 u r) (omega arith)))) (
+        λ (d, (p, q)). record { reads = p; writes = q },
+        λ a. (passing-bounded (labels f) (turned (dominates f)) (mayAt f 2 r) writes (a .writes), (a .reads, a .writes)),
+      )
+      (λ v. (to v, λ (n, b, e). of b v e))
+    where
+      writes : ℕ → Bool
+      writes l = dominates f l (clearance f u)
+
+      Why : Verdict → Type 0
+      Why = Else (Fails (NoWriteLevel f r → ⊥) (refusal 14 u r)) (NoWriteLevel f r → ⊥)
+          (Else (Fails (ReadsUnder f u r) (refusal 15 u r)) (ReadsUnder f u r) (Fails (WritesOver f u r) (refusal 16 u r)))
+
+      to : (v : Verdict) → Why v → AssignRefusal f u r v
+      to v (inl (d, e)) = (14, noLevel (boundless (labels f) (turned (dominates f)) (mayAt f 2 r) d), e)
+      to v (inr (d, inl (h, e))) = (15, readsMore d h, e)
+      to v (inr (d, inr (p, (h, e)))) = (16, writesLess d p h, e)
+
+      of : {n : ℕ} → AssignRefused f u r n → (v : Verdict) → v ≡ refusal n u r → Why v
+      of (noLevel b) v e = inl (λ d. d b, e)
+      of (readsMore d h) v e = inr (d, inl (h, e))
+      of (writesLess d p h) v e = inr (d, inr (p, (h, e)))
+
+  pub assignment-decides : (i : ℕ) → Decides (assignmentVerdict f i) (GoodAssignment f i) (AssignmentRefusal f i)
+  unfolding assignmentVerdict
+  assignment-decides i =
+      decides-as
+      (cond-decides (assign-decides (lineAt f i .a) (lineAt f i .b)) (eqb-true (lineAt f i .letter) A, eq-eqb (lineAt f i .letter) A) fine-decides)
+      (λ (g, u). g, λ g. (g, λ n. tt))
+      (λ x. (⊎-elim (λ r. r) (λ (n, none). absurd none), inl))
+
+-- whatever dominance is, the number 0 stands with no place
+pub assignment-clean : (f : List ℕ) (i : ℕ) → Clean (assignmentVerdict f i)
+unfolding assignmentVerdict assignVerdict
+assignment-clean f i = go (eqb (lineAt f i .letter) A)
+  where
+    u : ℕ
+    u = lineAt f i .a
+
+    r : ℕ
+    r = lineAt f i .b
+
+    go : (b : Bool) → Clean (cond b (assignVerdict f u r) fine)
+    go true =
+        unless-clean (isDefined (wLevel f r)) (refusal 14 u r) (omega arith)
+        (unless-clean (passes (λ l. dominates f (clearance f u) l) (rLevel f r)) (refusal 15 u r) (omega arith)
+        (unless-clean (passes (λ l. dominates f l (clearance f u)) (wLevel f r)) (refusal 16 u r) (omega arith) (λ e. refl)))
+    go false = λ e. refl

@@ -1,0 +1,90 @@
+-- A level as a property: free where the set is empty, its least upper bound where it has one, and else undefined; and which levels pass.
+-- Assumes nothing.
+use Prim.Native.Nat.{ℕ, zero, suc, _≤_}
+use mathlib.Core.Path.{_≡_, refl}
+use mathlib.Core.Logic.{_↔_, inl, inr, ⊎-elim}
+use mathlib.Core.Bool.{Bool, true, false, cond, false≢true, true≢false}
+use native.Mathlib.Omega.{arith}
+use Rattle.search.specs.Search.{some}
+use Rattle.search.proofs.Truth.{untrue, both}
+use Rattle.search.proofs.Found.{some-iff}
+use Rattle.order.specs.Closure.{Relation, PartialOrder}
+use Rattle.order.specs.Bound.{lub, turned, IsLub}
+use Rattle.order.proofs.Bound.{lub-none, lub-is, lub-iff}
+use Rattle.policy.specs.declared.Level.{Level}
+use Rattle.policy.specs.declared.Level.the-variants.{Free, Label, Undefined}
+use Rattle.policy.specs.Policy.{levelAt, level, passes, isDefined}
+use Rattle.policy.specs.Accepted.{Some, Boundless, Passing}
+
+pub turned-order : {n : ℕ} {ge : Relation} → PartialOrder n ge → PartialOrder n (turned ge)
+turned-order o = record {
+  reflexive = o .reflexive;
+  transitive = λ a b c u v w p q. o .transitive c b a w v u q p;
+  antisymmetric = λ a b u v p q. o .antisymmetric a b u v q p;
+}
+
+module _ (n : ℕ) (ge : Relation) (s : ℕ → Bool) where
+  -- what each level says of the set
+  abbrev pub Tells : Level → Type 0
+  Tells Free = Some n s → ⊥
+  Tells (Label c) = Some n s × IsLub n ge s c
+  Tells Undefined = Boundless n ge s
+
+  pub level-tells : Tells (level n ge s)
+  unfolding level
+  level-tells = go (some n s) refl (lub n ge s) refl
+    where
+      go : (b : Bool) → some n s ≡ b → (c : ℕ) → lub n ge s ≡ c → Tells (cond b (levelAt c) Free)
+      go false e c q = λ h. both (some-iff s n .1 h) e
+      go true e zero q = (some-iff s n .0 e, lub-none n ge s .0 q)
+      go true e (suc c) q = (some-iff s n .0 e, lub-is n ge s (suc c) (omega arith) q)
+
+  pub level-free : (level n ge s ≡ Free) ↔ (Some n s → ⊥)
+  unfolding level
+  level-free = (λ e. rw e at level-tells, λ none. rw (untrue (some n s) (λ e. none (some-iff s n .0 e))))
+
+  pub level-undefined : (level n ge s ≡ Undefined) ↔ Boundless n ge s
+  unfolding level
+  level-undefined = (λ e. rw e at level-tells, λ (h, none). rw (some-iff s n .1 h, lub-none n ge s .1 none))
+
+  pub undefined-iff : (isDefined (level n ge s) ≡ false) ↔ Boundless n ge s
+  undefined-iff = (go (level n ge s) level-tells, λ b. rw (level-undefined .1 b))
+    where
+      go : (l : Level) → Tells l → isDefined l ≡ false → Boundless n ge s
+      go Free t e = absurd (true≢false e)
+      go (Label c) t e = absurd (true≢false e)
+      go Undefined t e = t
+
+  pub defined-iff : (isDefined (level n ge s) ≡ true) ↔ (Boundless n ge s → ⊥)
+  defined-iff = (λ e b. both e (undefined-iff .1 b), λ h. go (isDefined (level n ge s)) (λ e. h (undefined-iff .0 e)))
+    where
+      go : (b : Bool) → (b ≡ false → ⊥) → b ≡ true
+      go true h = refl
+      go false h = absurd (h refl)
+
+  -- it can be told whether a set is boundless
+  pub boundless : ((Boundless n ge s → ⊥) → ⊥) → Boundless n ge s
+  boundless h = undefined-iff .0 (untrue (isDefined (level n ge s)) (λ e. h (defined-iff .0 e)))
+
+  pub passing-bounded : (p : ℕ → Bool) → Passing n ge s p → Boundless n ge s → ⊥
+  passing-bounded p h (some, none) = ⊎-elim (λ empty. empty some) (λ (c, i, b, e). none c b) h
+
+  module _ (o : PartialOrder n ge) where
+    pub level-label : (c : ℕ) → (level n ge s ≡ Label c) ↔ (Some n s × IsLub n ge s c)
+    unfolding level
+    level-label c = (λ e. rw e at level-tells, λ (h, b). rw (some-iff s n .1 h, lub-iff n ge s o c (b .inside .0) .1 b) (at c (b .inside .0)))
+      where
+        at : (c : ℕ) → 1 ≤ c → levelAt c ≡ Label c
+        at zero l = absurd (omega arith)
+        at (suc c) l = refl
+
+    pub passes-iff : (p : ℕ → Bool) → (passes p (level n ge s) ≡ true) ↔ Passing n ge s p
+    passes-iff p = (
+      go (level n ge s) level-tells,
+      ⊎-elim (λ none. rw (level-free .1 none)) (λ (c, h, b, e). rw (level-label c .1 (h, b)) e),
+    )
+      where
+        go : (l : Level) → Tells l → passes p l ≡ true → Passing n ge s p
+        go Free t e = inl t
+        go (Label c) (h, b) e = inr (c, h, b, e)
+        go Undefined t e = absurd (false≢true e)

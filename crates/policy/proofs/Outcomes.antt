@@ -1,0 +1,142 @@
+-- The verdict on a file means what it says, place included, and nothing else does: each file has just one outcome. Assumes nothing.
+use Prim.Native.Nat.{ℕ, _≤_}
+use mathlib.Core.Path.{_≡_, refl, sym}
+use mathlib.Core.Logic.{_↔_, _⊎_, inl, inr, ⊎-elim}
+use mathlib.Core.List.{List}
+use native.Mathlib.Omega.{arith}
+use Rattle.order.specs.Closure.{Relation}
+use Rattle.order.specs.Bound.{AllJoined}
+use Rattle.rolefile.specs.declared.Verdict.{Verdict}
+use Rattle.rolefile.specs.Line.{U, O, lines}
+use Rattle.rolefile.specs.Form.{fine, refusal}
+use Rattle.rolefile.specs.Said.{labels, roles, users, cards, over, above}
+use Rattle.rolefile.specs.WellFormed.{WellFormed}
+use Rattle.rolefile.proofs.Decides.{Decides, Else, Earliest, decides-zero, decides-fine, decides-when, then-decides, scan-decides}
+use Rattle.rolefile.proofs.Formed.{LineRefusal, LowestWithout, FormRefusal, form-decides}
+use Rattle.policy.specs.Policy.{dominates, senior}
+use Rattle.policy.specs.Verdict.{policyVerdict, verdict}
+use Rattle.policy.specs.Accepted.{GoodOrder, LabelOrder, Accepted, LineRefused, LowestUnlabelled, LowestOnCircle, AssignRefused, Outcome}
+use Rattle.policy.specs.Accepted.{noHeader, badCounts, malformed, badNumbers, unordered, noLevel, readsMore, writesLess}
+use Rattle.policy.specs.Accepted.{accepted, badSize, badLine, badUser, badCard, labelCircle, noBound, roleCircle, badAssignment}
+use Rattle.policy.proofs.Checks.{OnCircleFirst, CircleRefusal, PairRefusal, GoodAssignment, AssignmentRefusal}
+use Rattle.policy.proofs.Checks.{circle-decides, pair-decides, assignment-decides}
+
+-- ---- why a line is refused
+
+module _ (f : List ℕ) (k : ℕ) where
+  line-refused : (v : Verdict) → LineRefusal f k v → (n : ℕ) × LineRefused f k n × (v ≡ refusal n k 0)
+  line-refused v (inl (i, inl (h, e))) = (2, noHeader i (rw i h), rw i e)
+  line-refused v (inl (i, inr (l, (h, e)))) = (3, badCounts i (rw i l) (rw i h), rw i e)
+  line-refused v (inr (i, inl (h, e))) = (2, malformed i (omega arith), e)
+  line-refused v (inr (i, inr (l, inl (h, e)))) = (4, badNumbers i l h, e)
+  line-refused v (inr (i, inr (l, inr (g, (h, e))))) = (5, unordered i l g h, e)
+
+  line-refusal : {n : ℕ} → LineRefused f k n → LineRefusal f k (refusal n k 0)
+  line-refusal (noHeader i h) = inl (i, inl (rw i at h, rw i))
+  line-refusal (badCounts i l h) = inl (i, inr (rw i at l, (rw i at h, rw i)))
+  line-refusal (malformed i h) = inr (i, inl (omega arith, refl))
+  line-refusal (badNumbers i l h) = inr (i, inr (l, inl (h, refl)))
+  line-refusal (unordered i l g h) = inr (i, inr (l, inr (g, (h, refl))))
+
+-- ---- the whole verdict
+
+-- why a file is refused
+abbrev Refusal : List ℕ → Verdict → Type 0
+Refusal f =
+    Else (FormRefusal f) (WellFormed f)
+    (Else (CircleRefusal (labels f) (over f) 11) (LabelOrder f)
+    (Else (PairRefusal (labels f) (dominates f)) (AllJoined (labels f) (dominates f))
+    (Else (CircleRefusal (roles f) (above f) 13) (GoodOrder (roles f) (above f) (senior f))
+    (Earliest (GoodAssignment f) (AssignmentRefusal f) (lines f)))))
+
+verdict-decides : (f : List ℕ) → Decides (verdict f) (Accepted f) (Refusal f)
+unfolding verdict policyVerdict dominates senior
+verdict-decides f =
+    decides-when
+    (then-decides (form-decides f) (λ w.
+    then-decides (circle-decides (labels f) (over f) 10) (λ d.
+    then-decides (pair-decides (labels f) (dominates f) (d .order)) (λ j.
+    then-decides (circle-decides (roles f) (above f) 12) (λ s.
+    scan-decides (assignment-decides f (d .order)) (lines f)))))) (
+      λ (w, (d, (j, (s, a)))). record { ordered = record { form = w; dominance = d; joins = j }; seniority = s; assignments = a },
+      λ a. let o = a .ordered in (o .form, (o .dominance, (o .joins, (a .seniority, a .assignments)))),
+    )
+
+on-circle : (n : ℕ) (e : Relation) (a : ℕ) → OnCircleFirst n e a ↔ LowestOnCircle n e a
+on-circle n e a = (λ (w, c, low). record { inside = w; circle = c; lower = low }, λ l. (l .inside, l .circle, l .lower))
+
+unlabelled : (f : List ℕ) (k n x : ℕ) → LowestWithout f k n x ↔ LowestUnlabelled f k n x
+unlabelled f k n x = (λ (w, h, low). record { inside = w; bad = h; lower = low }, λ l. (l .inside, l .bad, l .lower))
+
+module _ (f : List ℕ) where
+  meant : (v : Verdict) → Refusal f v → Outcome f v
+  meant v (inl (inl (h, e))) = rw e (badSize h)
+  meant v (inl (inr (s, inl (k, w, low, r)))) = let (n, l, e) = line-refused f k v r in rw e (badLine s w low l)
+  meant v (inl (inr (s, inr (g, inl (u, l, e))))) = rw e (badUser s g (unlabelled f U (users f) u .0 l))
+  meant v (inl (inr (s, inr (g, inr (us, (o, l, e)))))) = rw e (badCard s g us (unlabelled f O (cards f) o .0 l))
+  meant v (inr (w, inl (a, l, e))) = rw e (labelCircle w (on-circle (labels f) (over f) a .0 l))
+  meant v (inr (w, inr (d, inl (a, b, p, e)))) = rw e (noBound w d p)
+  meant v (inr (w, inr (d, inr (j, inl (r, l, e))))) =
+      rw e (roleCircle (record { form = w; dominance = d; joins = j }) (on-circle (roles f) (above f) r .0 l))
+  meant v (inr (w, inr (d, inr (j, inr (s, (i, inside, low, (l, (n, r, e)))))))) =
+      rw e (badAssignment (record { form = w; dominance = d; joins = j }) s inside l low r)
+
+  pub outcome : Outcome f (verdict f)
+  outcome = ⊎-elim (λ a. rw (verdict-decides f .good a) (accepted a)) (meant (verdict f)) (verdict-decides f .told)
+
+  refused : {v : Verdict} → Refusal f v → v ≡ verdict f
+  refused {v} r = verdict-decides f .bad v r .0
+
+  pub outcome-only : (v : Verdict) → Outcome f v → v ≡ verdict f
+  outcome-only v o = only o
+    where
+      only : {v : Verdict} → Outcome f v → v ≡ verdict f
+      only (accepted a) = sym (verdict-decides f .good a)
+      only (badSize h) = refused (inl (inl (h, refl)))
+      only (badLine {n} {k} s w low l) = refused (inl (inr (s, inl (k, w, low, line-refusal f k l))))
+      only (badUser {u} s g l) = refused (inl (inr (s, inr (g, inl (u, unlabelled f U (users f) u .1 l, refl)))))
+      only (badCard {o} s g us l) = refused (inl (inr (s, inr (g, inr (us, (o, unlabelled f O (cards f) o .1 l, refl))))))
+      only (labelCircle {a} w l) = refused (inr (w, inl (a, on-circle (labels f) (over f) a .1 l, refl)))
+      only (noBound {a} {b} w d p) = refused (inr (w, inr (d, inl (a, b, p, refl))))
+      only (roleCircle {r} o l) =
+          refused (inr (o .form, inr (o .dominance, inr (o .joins, inl (r, on-circle (roles f) (above f) r .1 l, refl)))))
+      only (badAssignment {n} {i} o s w l low r) =
+          refused (inr (o .form, inr (o .dominance, inr (o .joins, inr (s, (i, w, low, (l, (n, r, refl))))))))
+
+  pub accepted-iff : (verdict f .number ≡ 0) ↔ Accepted f
+  accepted-iff = decides-zero (verdict-decides f)
+
+  pub accepted-fine : (verdict f ≡ fine) ↔ Accepted f
+  accepted-fine = decides-fine (verdict-decides f)
+
+-- ---- the numbers
+
+-- 0, the supplier's 1 to 6, or the officer's 11 to 16
+abbrev pub Listed : ℕ → Type 0
+Listed n = (n ≤ 6) ⊎ ((11 ≤ n) × (n ≤ 16))
+
+pub verdict-numbers : (f : List ℕ) → Listed (verdict f .number)
+verdict-numbers f = of (outcome f)
+  where
+    line : {k n : ℕ} → LineRefused f k n → Listed n
+    line (noHeader i h) = inl (omega arith)
+    line (badCounts i l h) = inl (omega arith)
+    line (malformed i h) = inl (omega arith)
+    line (badNumbers i l h) = inl (omega arith)
+    line (unordered i l g h) = inl (omega arith)
+
+    assignment : {u r n : ℕ} → AssignRefused f u r n → Listed n
+    assignment (noLevel b) = inr (omega arith)
+    assignment (readsMore d h) = inr (omega arith)
+    assignment (writesLess d p h) = inr (omega arith)
+
+    of : {v : Verdict} → Outcome f v → Listed (v .number)
+    of (accepted a) = inl (omega arith)
+    of (badSize h) = inl (omega arith)
+    of (badLine s w low l) = line l
+    of (badUser s g l) = inl (omega arith)
+    of (badCard s g us l) = inl (omega arith)
+    of (labelCircle w l) = inr (omega arith)
+    of (noBound w d p) = inr (omega arith)
+    of (roleCircle o l) = inr (omega arith)
+    of (badAssignment o s w l low r) = assignment r

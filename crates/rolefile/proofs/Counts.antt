@@ -1,0 +1,74 @@
+-- The number of the things 1 to n of which p holds is 1 just where p holds of one of them alone, and then the last of them is that one.
+-- Assumes nothing.
+use Prim.Native.Nat.{ℕ, zero, suc, _+_}
+use mathlib.Core.Path.{_≡_, refl, ap}
+use mathlib.Core.Logic.{_↔_, ⊎-elim}
+use mathlib.Core.Bool.{Bool, true, false, cond}
+use native.Mathlib.Omega.{arith}
+use native.Mathlib.Numerals.{add-one}
+use Rattle.search.specs.Search.{Among}
+use Rattle.search.proofs.Truth.{untrue, both}
+use Rattle.search.proofs.Found.{last-or, None}
+use Rattle.rolefile.specs.Form.{count}
+use Rattle.rolefile.specs.Said.{last}
+
+module _ (p : ℕ → Bool) where
+  -- p holds of a alone
+  abbrev pub Alone : ℕ → ℕ → Type 0
+  Alone n a = Among n a × (p a ≡ true) × ((i : ℕ) → Among n i → p i ≡ true → i ≡ a)
+
+  count-none : (n : ℕ) → (count n p ≡ 0) ↔ None p n
+  unfolding count
+  count-none zero = (λ e a w. absurd (omega arith), λ none. refl)
+  count-none (suc n) = go (p (suc n)) refl (count n p) (count-none n)
+    where
+      go : (b : Bool) → p (suc n) ≡ b → (c : ℕ) → (c ≡ 0) ↔ None p n → (c + cond b 1 0 ≡ 0) ↔ None p (suc n)
+      go true e c ih = (λ z. absurd (omega arith), λ none. absurd (both e (none (suc n) (omega arith))))
+      go false e c ih = (
+        λ z a w. ⊎-elim (λ i. rw i e) (ih .0 (omega arith) a) (last-or n a w),
+        λ none. let z = ih .1 (λ a w. none a (omega arith)) in omega arith,
+      )
+
+  -- one thing more, of which p does not hold
+  alone-more : (n a : ℕ) → p (suc n) ≡ false → Alone n a ↔ Alone (suc n) a
+  alone-more n a e = (
+    λ (w, h, o). (omega arith, h, λ i v k. ⊎-elim (λ q. absurd (both k (rw q e))) (λ u. o i u k) (last-or n i v)),
+    λ (w, h, o). (⊎-elim (λ q. absurd (both h (rw q e))) (λ u. u) (last-or n a w), h, λ i v k. o i (omega arith) k),
+  )
+
+  pub count-one : (n : ℕ) → (count n p ≡ 1) ↔ ((a : ℕ) × Alone n a)
+  unfolding count
+  count-one zero = (λ e. absurd (omega arith), λ s. absurd (omega arith))
+  count-one (suc n) = go (p (suc n)) refl (count n p) (count-none n) (count-one n)
+    where
+      go : (b : Bool) → p (suc n) ≡ b → (c : ℕ) → (c ≡ 0) ↔ None p n → (c ≡ 1) ↔ ((a : ℕ) × Alone n a)
+          → (c + cond b 1 0 ≡ 1) ↔ ((a : ℕ) × Alone (suc n) a)
+      go true e c none ih = (
+        λ z. (suc n, (omega arith, e, λ i w h. ⊎-elim (λ q. q) (λ u. absurd (both h (none .0 (omega arith) i u))) (last-or n i w))),
+        λ (a, (w, h, only)).
+            let last = only (suc n) (omega arith) e in
+            let z = none .1 (λ i u. untrue (p i) (λ k. let q = only i (omega arith) k in omega arith)) in
+            omega arith,
+      )
+      go false e c none ih = (
+        λ z. let (a, s) = ih .0 (omega arith) in (a, alone-more n a e .0 s),
+        λ (a, s). let q = ih .1 (a, alone-more n a e .1 s) in omega arith,
+      )
+
+  pub last-alone : (v : ℕ → ℕ) (n a : ℕ) → Alone n a → last n p v ≡ v a
+  unfolding last
+  last-alone v zero a s = absurd (omega arith)
+  last-alone v (suc n) a s = go (p (suc n)) refl (last-alone v n a)
+    where
+      go : (b : Bool) → p (suc n) ≡ b → (Alone n a → last n p v ≡ v a) → cond b (v (suc n)) (last n p v) ≡ v a
+      go true e ih = ap v (s .2 (suc n) (omega arith) e)
+      go false e ih = ih (alone-more n a e .1 s)
+
+  -- one turn of a loop
+  pub count-more : (i : ℕ) → count (i + 1) p ≡ count i p + cond (p (i + 1)) 1 0
+  unfolding count
+  count-more i = rw add-one
+
+  pub last-more : (v : ℕ → ℕ) (i : ℕ) → last (i + 1) p v ≡ cond (p (i + 1)) (v (i + 1)) (last i p v)
+  unfolding last
+  last-more v i = rw add-one

@@ -1,0 +1,193 @@
+-- The tests of a role file's form as properties: a file has none of the refusals 1 to 6 just where it is well-formed, and else the one that is told.
+-- Assumes nothing.
+use Prim.Native.Nat.{ℕ, _-_, _%_, _≤_, _<_}
+use mathlib.Core.Path.{_≡_}
+use mathlib.Core.Logic.{_↔_, _⊎_, inl, inr, ⊎-elim}
+use mathlib.Core.List.{List}
+use mathlib.Core.Bool.{Bool, true, false, not, _&&_, _||_}
+use native.Mathlib.Omega.{arith}
+use lib.Dec.{leb, ltb, eqb}
+use lib.ListN.{length}
+use borrow.Author.Tests.{eqb-true, eq-eqb, leb-true, le-leb, ltb-true, lt-ltb, not-true, not-false}
+use Rattle.search.specs.Search.{Among, first, implies}
+use Rattle.search.proofs.Truth.{and-iff, or-iff, implies-iff, among-iff, untrue, both}
+use Rattle.search.proofs.Found.{first-none}
+use Rattle.rolefile.specs.declared.Line.{Line}
+use Rattle.rolefile.specs.declared.Verdict.{Verdict}
+use Rattle.rolefile.specs.Line.{H, U, O, P, lineAt, lines}
+use Rattle.rolefile.specs.Form.{refusal, sized, header, counted, firstLimit, secondLimit, ranged, before, rises}
+use Rattle.rolefile.specs.Form.{headVerdict, bodyVerdict, lineVerdict, count, about, unlabelled, found, unlabelledVerdict, formVerdict, fine}
+use Rattle.rolefile.specs.Said.{users, cards, labelBy}
+use Rattle.rolefile.specs.WellFormed.{Sized, GoodCounts, GoodNumbers, Before, Rises, GoodHead, GoodBody, GoodLine, One, WellFormed}
+use Rattle.rolefile.proofs.Verdicts.{Clean}
+use Rattle.rolefile.proofs.Decides.{Decides, Fails, Else, Earliest, LowestOf, decides-fine, decides-clean, decides-when}
+use Rattle.rolefile.proofs.Decides.{then-decides, cond-decides, test-decides, unless-decides, search-decides, scan-decides}
+use Rattle.rolefile.proofs.Counts.{count-one, last-alone}
+
+-- ---- tests and what they tell
+
+eqb-iff : (a b : ℕ) → (eqb a b ≡ true) ↔ (a ≡ b)
+eqb-iff a b = (eqb-true a b, eq-eqb a b)
+
+leb-iff : (a b : ℕ) → (leb a b ≡ true) ↔ (a ≤ b)
+leb-iff a b = (leb-true a b, le-leb a b)
+
+ltb-iff : (a b : ℕ) → (ltb a b ≡ true) ↔ (a < b)
+ltb-iff a b = (ltb-true a b, lt-ltb a b)
+
+module _ {a b : Bool} {P Q : Type 0} (p : (a ≡ true) ↔ P) (q : (b ≡ true) ↔ Q) where
+  and-both : ((a && b) ≡ true) ↔ (P × Q)
+  and-both = (λ e. let (x, y) = and-iff a b .0 e in (p .0 x, q .0 y), λ (x, y). and-iff a b .1 (p .1 x, q .1 y))
+
+  or-both : ((a || b) ≡ true) ↔ (P ⊎ Q)
+  or-both = (
+    λ e. ⊎-elim (λ x. inl (p .0 x)) (λ y. inr (q .0 y)) (or-iff a b .0 e),
+    λ s. or-iff a b .1 (⊎-elim (λ x. inl (p .1 x)) (λ y. inr (q .1 y)) s),
+  )
+
+  implies-both : (implies a b ≡ true) ↔ (P → Q)
+  implies-both = (λ e x. q .0 (implies-iff a b .0 e (p .1 x)), λ h. implies-iff a b .1 (λ x. q .1 (h (p .0 x))))
+
+-- ---- 1
+
+pub sized-iff : (f : List ℕ) → (sized f ≡ true) ↔ Sized f
+unfolding sized
+sized-iff f =
+    let t = and-both (leb-iff 1 (length f)) (and-both (eqb-iff (length f % 22) 0) (leb-iff (length f) 63800)) in (
+      λ e. let (p, (q, r)) = t .0 e in record { some = p; whole = q; short = r },
+      λ s. t .1 (s .some, (s .whole, s .short)),
+    )
+
+-- ---- 2 to 5
+
+pub counted-iff : (h : Line) → (counted h ≡ true) ↔ GoodCounts h
+unfolding counted
+counted-iff h =
+    let t = and-both (among-iff 32 (h .a)) (and-both (leb-iff (h .b) 128) (and-both (leb-iff (h .c) 256) (leb-iff (h .d) 512))) in (
+      λ e. let (p, (q, (r, s))) = t .0 e in record { labels = p; roles = q; users = r; cards = s },
+      λ g. t .1 (g .labels, (g .roles, (g .users, g .cards))),
+    )
+
+pub ranged-iff : (h l : Line) → (ranged h l ≡ true) ↔ GoodNumbers h l
+unfolding ranged
+ranged-iff h l =
+    let one = among-iff (firstLimit h (l .letter)) (l .a) in
+    let two = among-iff (secondLimit h (l .letter)) (l .b) in
+    let t = and-both one (and-both two (implies-both (eqb-iff (l .letter) P) (among-iff 2 (l .c)))) in (
+      λ e. let (p, (q, r)) = t .0 e in record { one = p; two = q; mode = r },
+      λ g. t .1 (g .one, (g .two, g .mode)),
+    )
+
+before-iff : (x y : ℕ) {t : Bool} {R : Type 0} → ((t ≡ true) ↔ R) → (before x y t ≡ true) ↔ Before x y R
+before-iff x y h = or-both (ltb-iff x y) (and-both (eqb-iff x y) h)
+
+pub rises-iff : (p l : Line) → (rises p l ≡ true) ↔ Rises p l
+unfolding rises
+rises-iff p l = before-iff (p .letter) (l .letter) (before-iff (p .a) (l .a) (before-iff (p .b) (l .b) (ltb-iff (p .c) (l .c))))
+
+-- why line 1 is refused, and why another line is
+abbrev pub HeadRefusal : Line → Verdict → Type 0
+HeadRefusal l = Else (Fails (l .letter ≡ H) (refusal 2 1 0)) (l .letter ≡ H) (Fails (GoodCounts l) (refusal 3 1 0))
+
+head-decides : (l : Line) → Decides (headVerdict l) (GoodHead l) (HeadRefusal l)
+unfolding headVerdict
+head-decides l =
+    decides-when
+    (unless-decides (eqb-iff (l .letter) H) (refusal 2 1 0) (omega arith) (λ e.
+    test-decides (counted-iff l) (refusal 3 1 0) (omega arith)))
+    (λ (e, c). record { letter = e; counts = c }, λ g. (g .letter, g .counts))
+
+abbrev pub BodyRefusal : Line → Line → ℕ → Line → Verdict → Type 0
+BodyRefusal h p k l =
+    Else (Fails (H < l .letter) (refusal 2 k 0)) (H < l .letter)
+    (Else (Fails (GoodNumbers h l) (refusal 4 k 0)) (GoodNumbers h l)
+    (Fails (Rises p l) (refusal 5 k 0)))
+
+body-decides : (h p : Line) (k : ℕ) (l : Line) → Decides (bodyVerdict h p k l) (GoodBody h p l) (BodyRefusal h p k l)
+unfolding bodyVerdict
+body-decides h p k l =
+    decides-when
+    (unless-decides (ltb-iff H (l .letter)) (refusal 2 k 0) (omega arith) (λ e.
+    unless-decides (ranged-iff h l) (refusal 4 k 0) (omega arith) (λ g.
+    test-decides (rises-iff p l) (refusal 5 k 0) (omega arith))))
+    (λ (e, (n, r)). record { letter = e; numbers = n; order = r }, λ g. (g .letter, (g .numbers, g .order)))
+
+abbrev pub LineRefusal : List ℕ → ℕ → Verdict → Type 0
+LineRefusal f k x =
+    ((k ≡ 1) × HeadRefusal (lineAt f 1) x)
+    ⊎ ((k ≡ 1 → ⊥) × BodyRefusal (header f) (lineAt f (k - 1)) k (lineAt f k) x)
+
+pub line-decides : (f : List ℕ) (k : ℕ) → Decides (lineVerdict f k) (GoodLine f k) (LineRefusal f k)
+unfolding lineVerdict
+line-decides f k =
+    decides-when
+    (cond-decides (head-decides (lineAt f 1)) (eqb-iff k 1) (body-decides (header f) (lineAt f (k - 1)) k (lineAt f k)))
+    (λ (h, b). record { head = h; body = b }, λ g. (g .head, g .body))
+
+pub line-iff : (f : List ℕ) (k : ℕ) → (lineVerdict f k ≡ fine) ↔ GoodLine f k
+line-iff f k = decides-fine (line-decides f k)
+
+pub line-clean : (f : List ℕ) (k : ℕ) → Clean (lineVerdict f k)
+line-clean f k = decides-clean (line-decides f k)
+
+-- ---- 6
+
+module _ (f : List ℕ) (k : ℕ) where
+  pub one-iff : (x : ℕ) → (eqb (count (lines f) (about f k x)) 1 ≡ true) ↔ One f k x
+  one-iff x =
+      let t = count-one (about f k x) (lines f) in (
+        λ e. let (i, (w, h, o)) = t .0 (eqb-true (count (lines f) (about f k x)) 1 e) in record { line = i; inside = w; tells = h; only = o },
+        λ o. eq-eqb (count (lines f) (about f k x)) 1 (t .1 (o .line, (o .inside, o .tells, o .only))),
+      )
+
+  pub label-by : (x : ℕ) (o : One f k x) → labelBy f k x ≡ lineAt f (o .line) .b
+  unfolding labelBy
+  label-by x o = last-alone (about f k x) (λ i. lineAt f i .b) (lines f) (o .line) (o .inside, o .tells, o .only)
+
+  -- the lowest of n things that has no line of the letter k or more than one
+  abbrev pub LowestWithout : ℕ → ℕ → Type 0
+  LowestWithout = LowestOf (λ x. One f k x → ⊥) (One f k)
+
+  pub unlabelled-decides : (n place : ℕ) → Decides (found (unlabelled f k n) (refusal 6 place (unlabelled f k n)))
+      ((x : ℕ) → Among n x → One f k x) (λ v. (x : ℕ) × LowestWithout n x × (v ≡ refusal 6 place x))
+  unfolding unlabelled
+  unlabelled-decides n place = search-decides n bad none has hasNot (refusal 6 place) (λ x. omega arith)
+    where
+      bad : ℕ → Bool
+      bad x = not (eqb (count (lines f) (about f k x)) 1)
+
+      has : (x : ℕ) → Among n x → (bad x ≡ true) ↔ (One f k x → ⊥)
+      has x w =
+          let t = eqb (count (lines f) (about f k x)) 1 in
+          (λ e o. both (one-iff x .1 o) (not-true t e), λ h. rw (untrue t (λ e. h (one-iff x .0 e))))
+
+      hasNot : (x : ℕ) → Among n x → (bad x ≡ false) ↔ One f k x
+      hasNot x w = (λ e. one-iff x .0 (not-false (eqb (count (lines f) (about f k x)) 1) e), λ o. rw (one-iff x .1 o))
+
+      none : (first n bad ≡ 0) ↔ ((x : ℕ) → Among n x → One f k x)
+      none = (λ e x w. hasNot x w .0 (first-none bad n .0 e x w), λ h. first-none bad n .1 (λ x w. hasNot x w .1 (h x w)))
+
+-- ---- the whole form
+
+-- why a file is refused for its form
+abbrev pub FormRefusal : List ℕ → Verdict → Type 0
+FormRefusal f =
+    Else (Fails (Sized f) (refusal 1 0 0)) (Sized f)
+    (Else (Earliest (GoodLine f) (LineRefusal f) (lines f)) ((k : ℕ) → Among (lines f) k → GoodLine f k)
+    (Else (λ v. (u : ℕ) × LowestWithout f U (users f) u × (v ≡ refusal 6 1 u)) ((u : ℕ) → Among (users f) u → One f U u)
+    (λ v. (o : ℕ) × LowestWithout f O (cards f) o × (v ≡ refusal 6 2 o))))
+
+pub form-decides : (f : List ℕ) → Decides (formVerdict f) (WellFormed f) (FormRefusal f)
+unfolding formVerdict unlabelledVerdict
+form-decides f =
+    decides-when
+    (then-decides (test-decides (sized-iff f) (refusal 1 0 0) (omega arith)) (λ s.
+    then-decides (scan-decides (line-decides f) (lines f)) (λ g.
+    then-decides (unlabelled-decides f U (users f) 1) (λ u.
+    unlabelled-decides f O (cards f) 2)))) (
+      λ (s, (g, (u, o))). record { sized = s; good = g; user = u; card = o },
+      λ w. (w .sized, (w .good, (w .user, w .card))),
+    )
+
+pub form-iff : (f : List ℕ) → (formVerdict f ≡ fine) ↔ WellFormed f
+form-iff f = decides-fine (form-decides f)
