@@ -10,7 +10,7 @@ use lib.Dec.{eqb, ltb, leb}
 use borrow.Author.Tests.{eq-eqb, eqb-true, ltb-true, lt-ltb, ltb-false, le-ltb}
 use Rattle.search.specs.Search.{every, first, implies, Among, Lowest}
 use Rattle.search.proofs.Truth.{or-iff, and-iff, implies-iff, untrue, both, same}
-use Rattle.search.proofs.Found.{every-at, every-of, every-agree, every-cut, first-yet, first-found, first-more, first-none, first-lowest, first-agree, first-cut}
+use Rattle.search.proofs.Found.{every-at, every-of, every-agree, every-cut, first-yet, first-found, first-more, first-none, first-lowest, first-within, first-agree, first-cut}
 use Rattle.order.specs.Closure.{Relation, PartialOrder}
 use Rattle.order.specs.Bound.{upper, isLeast, least, lub, turned, pair, apart, lonely, unjoined, Upper, IsLub, Joined, AllJoined, FirstPair, FirstApart}
 use Rattle.order.proofs.Closure.{Agree}
@@ -211,6 +211,20 @@ module _ (n : ℕ) (f g : Relation) (h : Agree n n f g) where
 
   pub first-apart-agree : (a b : ℕ) → FirstApart n f a b → FirstApart n g a b
   first-apart-agree a b h = record { lower = h .lower ∙ unjoined-agree; higher = rw (← (lonely-agree a)) (h .higher) }
+
+-- and of a set only which things are in it
+pub lub-same-set : (n : ℕ) (ge : Relation) (s t : ℕ → Bool) → ((x : ℕ) → Among n x → s x ≡ t x) → lub n ge s ≡ lub n ge t
+unfolding lub least isLeast upper
+lub-same-set n ge s t h =
+    first-agree (isLeast n ge (upper n ge s)) (isLeast n ge (upper n ge t)) n (λ c w.
+    rw (bounds c, every-agree (λ x. implies (upper n ge s x) (ge x c)) (λ x. implies (upper n ge t x) (ge x c)) n (λ x v. rw (bounds x))))
+  where
+    bounds : (c : ℕ) → every n (λ x. implies (s x) (ge c x)) ≡ every n (λ x. implies (t x) (ge c x))
+    bounds c = every-agree (λ x. implies (s x) (ge c x)) (λ x. implies (t x) (ge c x)) n (λ x w. rw (h x w))
+
+pub lub-within : (n : ℕ) (ge : Relation) (s : ℕ → Bool) → lub n ge s ≤ n
+unfolding lub least
+lub-within n ge s = first-within (isLeast n ge (upper n ge s)) n
 
 -- what a search answers that tries the things in turn
 module _ (n : ℕ) (ge : Relation) where

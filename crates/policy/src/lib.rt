@@ -1,4 +1,9 @@
 // What a role file's policy comes to: levels, the numbers 11 to 16, and role flow.
+mod assign;
+mod gather;
+mod labels;
+mod marks;
+mod rows;
 
 // The level of a role for reading or for writing.
 pub enum Level {

@@ -50,7 +50,7 @@ letter-read : (k : ℕ) → Among 7 k → letterOf (letterByte k) ≡ k
 unfolding every letterOf letterByte
 letter-read k w = eqb-true (letterOf (letterByte k)) k (every-at (λ j. eqb (letterOf (letterByte j)) j) 7 refl k w)
 
-letter-iff : (b k : ℕ) → ((letterOf b ≡ k) × (1 ≤ k)) ↔ ((b ≡ letterByte k) × Among 7 k)
+pub letter-iff : (b k : ℕ) → ((letterOf b ≡ k) × (1 ≤ k)) ↔ ((b ≡ letterByte k) × Among 7 k)
 letter-iff b k = (λ (e, l). let (p, q) = named b (rw e l) in (rw e at p, omega arith), λ (e, w). (rw e (letter-read k w), w .0))
 
 -- ---- its fields

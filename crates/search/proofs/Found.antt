@@ -98,9 +98,20 @@ module _ (p : ℕ → Bool) where
   first-lowest n zero l = absurd (omega arith)
   first-lowest n (suc a) l = (λ e. rw e at (first-finds n), λ low. sym (finds-first n (suc a) low))
 
+  pub first-within : (n : ℕ) → first n p ≤ n
+  first-within n = go (first n p) (first-finds n)
+    where
+      go : (a : ℕ) → Finds n a → a ≤ n
+      go zero f = omega arith
+      go (suc a) f = f .inside .1
+
   -- one turn of a loop whose i things so far were searched in vain, and whose turn looks at i + 1
   pub some-found : (n i : ℕ) → i < n → p (i + 1) ≡ true → true ≡ some n p
   some-found n i l h = sym (some-of n (i + 1) (omega arith) h)
+
+  pub some-yet : some 0 p ≡ false
+  unfolding some
+  some-yet = refl
 
   pub every-yet : true ≡ every 0 p
   unfolding every

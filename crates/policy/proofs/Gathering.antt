@@ -1,0 +1,78 @@
+-- The roles that have a card of a label, gathered card by card. Assumes nothing.
+use Prim.Native.Nat.{ℕ, zero, suc, _+_, _*_, _-_, _≤_, _<_}
+use mathlib.Core.Path.{_≡_, refl, sym, ap, _∙_}
+use mathlib.Core.Bool.{Bool, true, false, _&&_, _||_, or-false}
+use mathlib.Core.List.{List}
+use native.Mathlib.Omega.{arith}
+use native.Mathlib.Decide.{ℕ-discrete}
+use lib.Dec.{eqb}
+use lib.ListN.{length, getD, replicate, length-replicate, getD-replicate}
+use borrow.Author.Tests.{eq-eqb, ne-eqb}
+use Rattle.search.specs.Search.{Among, some}
+use Rattle.search.proofs.Found.{some-more, some-agree}
+use Rattle.roleset.specs.Row.{whole, member, united, Placed}
+use Rattle.roleset.proofs.Rows.{member-of, no-bits, whole-true}
+use Rattle.order.specs.Closure.{Relation}
+use Rattle.order.specs.Bound.{lub}
+use Rattle.order.proofs.Bound.{lub-same-set}
+use Rattle.order.proofs.Stored.{place}
+use Rattle.policy.specs.Policy.{levelAt, level, shown}
+use Rattle.policy.specs.Tables.{byteOf, rowOf, cardLabelsAt, gathered}
+use Rattle.policy.proofs.Relating.{others-stay}
+
+-- what card o + 1 brings to the row of label l
+abbrev pub brings : List ℕ → ℕ → ℕ → ℕ → ℕ → Bool
+brings xs at o l r = eqb (byteOf xs cardLabelsAt (o + 1)) l && member xs (rowOf at (o + 1)) r
+
+module _ (xs : List ℕ) (at o label : ℕ) (e : label ≡ getD xs (cardLabelsAt + o) 0) where
+  byte-is : byteOf xs cardLabelsAt (o + 1) ≡ label
+  byte-is = rw (place o) (sym e)
+
+  -- a card with no label brings nothing
+  pub brings-none : (g : List ℕ) (l r : ℕ) → (label ≡ l → ⊥) → member g (rowOf 0 l) r ≡ (member g (rowOf 0 l) r || brings xs at o l r)
+  brings-none g l r ne = rw (byte-is, ne-eqb label l ne) (sym (or-false (member g (rowOf 0 l) r)))
+
+  pub brings-row : (g h other : List ℕ) → length g ≡ 512 → Among 32 label → at + 16 * o + 16 ≤ length xs
+      → ((r : ℕ) → member other 0 r ≡ (whole xs (at + 16 * o) && member xs (at + 16 * o) r))
+      → Placed (rowOf 0 label) (united g (rowOf 0 label) other) g h
+      → (l r : ℕ) → Among 32 l → member h (rowOf 0 l) r ≡ (member g (rowOf 0 l) r || brings xs at o l r)
+  brings-row g h other long v fits row p l r w = elim (ℕ-discrete l label) [
+    | yes q ↦
+        rw (q, byte-is, eq-eqb label label refl, place o)
+        (p .row (omega arith) r ∙ rw (row r, whole-true xs (at + 16 * o) fits))
+    | no q ↦ others-stay 0 32 label _ g h p v l r w q ∙ brings-none g l r (λ i. q (sym i))
+  ]
+
+pub gathered-more : (xs : List ℕ) (at o l r : ℕ) → (gathered xs at o l r || brings xs at o l r) ≡ gathered xs at (o + 1) l r
+unfolding gathered
+gathered-more xs at o l r = sym (some-more (λ k. eqb (byteOf xs cardLabelsAt k) l && member xs (rowOf at k) r) o)
+
+-- rows of zeros hold no role
+pub zero-rows : (n at r : ℕ) → at + 16 ≤ n → member (replicate n 0) at r ≡ false
+zero-rows n at r l = member-of (replicate n 0) at (λ k. 0) (λ k m. getD-replicate n (at + k) 0 0 (omega arith)) r ∙ no-bits r
+
+pub gathered-yet : (xs : List ℕ) (at l r : ℕ) → gathered xs at 0 l r ≡ false
+unfolding gathered Rattle.search.specs.Search.some
+gathered-yet xs at l r = refl
+
+-- ---- the level of a set, as it is kept
+
+module _ (n : ℕ) (ge : Relation) (s : ℕ → Bool) where
+  pub level-empty : some n s ≡ false → 0 ≡ shown (level n ge s)
+  unfolding level
+  level-empty e = rw e
+
+  bounded : (b : ℕ) → some n s ≡ true → b ≡ lub n ge s → shown (levelAt b) ≡ shown (level n ge s)
+  unfolding level
+  bounded b e q = rw (e, q)
+
+  pub level-undefined : (b : ℕ) → some n s ≡ true → b ≡ lub n ge s → b ≡ 0 → 99 ≡ shown (level n ge s)
+  level-undefined b e q z = rw z at (bounded b e q)
+
+  pub level-bound : (b : ℕ) → some n s ≡ true → b ≡ lub n ge s → (b ≡ 0 → ⊥) → b ≡ shown (level n ge s)
+  level-bound zero e q ne = absurd (ne refl)
+  level-bound (suc b) e q ne = bounded (suc b) e q
+
+pub level-same-set : (n : ℕ) (ge : Relation) (s t : ℕ → Bool) → ((l : ℕ) → Among n l → s l ≡ t l) → level n ge s ≡ level n ge t
+unfolding level
+level-same-set n ge s t h = rw (some-agree s t n h, lub-same-set n ge s t h)

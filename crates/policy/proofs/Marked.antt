@@ -1,0 +1,85 @@
+-- Marks that the lines of a part make in a table, and the bytes of such a table. Assumes nothing.
+use Prim.Native.Nat.{ℕ, _+_, _*_, _-_}
+use mathlib.Core.Path.{_≡_, refl, sym, _∙_}
+use mathlib.Core.Logic.{⊎-elim}
+use mathlib.Core.Bool.{Bool, false, _&&_, _||_, cond, or-false}
+use mathlib.Core.List.{List, []}
+use native.Mathlib.Omega.{arith}
+use native.Mathlib.Numerals.{add-one}
+use native.Mathlib.Decide.{ℕ-discrete}
+use lib.Dec.{eqb}
+use lib.ListN.{length, getD, set, replicate, getD-replicate}
+use lib.Seq.{getD-set-same, getD-set-other}
+use borrow.Author.Tests.{eqb-true, eq-eqb, ne-eqb}
+use Rattle.search.specs.Search.{Among, among, some}
+use Rattle.search.proofs.Truth.{and-iff, among-iff, untrue}
+use Rattle.search.proofs.Found.{last-or, some-more}
+use Rattle.order.specs.Table.{marks, mark}
+use Rattle.rolefile.specs.Section.{one, two}
+use Rattle.policy.specs.Tables.{Kept, dominanceAt, pairs}
+
+pub not-among : (n a : ℕ) → (Among n a → ⊥) → among n a ≡ false
+not-among n a h = untrue (among n a) (λ e. h (among-iff n a .0 e))
+
+-- the table r is t with a mark for a over b
+abbrev pub WithPair : ℕ → ℕ → List (List Bool) → List (List Bool) → Type 0
+WithPair a b t r = (x y : ℕ) → Among 32 x → Among 32 y → mark r x y ≡ (mark t x y || (eqb a x && eqb b y))
+
+-- a pair of which one is no label makes no mark
+pub pair-none : (a b : ℕ) (t : List (List Bool)) → (Among 32 a → Among 32 b → ⊥) → WithPair a b t t
+pair-none a b t h x y w v =
+    rw (untrue (eqb a x && eqb b y) (λ e.
+    let s = and-iff (eqb a x) (eqb b y) .0 e in
+    let i = eqb-true a x (s .0) in
+    let j = eqb-true b y (s .1) in
+    h (omega arith) (omega arith)))
+    (sym (or-false (mark t x y)))
+
+-- row a with a mark at b is stored
+pub pair-one : (a b : ℕ) (t : List (List Bool)) (row : List Bool) → Among 32 a → length t ≡ 32
+    → ((y : ℕ) → Among 32 y → marks row y ≡ (mark t a y || eqb b y)) → WithPair a b t (set t (a - 1) row)
+pair-one a b t row w l all x y u v = elim (ℕ-discrete x a) [
+  | yes q ↦ rw (q, eq-eqb a a refl, getD-set-same t (a - 1) row [] (omega arith)) (all y v)
+  | no q ↦
+      rw (ne-eqb a x (λ e. q (omega arith)), getD-set-other t (a - 1) (x - 1) row [] (λ e. q (omega arith)))
+      (sym (or-false (mark t x y)))
+]
+
+-- t has the marks of the first i lines of the part p
+abbrev pub Marking : List ℕ → ℕ → List (List Bool) → Type 0
+Marking p i t = (a b : ℕ) → Among 32 a → Among 32 b → mark t a b ≡ pairs p i a b
+
+pub marks-none : (p : List ℕ) → Marking p 0 (replicate 32 (replicate 32 false))
+unfolding pairs some
+marks-none p a b w v =
+    rw (getD-replicate 32 (a - 1) (replicate 32 false) [] (omega arith)) (getD-replicate 32 (b - 1) false false (omega arith))
+
+pub marks-more : (p : List ℕ) (i : ℕ) (t r : List (List Bool)) → Marking p i t → WithPair (one p (i + 1)) (two p (i + 1)) t r
+    → Marking p (i + 1) r
+unfolding pairs
+marks-more p i t r m n a b w v =
+    n a b w v ∙ rw (m a b w v) (sym (some-more (λ j. eqb (one p j) a && eqb (two p j) b) i))
+
+-- i rows of the table t stand where dominance does
+pub record Put (i : ℕ) (t : List (List Bool)) (xs ys : List ℕ) : Type 0 where
+  pub rows : (a b : ℕ) → Among i a → Among 32 b → getD ys (dominanceAt + (32 * (a - 1) + (b - 1))) 0 ≡ cond (mark t a b) 1 0
+  pub rest : Kept dominanceAt (dominanceAt + 32 * i) xs ys
+
+module _ (t : List (List Bool)) (xs : List ℕ) where
+  pub put-none : Put 0 t xs xs
+  put-none = record { rows = λ a b w. absurd (omega arith); rest = λ k o. refl }
+
+  pub put-more : (i : ℕ) (ys zs : List ℕ) → Put i t xs ys
+      → ((b : ℕ) → Among 32 b → getD zs (dominanceAt + 32 * i + (b - 1)) 0 ≡ cond (marks (getD t i []) b) 1 0)
+      → Kept (dominanceAt + 32 * i) (dominanceAt + 32 * i + 32) ys zs
+      → Put (i + 1) t xs zs
+  put-more i ys zs p row kept = record {
+    rows = λ a b w v. ⊎-elim
+        (λ e.
+        let q : a - 1 ≡ i = omega arith in
+        let s : dominanceAt + (32 * i + (b - 1)) ≡ dominanceAt + 32 * i + (b - 1) = omega arith in
+        rw (q, s) (row b v))
+        (λ u. kept (dominanceAt + (32 * (a - 1) + (b - 1))) (λ m. omega arith) ∙ p .rows a b u v)
+        (last-or i a (rw add-one at w));
+    rest = λ k o. kept k (λ m. omega (arith, o (omega arith))) ∙ p .rest k (λ m. omega (arith, o m));
+  }

@@ -1,0 +1,190 @@
+-- Tables of role sets that lines fill: one row changes at a time, and what the lines so far say adds up. Assumes nothing.
+use Prim.Native.Nat.{ℕ, _+_, _*_, _-_, _≤_, _<_}
+use mathlib.Core.Path.{_≡_, refl, sym, ap, _∙_}
+use mathlib.Core.Logic.{_⊎_, inl, inr, ⊎-elim}
+use mathlib.Core.Bool.{Bool, true, false, _&&_, _||_, or-false, or-assoc, and-comm}
+use mathlib.Core.List.{List}
+use native.Mathlib.Omega.{arith}
+use native.Mathlib.Decide.{decLt, ℕ-discrete}
+use lib.Dec.{eqb}
+use lib.ListN.{length, getD}
+use borrow.Author.Tests.{eq-eqb, ne-eqb, eqb-true}
+use Rattle.search.specs.Search.{among, Among}
+use Rattle.search.proofs.Truth.{and-iff, and-when, among-iff, untrue, same}
+use Rattle.search.proofs.Found.{some-more}
+use Rattle.roleset.specs.Row.{whole, member, added, joined, Placed}
+use Rattle.roleset.proofs.Rows.{other-row, same-bytes, whole-true}
+use Rattle.order.specs.Closure.{Relation}
+use Rattle.rolefile.specs.Section.{one, two, three}
+use Rattle.policy.specs.Tables.{rowOf, seniorsAt, readersAt, writersAt, Kept, pairs, granted, Related, Granted}
+
+-- two rows of one table do not overlap
+rows-apart : (at x y : ℕ) → 1 ≤ x → 1 ≤ y → (y ≡ x → ⊥) → (rowOf at y + 16 ≤ rowOf at x) ⊎ (rowOf at x + 16 ≤ rowOf at y)
+rows-apart at x y v w ne = elim (decLt y x) [ yes l ↦ inl (omega arith) | no l ↦ inr (omega arith) ]
+
+-- where one row of a table is placed, the others stay
+module _ (at size x : ℕ) (s : ℕ → Bool) (xs ys : List ℕ) (p : Placed (rowOf at x) s xs ys) (w : Among size x) where
+  pub others-stay : (y r : ℕ) → Among size y → (y ≡ x → ⊥) → member ys (rowOf at y) r ≡ member xs (rowOf at y) r
+  others-stay y r v ne = other-row (rowOf at x) (rowOf at y) s xs ys p (rows-apart at x y (w .0) (v .0) ne) r
+
+  pub rest-stays : Kept at (at + 16 * size) xs ys
+  rest-stays i out = p .rest i (λ l. let far = out (omega arith) in omega arith)
+
+-- ---- a pair at a time
+
+-- nothing is said
+pub related-none : (at size : ℕ) (said : Relation) (xs : List ℕ) → ((x r : ℕ) → Among size x → Among 128 r → said x r ≡ false) → Related at size said xs xs
+related-none at size said xs h = record {
+  rows = λ x r v w. rw (h x r v w) (sym (or-false (member xs (rowOf at x) r)));
+  rest = λ i out. refl;
+}
+
+pub related-as : {at size : ℕ} {said told : Relation} {xs ys : List ℕ} → ((x r : ℕ) → said x r ≡ told x r) → Related at size said xs ys → Related at size told xs ys
+related-as {at} e t = record {
+  rows = λ x r v w. rw (← (e x r)) (t .rows x r v w);
+  rest = t .rest;
+}
+
+pub related-more : {at size : ℕ} {said more : Relation} {xs ys zs : List ℕ} → Related at size said xs ys → Related at size more ys zs
+    → Related at size (λ x r. said x r || more x r) xs zs
+related-more {at} {said = said} {more} {xs} t u = record {
+  rows = λ x r v w. u .rows x r v w ∙ rw (t .rows x r v w) (or-assoc (member xs (rowOf at x) r) (said x r) (more x r));
+  rest = λ i out. u .rest i out ∙ t .rest i out;
+}
+
+-- a role put into the row of thing x
+pub related-one : (at size x role : ℕ) (xs ys : List ℕ) → at + 16 * size ≤ length xs → Among size x
+    → Placed (rowOf at x) (added xs (rowOf at x) role) xs ys → Related at size (λ y r. eqb x y && eqb role r) xs ys
+related-one at size x role xs ys fits v p = record {
+  rows = λ y r w u. elim (ℕ-discrete y x) [
+    | yes e ↦ rw (e, eq-eqb x x refl) (p .row (omega arith) r ∙ ap (λ b. member xs (rowOf at x) r || b) (its r u))
+    | no e ↦ rw (ne-eqb x y (λ q. e (sym q))) (others-stay at size x _ xs ys p v y r w e ∙ sym (or-false (member xs (rowOf at y) r)))
+  ];
+  rest = rest-stays at size x _ xs ys p v;
+}
+  where
+    its : (r : ℕ) → Among 128 r → (among 128 role && eqb r role) ≡ eqb role r
+    its r u =
+        same (among 128 role && eqb r role) (eqb role r)
+        (λ h. eq-eqb role r (sym (eqb-true r role (and-iff (among 128 role) (eqb r role) .0 h .1))))
+        (λ h.
+        let e : role ≡ r = eqb-true role r h in
+        and-iff (among 128 role) (eqb r role) .1 (among-iff 128 role .1 (rw e u), eq-eqb r role (sym e)))
+
+-- one line more of those that say pairs
+pub pairs-more : (p : List ℕ) (i a b x y : ℕ) → a ≡ one p (i + 1) → b ≡ two p (i + 1) → (pairs p i x y || (eqb a x && eqb b y)) ≡ pairs p (i + 1) x y
+unfolding pairs
+pairs-more p i a b x y ea eb = rw (ea, eb) (sym (some-more (λ k. eqb (one p k) x && eqb (two p k) y) i))
+
+pub pairs-back : (p : List ℕ) (i a b x y : ℕ) → a ≡ one p (i + 1) → b ≡ two p (i + 1) → (pairs p i x y || (eqb b y && eqb a x)) ≡ pairs p (i + 1) x y
+pairs-back p i a b x y ea eb = ap (λ t. pairs p i x y || t) (and-comm (eqb b y) (eqb a x)) ∙ pairs-more p i a b x y ea eb
+
+pub pairs-none : (p : List ℕ) (x y : ℕ) → pairs p 0 x y ≡ false
+unfolding pairs Rattle.search.specs.Search.some
+pairs-none p x y = refl
+
+-- ---- a card's row at a time
+
+abbrev Said : Type 0
+Said = ℕ → ℕ → ℕ → Bool
+
+pub granted-none : (said : Said) (xs : List ℕ) → ((d o r : ℕ) → Among 2 d → Among 512 o → said d o r ≡ false) → Granted said xs xs
+granted-none said xs h = record {
+  readers = λ o r v w. rw (h 1 o r (omega arith) v) (sym (or-false (member xs (rowOf readersAt o) r)));
+  writers = λ o r v w. rw (h 2 o r (omega arith) v) (sym (or-false (member xs (rowOf writersAt o) r)));
+  rest = λ i out. refl;
+}
+
+pub granted-as : {said told : Said} {xs ys : List ℕ} → ((d o r : ℕ) → said d o r ≡ told d o r) → Granted said xs ys → Granted told xs ys
+granted-as e t = record {
+  readers = λ o r v w. rw (← (e 1 o r)) (t .readers o r v w);
+  writers = λ o r v w. rw (← (e 2 o r)) (t .writers o r v w);
+  rest = t .rest;
+}
+
+pub granted-more : {said more : Said} {xs ys zs : List ℕ} → Granted said xs ys → Granted more ys zs → Granted (λ d o r. said d o r || more d o r) xs zs
+granted-more {said} {more} {xs} t u = record {
+  readers = λ o r v w. u .readers o r v w ∙ rw (t .readers o r v w) (or-assoc (member xs (rowOf readersAt o) r) (said 1 o r) (more 1 o r));
+  writers = λ o r v w. u .writers o r v w ∙ rw (t .writers o r v w) (or-assoc (member xs (rowOf writersAt o) r) (said 2 o r) (more 2 o r));
+  rest = λ i out. u .rest i out ∙ t .rest i out;
+}
+
+-- the seniors of a role joined into a card's row of one of the two tables
+module _ (base other role card : ℕ) (xs ys : List ℕ) (fits : 28688 ≤ length xs) (v : Among 128 role) (w : Among 512 card)
+    (p : Placed (rowOf base card) (joined xs (rowOf base card) (rowOf seniorsAt role)) xs ys) where
+  row-joined : base + 8192 ≤ 28688 → (o r : ℕ) → Among 512 o
+      → member ys (rowOf base o) r ≡ (member xs (rowOf base o) r || (eqb card o && member xs (rowOf seniorsAt role) r))
+  row-joined l o r u = elim (ℕ-discrete o card) [
+    | yes e ↦ rw (e, eq-eqb card card refl) (p .row (omega arith) r ∙ rw (whole-true xs (rowOf seniorsAt role) (omega arith)))
+    | no e ↦
+        rw (ne-eqb card o (λ q. e (sym q)))
+        (others-stay base 512 card _ xs ys p w o r u e ∙ sym (or-false (member xs (rowOf base o) r)))
+  ]
+
+  row-apart : (base + 8192 ≤ other) ⊎ (other + 8192 ≤ base) → (o r : ℕ) → Among 512 o → member ys (rowOf other o) r ≡ member xs (rowOf other o) r
+  row-apart far o r u =
+      other-row (rowOf base card) (rowOf other o) _ xs ys p (⊎-elim (λ l. inr (omega arith)) (λ l. inl (omega arith)) far) r
+
+  base-kept : readersAt ≤ base → base + 8192 ≤ 28688 → Kept readersAt 28688 xs ys
+  base-kept l m i out = p .rest i (λ k. let far = out (omega arith) in omega arith)
+
+-- what one line grants
+abbrev pub lineGrants : List ℕ → ℕ → ℕ → ℕ → Said
+lineGrants xs role card mode d o r = eqb card o && (eqb mode d && (among 128 role && member xs (rowOf seniorsAt role) r))
+
+unsaid : (a b : Bool) → b ≡ false → (a && b) ≡ false
+unsaid true b e = e
+unsaid false b e = refl
+
+module _ (role card mode : ℕ) (xs ys : List ℕ) (fits : 28688 ≤ length xs) (v : Among 128 role) (w : Among 512 card) where
+  -- in the mode's table, and in the other
+  here : (d o r : ℕ) → mode ≡ d → (eqb card o && member xs (rowOf seniorsAt role) r) ≡ lineGrants xs role card mode d o r
+  here d o r e = rw (eq-eqb mode d e, among-iff 128 role .1 v)
+
+  there : (d o r : ℕ) (b : Bool) → (mode ≡ d → ⊥) → b ≡ (b || lineGrants xs role card mode d o r)
+  there d o r b ne = rw (ne-eqb mode d ne, unsaid (eqb card o) false refl) (sym (or-false b))
+
+  pub granted-read : mode ≡ 1 → Placed (rowOf readersAt card) (joined xs (rowOf readersAt card) (rowOf seniorsAt role)) xs ys
+      → Granted (lineGrants xs role card mode) xs ys
+  granted-read e p = record {
+    readers = λ o r u t. row-joined readersAt writersAt role card xs ys fits v w p (omega arith) o r u ∙ ap (λ b. member xs (rowOf readersAt o) r || b) (here 1 o r e);
+    writers = λ o r u t. row-apart readersAt writersAt role card xs ys fits v w p (inl (omega arith)) o r u ∙ there 2 o r _ (λ q. omega arith);
+    rest = base-kept readersAt writersAt role card xs ys fits v w p (omega arith) (omega arith);
+  }
+
+  pub granted-write : mode ≡ 2 → Placed (rowOf writersAt card) (joined xs (rowOf writersAt card) (rowOf seniorsAt role)) xs ys
+      → Granted (lineGrants xs role card mode) xs ys
+  granted-write e p = record {
+    readers = λ o r u t. row-apart writersAt readersAt role card xs ys fits v w p (inr (omega arith)) o r u ∙ there 1 o r _ (λ q. omega arith);
+    writers = λ o r u t. row-joined writersAt readersAt role card xs ys fits v w p (omega arith) o r u ∙ ap (λ b. member xs (rowOf writersAt o) r || b) (here 2 o r e);
+    rest = base-kept writersAt readersAt role card xs ys fits v w p (omega arith) (omega arith);
+  }
+
+-- numbers that are no role's, no card's or no mode's grant nothing
+module _ (role card mode : ℕ) (xs : List ℕ) where
+  pub no-role : (Among 128 role → ⊥) → Granted (lineGrants xs role card mode) xs xs
+  no-role h = granted-none _ xs (λ d o r u t.
+      unsaid (eqb card o) _ (unsaid (eqb mode d) _ (rw (untrue (among 128 role) (λ e. h (among-iff 128 role .0 e))))))
+
+  pub no-card : (Among 512 card → ⊥) → Granted (lineGrants xs role card mode) xs xs
+  no-card h = granted-none _ xs (λ d o r u t. rw (ne-eqb card o (λ e. h (rw e t))))
+
+  pub no-mode : (Among 2 mode → ⊥) → Granted (lineGrants xs role card mode) xs xs
+  no-mode h = granted-none _ xs (λ d o r u t. unsaid (eqb card o) _ (rw (ne-eqb mode d (λ e. h (rw e u)))))
+
+-- one line more; the seniors' rows are as they were
+pub granted-line : (xs ys p : List ℕ) (i a b c d o r : ℕ) → a ≡ one p (i + 1) → b ≡ two p (i + 1) → c ≡ three p (i + 1) → Kept readersAt 28688 xs ys
+    → (granted xs p i d o r || lineGrants ys a b c d o r) ≡ granted xs p (i + 1) d o r
+unfolding granted
+granted-line xs ys p i a b c d o r ea eb ec kept =
+    rw (ap (λ x. granted xs p i d o r || (eqb b o && (eqb c d && x))) seniors, ea, eb, ec)
+    (sym (some-more (λ k. eqb (two p k) o && (eqb (three p k) d && (among 128 (one p k) && member xs (rowOf seniorsAt (one p k)) r))) i))
+  where
+    seniors : (among 128 a && member ys (rowOf seniorsAt a) r) ≡ (among 128 a && member xs (rowOf seniorsAt a) r)
+    seniors = and-when (among 128 a) (λ e.
+        let w = among-iff 128 a .0 e in
+        same-bytes xs ys (rowOf seniorsAt a) (rowOf seniorsAt a) (λ k l. kept (rowOf seniorsAt a + k) (λ m. omega arith)) r)
+
+pub granted-yet : (xs p : List ℕ) (d o r : ℕ) → granted xs p 0 d o r ≡ false
+unfolding granted Rattle.search.specs.Search.some
+granted-yet xs p d o r = refl

@@ -1,0 +1,45 @@
+-- Each turn stores one mark more.
+use Prim.Native.Nat.{ℕ, _+_, _*_, _≤_, _-_}
+use mathlib.Core.Path.{_≡_, _∙_}
+use native.Mathlib.Omega.{arith}
+use native.Mathlib.Nat.{zero-add}
+use borrow.Author.Needs.{needs}
+use denote.Ref.{now}
+use lib.ListN.{length}
+use Rattle.roleset.specs.Row.{member}
+use Rattle.roleset.proofs.Rows.{whole-true}
+use Rattle.order.proofs.Stored.{place, Upto, upto-more}
+use Rattle.policy.specs.Tables.{rowOf}
+use Rattle.policy.proofs.gather.labels_of.Statement.{statement}
+use Rattle.policy.proofs.gather.labels_of.Tie as tie
+
+abbrev Inv-loop : tie.InvT-loop
+Inv-loop g role r₀ i₀ r i = (i ≤ 32) × (length r ≡ 32) × Upto i (λ l. member g (rowOf 0 l) role) r
+
+abbrev μ-loop : tie.MeasureT-loop
+μ-loop g role r₀ i₀ r i = 32 - i
+
+loop-again : tie.Need-loop-again Inv-loop μ-loop
+loop-again c =
+    let w = c .before .before .before .loop in
+    let g = now (c .before .before .before .before .args .g) in (
+      search needs,
+      search needs,
+      upto-more _ (w .r) (w .i) _ (search needs) (w .inv .2)
+          (c .has .ensures ∙ rw (whole-true g (16 * w .i) (search needs), place (w .i), zero-add (16 * w .i))),
+    )
+
+pub labels-of-spec : {M : Type 1} → statement M
+labels-of-spec =
+    tie.close
+    (tie.spec
+    Inv-loop
+    μ-loop
+    (λ c. (search needs, search needs, λ l w. absurd (omega arith)))
+    (λ c. search needs)
+    (λ c κs. search needs)
+    (λ c. search needs)
+    (λ c. search needs)
+    (λ c. search needs)
+    loop-again
+    (λ c l w. c .before .loop .inv .2 l (omega arith)))

@@ -1,0 +1,40 @@
+-- Free where the set is empty, undefined where there is no bound, and else the bound.
+use Prim.Native.Nat.{ℕ, min, _≤_}
+use mathlib.Core.Path.{_≡_, sym, _∙_}
+use native.Mathlib.Omega.{arith}
+use borrow.Author.Needs.{needs}
+use Rattle.search.proofs.Truth.{passed, failed}
+use Rattle.order.specs.Bound.{lub, turned}
+use Rattle.order.specs.Table.{marks, mark}
+use Rattle.order.proofs.Bound.{lub-within}
+use Rattle.policy.proofs.Gathering.{level-empty, level-undefined, level-bound}
+use Rattle.policy.proofs.gather.level_of.Statement.{statement}
+use Rattle.policy.proofs.gather.level_of.Tie as tie
+
+returns : tie.Need-returns
+returns c = level-empty _ _ _ (failed (c .before .any .ensures) (c .if1 .taken))
+
+-- the bound that was found
+found : (c : tie.After-greatest-lower) → let a = c .before .before .before .args in c .greatest-lower .result ≡ lub (a .n) (turned (mark (a .t))) (marks (a .s))
+found c =
+    let a = c .before .before .before .args in
+    let q : min (a .n) 32 ≡ a .n = omega arith in
+    rw q at (c .greatest-lower .ensures)
+
+returns-2 : tie.Need-returns-2
+returns-2 c =
+    let g = c .before in
+    level-undefined _ _ _ _ (passed (g .before .before .any .ensures) (g .before .if1 .left)) (found g) (c .if2 .taken)
+
+cast-result : tie.Need-cast-result
+cast-result c =
+    let a = c .before .before .before .before .args in
+    omega (arith, found (c .before), lub-within (a .n) (turned (mark (a .t))) (marks (a .s)))
+
+returns-3 : tie.Need-returns-3
+returns-3 c =
+    let g = c .before in
+    level-bound _ _ _ _ (passed (g .before .before .any .ensures) (g .before .if1 .left)) (found g) (c .if2 .left)
+
+pub level-of-spec : {M : Type 1} → statement M
+level-of-spec = tie.close (tie.spec (λ c κs. search needs) returns (λ c κs. search needs) returns-2 cast-result returns-3)

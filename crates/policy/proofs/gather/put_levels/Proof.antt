@@ -1,0 +1,57 @@
+-- Each turn stores the level of one role more.
+use Prim.Native.Nat.{ℕ, _+_, _*_, _≤_, _-_}
+use mathlib.Core.Path.{_≡_, ap, _∙_}
+use native.Mathlib.Omega.{arith}
+use borrow.Author.Needs.{needs}
+use lib.ListN.{length}
+use Rattle.roleset.specs.Row.{member}
+use Rattle.order.specs.Bound.{turned}
+use Rattle.order.specs.Table.{mark}
+use Rattle.policy.specs.Policy.{level, shown}
+use Rattle.policy.specs.Tables.{rowOf, Bytes}
+use Rattle.policy.proofs.Noted.{store-none, store-more}
+use Rattle.policy.proofs.Gathering.{level-same-set}
+use Rattle.policy.proofs.gather.put_levels.Statement.{statement}
+use Rattle.policy.proofs.gather.put_levels.Tie as tie
+
+abbrev Inv-loop : tie.InvT-loop
+Inv-loop s₀ at t n roles g i₀ s i =
+    (i ≤ roles) × (length s ≡ length s₀) × Bytes at i (λ r. shown (level n (turned (mark t)) (λ l. member g (rowOf 0 l) r))) s₀ s
+
+abbrev μ-loop : tie.MeasureT-loop
+μ-loop s₀ at t n roles g i₀ s i = roles - i
+
+loop-again : tie.Need-loop-again Inv-loop μ-loop
+loop-again c =
+    let w = c .before .before .before .before .loop in
+    let t = c .before .before .before .before .before .before .args .t in (
+      search needs,
+      search needs,
+      store-more _ _ _ (w .i) _ (w .s) (w .inv .2) (search needs)
+          (c .level-of .ensures
+          ∙ ap shown (level-same-set _ (turned (mark t)) _ _ (λ l v. c .before .labels-of .ensures l (omega arith)))),
+    )
+
+returns : tie.Need-returns Inv-loop μ-loop
+returns c =
+    let w = c .before .loop in
+    let q : w .i ≡ c .before .before .before .args .roles = omega arith in
+    rw q at (w .inv .2)
+
+pub put-levels-spec : {M : Type 1} → statement M
+put-levels-spec =
+    tie.close
+    (tie.spec
+    Inv-loop
+    μ-loop
+    (λ c. (search needs, search needs, store-none _ _ _))
+    (λ c. search needs)
+    (λ c κs. search needs)
+    (λ c κs. search needs)
+    (λ c. search needs)
+    (λ c. search needs)
+    (λ c. search needs)
+    (λ c. search needs)
+    loop-again
+    (λ c. search needs)
+    returns)

@@ -1,0 +1,56 @@
+-- A search among the first n things.
+use Prim.Native.Nat.{ℕ, _≤_, _-_}
+use mathlib.Core.Path.{_≡_, sym}
+use mathlib.Core.Bool.{Bool}
+use mathlib.Core.List.{List}
+use native.Mathlib.Omega.{arith}
+use borrow.Author.Needs.{needs}
+use Rattle.search.specs.Search.{first}
+use Rattle.search.proofs.Found.{first-yet, first-found, first-more}
+use Rattle.order.proofs.Stored.{place}
+use Rattle.policy.specs.Tables.{byteOf, unlabelledByte}
+use Rattle.policy.proofs.labels.lowest_unlabelled.Statement.{statement}
+use Rattle.policy.proofs.labels.lowest_unlabelled.Tie as tie
+
+abbrev bad : List ℕ → ℕ → ℕ → Bool
+bad s at x = unlabelledByte (byteOf s at x)
+
+abbrev Inv-loop : tie.InvT-loop
+Inv-loop s at n i₀ i = (i ≤ n) × (first i (bad s at) ≡ 0)
+
+abbrev μ-loop : tie.MeasureT-loop
+μ-loop s at n i₀ i = n - i
+
+returns : tie.Need-returns Inv-loop μ-loop
+returns c =
+    let a = c .before .before .before .before .args in
+    let w = c .before .before .before .loop in
+    first-found (bad (a .s .now) (a .at)) (a .n) (w .i) (omega arith) (w .inv .1) (simp (place (w .i)) (c .if1 .taken))
+
+loop-again : tie.Need-loop-again Inv-loop μ-loop
+loop-again c =
+    let a = c .before .before .before .before .args in
+    let w = c .before .before .before .loop in
+    (search needs, first-more (bad (a .s .now) (a .at)) (w .i) (w .inv .1) (simp (place (w .i)) (c .if1 .left)))
+
+returns-2 : tie.Need-returns-2 Inv-loop μ-loop
+returns-2 c =
+    let w = c .before .loop in
+    let q : w .i ≡ c .before .before .args .n = omega arith in
+    sym (rw q at (w .inv .1))
+
+pub lowest-unlabelled-spec : {M : Type 1} → statement M
+lowest-unlabelled-spec =
+    tie.close
+    (tie.spec
+    Inv-loop
+    μ-loop
+    (λ c. (search needs, first-yet _))
+    (λ c. search needs)
+    (λ c. search needs)
+    (λ c. search needs)
+    returns
+    (λ c. search needs)
+    (λ c. search needs)
+    loop-again
+    returns-2)

@@ -1,0 +1,49 @@
+-- Each line adds its pair.
+use Prim.Native.Nat.{ℕ, _+_, _≤_, _-_}
+use mathlib.Core.Path.{_≡_, sym, _∙_}
+use native.Mathlib.Omega.{arith}
+use borrow.Author.Needs.{needs}
+use denote.Ref.{now}
+use lib.ListN.{length}
+use Rattle.policy.specs.Tables.{pairs, Related}
+use Rattle.policy.proofs.Relating.{related-none, related-as, related-more, pairs-more, pairs-none}
+use Rattle.policy.proofs.rows.relate_lines.Statement.{statement}
+use Rattle.policy.proofs.rows.relate_lines.Tie as tie
+
+abbrev Inv-loop : tie.InvT-loop
+Inv-loop s₀ at size p m i₀ s i = (i ≤ m) × (length s ≡ length s₀) × Related at size (pairs p i) s₀ s
+
+abbrev μ-loop : tie.MeasureT-loop
+μ-loop s₀ at size p m i₀ s i = m - i
+
+loop-again : tie.Need-loop-again Inv-loop μ-loop
+loop-again c =
+    let turn = c .before .before .before .before in
+    let w = turn .before .before .loop in
+    let p = now (turn .before .before .before .before .before .args .p) in
+    let l = turn .numbers-of .ensures .inside (search needs) in (
+      search needs,
+      search needs,
+      related-as (λ x r. pairs-more p (w .i) _ _ x r (l .0) (l .1)) (related-more (w .inv .2) (c .before .before .relate .ensures)),
+    )
+
+returns : tie.Need-returns Inv-loop μ-loop
+returns c =
+    let w = c .before .loop in
+    let q : w .i ≡ c .before .before .before .before .args .m = omega arith in
+    rw q at (w .inv .2)
+
+pub relate-lines-spec : {M : Type 1} → statement M
+relate-lines-spec =
+    tie.close
+    (tie.spec
+    Inv-loop
+    μ-loop
+    (λ c. (search needs, search needs, related-none _ _ _ _ (λ x r v w. pairs-none _ x r)))
+    (λ c κs. search needs)
+    (λ c κs. search needs)
+    (λ c. search needs)
+    (λ c. search needs)
+    loop-again
+    (λ c. search needs)
+    returns)

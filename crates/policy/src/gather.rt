@@ -1,0 +1,105 @@
+// Levels: the labels that a role may read or write are gathered, and bounded.
+ghost use mathlib.Core.Path.{_≡_};
+ghost use mathlib.Core.Bool.{_&&_, _||_};
+ghost use lib.Dec.{eqb};
+ghost use Prim.Native.Nat.{ℕ, _+_, _*_, _-_, _≤_, _<_};
+ghost use lib.ListN.{length};
+ghost use Rattle.search.specs.Search.{Among, some};
+ghost use Rattle.roleset.specs.Row.{member};
+ghost use Rattle.order.specs.Bound.{turned};
+ghost use Rattle.order.specs.Table.{marks, mark};
+ghost use Rattle.policy.specs.Policy.{level, shown};
+ghost use Rattle.policy.specs.Tables.{byteOf, rowOf, cardLabelsAt, gathered, Bytes};
+
+// Joins the row of thing o + 1, of the table at `at`, into the row of its label.
+fn gather_one(g: &mut [u8; 512], s: &[u8], at: usize, o: usize)
+    requires { ⌜ (at + 8192 ≤ length (now s)) × (1808 ≤ length (now s)) × (o < 512) ⌝ }
+    ensures { λ _. ⌜ ((l r : ℕ) → Among 32 l → Among 128 r → member (now (g .exit)) (rowOf 0 l) r ≡ (member (now (g .entry)) (rowOf 0 l) r || (eqb (byteOf (now (s .entry)) cardLabelsAt (o + 1)) l && member (now (s .entry)) (rowOf at (o + 1)) r))) ⌝ }
+{
+    let label = s[1296 + o] as usize;
+    if label < 1 {
+        return;
+    }
+    if 32 < label {
+        return;
+    }
+    let row = roleset::row(s, at + 16 * o);
+    roleset::unite(g, 16 * (label - 1), row);
+}
+
+// For each label, the roles that the table at `at` has for one of the first n cards of that label.
+pub fn gather(s: &[u8], at: usize, n: usize) -> [u8; 512]
+    requires { ⌜ (at + 8192 ≤ length (now s)) × (1808 ≤ length (now s)) × (n ≤ 512) ⌝ }
+    ensures { λ g. ⌜ ((l r : ℕ) → Among 32 l → Among 128 r → member g (rowOf 0 l) r ≡ gathered (now (s .entry)) at n l r) ⌝ }
+{
+    let mut g = [0u8; 512];
+    let mut o = 0;
+    while o < n {
+        gather_one(&mut g, s, at, o);
+        o += 1;
+    }
+    g
+}
+
+// The labels whose row of `g` has the role.
+fn labels_of(g: &[u8; 512], role: usize) -> [bool; 32]
+    ensures { λ r. ⌜ ((l : ℕ) → Among 32 l → marks r l ≡ member (now (g .entry)) (rowOf 0 l) role) ⌝ }
+{
+    let mut r = [false; 32];
+    let mut i = 0;
+    while i < 32 {
+        r[i] = roleset::has(g, 16 * i, role);
+        i += 1;
+    }
+    r
+}
+
+// Whether one of the first n things is in the set.
+fn any(s: [bool; 32], n: usize) -> bool
+    requires { ⌜ n ≤ 32 ⌝ }
+    ensures { λ r. ⌜ r ≡ some n (marks s) ⌝ }
+{
+    let mut i = 0;
+    while i < n {
+        if s[i] {
+            return true;
+        }
+        i += 1;
+    }
+    false
+}
+
+// The level of a set of the first n labels: its bound by the rows of t, as it is kept.
+fn level_of(t: [[bool; 32]; 32], n: usize, s: [bool; 32]) -> u8
+    requires { ⌜ n ≤ 32 ⌝ }
+    ensures { λ r. ⌜ r ≡ shown (level n (turned (mark t)) (marks s)) ⌝ }
+{
+    if !any(s, n) {
+        return 0;
+    }
+    let bound = order::bounds::greatest_lower(t, n, s);
+    if bound == 0 {
+        return 99;
+    }
+    bound as u8
+}
+
+// Puts the levels of the first `roles` roles at `at`.
+pub fn put_levels(
+    s: &mut [u8],
+    at: usize,
+    g: [u8; 512],
+    t: [[bool; 32]; 32],
+    n: usize,
+    roles: usize,
+)
+    requires { ⌜ (at + roles ≤ length (now s)) × (n ≤ 32) × (roles ≤ 128) ⌝ }
+    ensures { λ _. ⌜ Bytes at roles (λ r. shown (level n (turned (mark t)) (λ l. member g (rowOf 0 l) r))) (now (s .entry)) (now (s .exit)) ⌝ }
+{
+    let mut i = 0;
+    while i < roles {
+        let set = labels_of(&g, i + 1);
+        s[at + i] = level_of(t, n, set);
+        i += 1;
+    }
+}

@@ -1,0 +1,64 @@
+// Tables of one byte for each thing: clearances and card labels.
+use rolefile::read;
+ghost use mathlib.Core.Path.{_≡_};
+ghost use mathlib.Core.Bool.{cond};
+ghost use lib.Dec.{eqb};
+ghost use Prim.Native.Nat.{_+_, _≤_};
+ghost use lib.ListN.{length};
+ghost use Rattle.search.specs.Search.{first};
+ghost use Rattle.rolefile.specs.Line.{lines};
+ghost use Rattle.policy.specs.Tables.{byteOf, Bytes, noted, notes, unlabelledByte};
+
+// The byte for a label where `old` was there before: 255 where it is the second.
+fn noted(old: u8, label: usize) -> u8
+    ensures { λ r. ⌜ r ≡ noted old label ⌝ }
+{
+    if old == 0 {
+        return (label % 256) as u8;
+    }
+    255
+}
+
+// Notes a label for thing x, if it is one of the table's.
+fn note(s: &mut [u8], at: usize, size: usize, x: usize, label: usize)
+    requires { ⌜ (at + size ≤ length (now s)) × (size ≤ 512) ⌝ }
+    ensures { λ _. ⌜ Bytes at size (λ y. cond (eqb x y) (noted (byteOf (now (s .entry)) at y) label) (byteOf (now (s .entry)) at y)) (now (s .entry)) (now (s .exit)) ⌝ }
+{
+    if x < 1 {
+        return;
+    }
+    if size < x {
+        return;
+    }
+    let i = at + (x - 1);
+    s[i] = noted(s[i], label);
+}
+
+// Notes the labels that the first m lines of a part give.
+pub fn note_lines(s: &mut [u8], at: usize, size: usize, p: &[u8], m: usize)
+    requires { ⌜ (at + size ≤ length (now s)) × (size ≤ 512) × (m ≤ lines (now p)) ⌝ }
+    ensures { λ _. ⌜ Bytes at size (λ x. notes (now (p .entry)) m x (byteOf (now (s .entry)) at x)) (now (s .entry)) (now (s .exit)) ⌝ }
+{
+    let mut i = 0;
+    while i < m {
+        let l = read::numbers_of(p, i);
+        note(s, at, size, l.a, l.b);
+        i += 1;
+    }
+}
+
+// The lowest of n things with no label or several, or 0.
+pub fn lowest_unlabelled(s: &[u8], at: usize, n: usize) -> usize
+    requires { ⌜ at + n ≤ length (now s) ⌝ }
+    ensures { λ r. ⌜ r ≡ first n (λ x. unlabelledByte (byteOf (now (s .entry)) at x)) ⌝ }
+{
+    let mut i = 0;
+    while i < n {
+        let v = s[at + i];
+        if (v == 0) | (v == 255) {
+            return i + 1;
+        }
+        i += 1;
+    }
+    0
+}

@@ -1,0 +1,112 @@
+// Dominance: the marks of the D lines, and the closed marks as bytes.
+use rolefile::read;
+ghost use mathlib.Core.Path.{_≡_};
+ghost use mathlib.Core.Bool.{_||_, _&&_, cond};
+ghost use Prim.Native.Nat.{ℕ, _+_, _*_, _-_, _≤_};
+ghost use lib.Dec.{eqb};
+ghost use lib.ListN.{length, getD};
+ghost use Rattle.search.specs.Search.{Among};
+ghost use Rattle.order.specs.Table.{marks, mark};
+ghost use Rattle.rolefile.specs.Line.{lines};
+ghost use Rattle.policy.specs.Tables.{pairs, dominanceAt, Kept, marked};
+
+// The row with a mark at thing b.
+fn with_mark(row: [bool; 32], b: usize) -> [bool; 32]
+    requires { ⌜ Among 32 b ⌝ }
+    ensures { λ r. ⌜ ((y : ℕ) → Among 32 y → marks r y ≡ (marks row y || eqb b y)) ⌝ }
+{
+    let mut r = row;
+    r[b - 1] = true;
+    r
+}
+
+// The table with a mark for a over b, if both are labels.
+fn with_pair(t: [[bool; 32]; 32], a: usize, b: usize) -> [[bool; 32]; 32]
+    ensures { λ r. ⌜ ((x y : ℕ) → Among 32 x → Among 32 y → mark r x y ≡ (mark t x y || (eqb a x && eqb b y))) ⌝ }
+{
+    if a < 1 {
+        return t;
+    }
+    if 32 < a {
+        return t;
+    }
+    if b < 1 {
+        return t;
+    }
+    if 32 < b {
+        return t;
+    }
+    let i = a - 1;
+    let row = t[i];
+    let mut r = t;
+    r[i] = with_mark(row, b);
+    r
+}
+
+// The marks of the first m lines of a part.
+pub fn table_of(p: &[u8], m: usize) -> [[bool; 32]; 32]
+    requires { ⌜ m ≤ lines (now p) ⌝ }
+    ensures { λ r. ⌜ ((a b : ℕ) → Among 32 a → Among 32 b → mark r a b ≡ pairs (now (p .entry)) m a b) ⌝ }
+{
+    let mut t = [[false; 32]; 32];
+    let mut i = 0;
+    while i < m {
+        let l = read::numbers_of(p, i);
+        let next = with_pair(t, l.a, l.b);
+        t = next;
+        i += 1;
+    }
+    t
+}
+
+// The byte of a mark.
+fn byte(on: bool) -> u8
+    ensures { λ r. ⌜ r ≡ cond on 1 0 ⌝ }
+{
+    if on { 1 } else { 0 }
+}
+
+// Puts a row of marks at `at`, a byte for each.
+fn put_row(s: &mut [u8], at: usize, row: [bool; 32])
+    requires { ⌜ at + 32 ≤ length (now s) ⌝ }
+    ensures { λ _. ⌜ (((b : ℕ) → Among 32 b → getD (now (s .exit)) (at + (b - 1)) 0 ≡ cond (marks row b) 1 0) × Kept at (at + 32) (now (s .entry)) (now (s .exit))) ⌝ }
+{
+    let mut j = 0;
+    while j < 32 {
+        s[at + j] = byte(row[j]);
+        j += 1;
+    }
+}
+
+// Puts the table where dominance stands.
+pub fn put_table(s: &mut [u8], t: [[bool; 32]; 32])
+    requires { ⌜ 1040 ≤ length (now s) ⌝ }
+    ensures { λ _. ⌜ (((a b : ℕ) → Among 32 a → Among 32 b → getD (now (s .exit)) (dominanceAt + (32 * (a - 1) + (b - 1))) 0 ≡ cond (mark t a b) 1 0) × Kept 16 1040 (now (s .entry)) (now (s .exit))) ⌝ }
+{
+    let mut i = 0;
+    while i < 32 {
+        let row = t[i];
+        put_row(s, 16 + 32 * i, row);
+        i += 1;
+    }
+}
+
+// Whether label a dominates label b, by the bytes.
+pub fn dominates(s: &[u8], a: usize, b: usize) -> bool
+    requires { ⌜ 1040 ≤ length (now s) ⌝ }
+    ensures { λ r. ⌜ r ≡ marked (now (s .entry)) a b ⌝ }
+{
+    if a < 1 {
+        return false;
+    }
+    if 32 < a {
+        return false;
+    }
+    if b < 1 {
+        return false;
+    }
+    if 32 < b {
+        return false;
+    }
+    s[16 + (32 * (a - 1) + (b - 1))] == 1
+}

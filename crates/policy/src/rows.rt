@@ -1,0 +1,91 @@
+// Tables of role sets: seniors, assigned roles, readers and writers.
+use rolefile::read;
+ghost use mathlib.Core.Path.{_≡_};
+ghost use mathlib.Core.Bool.{Bool, _||_, _&&_};
+ghost use Prim.Native.Nat.{ℕ, _+_, _*_, _≤_};
+ghost use lib.Dec.{eqb};
+ghost use lib.ListN.{length};
+ghost use Rattle.search.specs.Search.{Among, among};
+ghost use Rattle.roleset.specs.Row.{member};
+ghost use Rattle.rolefile.specs.Line.{lines};
+ghost use Rattle.policy.specs.Tables.{rowOf, seniorsAt, pairs, granted, Related, Granted};
+
+// Puts a role into the row of thing x, if it is one of the table's.
+fn relate(s: &mut [u8], at: usize, size: usize, x: usize, role: usize)
+    requires { ⌜ (at + 16 * size ≤ length (now s)) × (size ≤ 512) ⌝ }
+    ensures { λ _. ⌜ Related at size (λ y r. eqb x y && eqb role r) (now (s .entry)) (now (s .exit)) ⌝ }
+{
+    if x < 1 {
+        return;
+    }
+    if size < x {
+        return;
+    }
+    roleset::add(s, at + 16 * (x - 1), role);
+}
+
+// The first m lines of a part: each puts its second number into the row of its first.
+pub fn relate_lines(s: &mut [u8], at: usize, size: usize, p: &[u8], m: usize)
+    requires { ⌜ (at + 16 * size ≤ length (now s)) × (size ≤ 512) × (m ≤ lines (now p)) ⌝ }
+    ensures { λ _. ⌜ Related at size (pairs (now (p .entry)) m) (now (s .entry)) (now (s .exit)) ⌝ }
+{
+    let mut i = 0;
+    while i < m {
+        let l = read::numbers_of(p, i);
+        relate(s, at, size, l.a, l.b);
+        i += 1;
+    }
+}
+
+// The same the other way round: each puts its first number into the row of its second.
+pub fn relate_back(s: &mut [u8], at: usize, size: usize, p: &[u8], m: usize)
+    requires { ⌜ (at + 16 * size ≤ length (now s)) × (size ≤ 512) × (m ≤ lines (now p)) ⌝ }
+    ensures { λ _. ⌜ Related at size (λ x r. pairs (now (p .entry)) m r x) (now (s .entry)) (now (s .exit)) ⌝ }
+{
+    let mut i = 0;
+    while i < m {
+        let l = read::numbers_of(p, i);
+        relate(s, at, size, l.b, l.a);
+        i += 1;
+    }
+}
+
+// Joins the seniors of a role into the card's row of the mode's table, if the numbers are such.
+fn grant(s: &mut [u8], role: usize, card: usize, mode: usize)
+    requires { ⌜ 28688 ≤ length (now s) ⌝ }
+    ensures { λ _. ⌜ Granted (λ d o r. eqb card o && (eqb mode d && (among 128 role && member (now (s .entry)) (rowOf seniorsAt role) r))) (now (s .entry)) (now (s .exit)) ⌝ }
+{
+    if role < 1 {
+        return;
+    }
+    if 128 < role {
+        return;
+    }
+    if card < 1 {
+        return;
+    }
+    if 512 < card {
+        return;
+    }
+    if mode == 1 {
+        roleset::join(s, 12304 + 16 * (card - 1), 2064 + 16 * (role - 1));
+        return;
+    }
+    if mode == 2 {
+        roleset::join(s, 20496 + 16 * (card - 1), 2064 + 16 * (role - 1));
+        return;
+    }
+}
+
+// The first m lines of a part: each lets the seniors of its role read or write its card.
+pub fn grant_lines(s: &mut [u8], p: &[u8], m: usize)
+    requires { ⌜ (28688 ≤ length (now s)) × (m ≤ lines (now p)) ⌝ }
+    ensures { λ _. ⌜ Granted (granted (now (s .entry)) (now (p .entry)) m) (now (s .entry)) (now (s .exit)) ⌝ }
+{
+    let mut i = 0;
+    while i < m {
+        let l = read::numbers_of(p, i);
+        grant(s, l.a, l.b, l.c);
+        i += 1;
+    }
+}

@@ -1,0 +1,227 @@
+-- The letters of a file whose lines are all good come in the table's order, so the lines of one letter are a section of the file: what the file says by
+-- that letter its section says, and the numbers of those lines are the figures of the part that starts there. Assumes nothing.
+use Prim.Native.Nat.{ℕ, zero, suc, _+_, _*_, _-_, _≤_, _<_}
+use mathlib.Core.Path.{_≡_, refl, sym, _∙_}
+use mathlib.Core.Logic.{_↔_, ⊎-elim}
+use mathlib.Core.List.{List}
+use mathlib.Core.Bool.{Bool, true, false, _&&_, and-true}
+use native.Mathlib.Omega.{arith}
+use native.Mathlib.Nat.{add-zero, add-suc}
+use native.Mathlib.Decide.{decLt}
+use lib.Dec.{eqb}
+use lib.ListN.{getD, drop}
+use lib.Seq.{getD-drop}
+use borrow.Author.Tests.{eqb-true, eq-eqb}
+use Rattle.search.specs.Search.{Among, some}
+use Rattle.search.proofs.Truth.{and-iff}
+use Rattle.rolefile.specs.declared.Line.{Line}
+use Rattle.rolefile.specs.declared.Verdict.{Verdict}
+use Rattle.rolefile.specs.Field.{fieldAt}
+use Rattle.rolefile.specs.Line.{P, letterOf, fields, start, lineAt, lines}
+use Rattle.rolefile.specs.Form.{fine, scan, count, about}
+use Rattle.rolefile.specs.Said.{is, says, last, labelBy}
+use Rattle.rolefile.specs.WellFormed.{GoodLine}
+use Rattle.rolefile.specs.Decimal.{letterByte, inUse}
+use Rattle.rolefile.specs.Section.{one, two, three, letterAt, Leads}
+use Rattle.rolefile.proofs.Decimals.{figures}
+use Rattle.rolefile.proofs.Written.{Reads, Stands, letter-iff, line-iff}
+use Rattle.rolefile.proofs.Parts.{part-line, part-lines}
+use Rattle.rolefile.proofs.Within.{Within, some-within, count-within, last-within, scan-within}
+
+-- the part of a file after j lines
+abbrev pub part : List ℕ → ℕ → List ℕ
+part f j = drop (22 * j) f
+
+-- the first j lines are of letters before k, and the others are not
+pub record Cut (f : List ℕ) (k j : ℕ) : Type 0 where
+  pub fits : j ≤ lines f
+  pub below : (i : ℕ) → Among j i → lineAt f i .letter < k
+  pub rest : (i : ℕ) → j < i → i ≤ lines f → k ≤ lineAt f i .letter
+
+-- the m lines after the first j, and no others, are of the letter k
+pub record Section (f : List ℕ) (k j m : ℕ) : Type 0 where
+  pub fits : j + m ≤ lines f
+  pub inside : (i : ℕ) → Among m i → lineAt f (j + i) .letter ≡ k
+  pub only : (i : ℕ) → Among (lines f) i → lineAt f i .letter ≡ k → Within j m i
+
+part-letter : (f : List ℕ) (j i : ℕ) → 1 ≤ i → letterAt (part f j) i ≡ letterAt f (j + i)
+unfolding letterAt
+part-letter f j i l =
+    let from : start (j + i) ≡ 22 * j + start i = omega arith in
+    rw (getD-drop, from)
+
+-- a section ends where the next letter begins
+between : {f : List ℕ} {k j : ℕ} (m : ℕ) → Cut f k j → Cut f (k + 1) (j + m) → Section f k j m
+between {f} {k} {j} m c d = record {
+  fits = d .fits;
+  inside = λ i w. omega (arith, c .rest (j + i) (omega arith) (omega (arith, d .fits)), d .below (j + i) (omega arith));
+  only = λ i w e. (starts i w e, ends i w e);
+}
+  where
+    starts : (i : ℕ) → Among (lines f) i → lineAt f i .letter ≡ k → j < i
+    starts i w e = elim (decLt j i) [ yes l ↦ l | no l ↦ absurd (omega (arith, c .below i (omega arith))) ]
+
+    ends : (i : ℕ) → Among (lines f) i → lineAt f i .letter ≡ k → i ≤ j + m
+    ends i w e = elim (decLt (j + m) i) [ yes l ↦ absurd (omega (arith, d .rest i l (w .1))) | no l ↦ omega arith ]
+
+module _ (f : List ℕ) (good : (k : ℕ) → Among (lines f) k → GoodLine f k) where
+  -- ---- the letters
+
+  some-letter : (i : ℕ) → Among (lines f) i → 1 ≤ lineAt f i .letter
+  some-letter i w = elim (decLt 1 i) [
+    | yes l ↦ omega (arith, good i w .body (λ e. omega arith) .letter)
+    | no l ↦ let e : i ≡ 1 = omega arith in rw e (omega (arith, good i w .head e .letter))
+  ]
+
+  next-letter : (i : ℕ) → Among (lines f) (suc i) → 1 ≤ i → lineAt f i .letter ≤ lineAt f (suc i) .letter
+  next-letter i w l =
+      let before : suc i - 1 ≡ i = omega arith in
+      ⊎-elim (λ h. omega arith) (λ h. omega arith) (rw before at (good (suc i) w .body (λ e. omega arith) .order))
+
+  pub letters-rise : (i j : ℕ) → Among (lines f) i → Among (lines f) j → i ≤ j → lineAt f i .letter ≤ lineAt f j .letter
+  letters-rise i j v w l =
+      let e : i + (j - i) ≡ j = omega arith in
+      rw e at (go (j - i) (omega arith))
+    where
+      go : (d : ℕ) → i + d ≤ lines f → lineAt f i .letter ≤ lineAt f (i + d) .letter
+      go zero h = rw add-zero (omega arith)
+      go (suc d) h = rw add-suc (omega (arith, go d (omega arith), next-letter (i + d) (omega arith) (omega arith)))
+
+  first-byte : (i : ℕ) → Among (lines f) i → letterOf (getD f (start i) 0) ≡ lineAt f i .letter
+  first-byte i w = line-iff f i (lineAt f i) .0 (refl, some-letter i w) .letter
+
+  pub letter-among : (i : ℕ) → Among (lines f) i → Among 7 (lineAt f i .letter)
+  letter-among i w = letter-iff (getD f (start i) 0) (lineAt f i .letter) .0 (first-byte i w, some-letter i w) .1
+
+  -- a line's letter is k just where its first byte is that of k
+  letter-byte : (i k : ℕ) → Among (lines f) i → Among 7 k → (lineAt f i .letter ≡ k) ↔ (letterAt f i ≡ letterByte k)
+  unfolding letterAt
+  letter-byte i k w u = (
+    λ e. letter-iff (getD f (start i) 0) k .0 (first-byte i w ∙ e, u .0) .0,
+    λ e. sym (first-byte i w) ∙ letter-iff (getD f (start i) 0) k .1 (e, u) .0,
+  )
+
+  -- ---- where they begin and end
+
+  pub cut-first : 1 ≤ lines f → Cut f 2 1
+  cut-first l = record {
+    fits = l;
+    below = λ i w. let e : i ≡ 1 = omega arith in rw e (omega (arith, good 1 (omega arith) .head refl .letter));
+    rest = λ i p q. good i (omega arith) .body (λ e. omega arith) .letter;
+  }
+
+  module _ (k j m b : ℕ) (c : Cut f k j) (e : letterByte k ≡ b) (u : Among 7 k) (h : Leads (part f j) b m) where
+    cut-fits : j + m ≤ lines f
+    cut-fits = omega (arith, c .fits, h .fits, part-lines f j)
+
+    leads-letter : (i : ℕ) → Among m i → lineAt f (j + i) .letter ≡ k
+    leads-letter i w =
+        letter-byte (j + i) k (omega (arith, cut-fits)) u .1 (sym (part-letter f j i (w .0)) ∙ h .front i w ∙ sym e)
+
+    next-other : j + m < lines f → lineAt f (j + (m + 1)) .letter ≡ k → ⊥
+    next-other l g =
+        h .next (omega (arith, part-lines f j)) (part-letter f j (m + 1) (omega arith) ∙ letter-byte (j + (m + 1)) k (omega arith) u .0 g ∙ e)
+
+    pub cut-next : Cut f (k + 1) (j + m)
+    cut-next = record { fits = cut-fits; below = low; rest = high }
+      where
+        low : (i : ℕ) → Among (j + m) i → lineAt f i .letter < k + 1
+        low i w = elim (decLt j i) [
+          | yes l ↦ let q : j + (i - j) ≡ i = omega arith in omega (arith, rw q at (leads-letter (i - j) (omega arith)))
+          | no l ↦ omega (arith, c .below i (omega arith))
+        ]
+
+        high : (i : ℕ) → j + m < i → i ≤ lines f → k + 1 ≤ lineAt f i .letter
+        high i l r =
+            let rise = letters-rise (j + (m + 1)) i (omega arith) (omega arith) (omega arith) in
+            let above = c .rest (j + (m + 1)) (omega arith) (omega arith) in
+            let other = next-other (omega arith) in
+            omega arith
+
+    pub section-of : Section f k j m
+    section-of = between m c cut-next
+
+-- ---- searches for lines of one letter
+
+module _ {f : List ℕ} {k j m : ℕ} (s : Section f k j m) where
+  module _ (q : ℕ → Bool) (of : (i : ℕ) → Among (lines f) i → q i ≡ true → lineAt f i .letter ≡ k) where
+    only-within : (i : ℕ) → Among (lines f) i → q i ≡ true → Within j m i
+    only-within i w e = s .only i w (of i w e)
+
+    pub some-section : some (lines f) q ≡ some m (λ i. q (j + i))
+    some-section = some-within (lines f) j m (s .fits) q (λ i. q (j + i)) only-within (λ i w. refl)
+
+    pub count-section : count (lines f) q ≡ count m (λ i. q (j + i))
+    count-section = count-within (lines f) j m (s .fits) q (λ i. q (j + i)) only-within (λ i w. refl)
+
+    pub last-section : (v : ℕ → ℕ) → last (lines f) q v ≡ last m (λ i. q (j + i)) (λ i. v (j + i))
+    last-section v = last-within (lines f) j m (s .fits) q (λ i. q (j + i)) only-within (λ i w. refl) v (λ i. v (j + i)) (λ i w. refl)
+
+  -- a test that begins with the letter
+  tested : (rest : ℕ → Bool) (i : ℕ) → Among (lines f) i → (eqb (lineAt f i .letter) k && rest i) ≡ true → Within j m i
+  tested rest i w e = s .only i w (eqb-true (lineAt f i .letter) k (and-iff (eqb (lineAt f i .letter) k) (rest i) .0 e .0))
+
+  -- v refuses lines of the letter k alone, and says nothing else where it does not refuse
+  pub scan-section : (v : ℕ → Verdict) → ((i : ℕ) → Among (lines f) i → v i .number ≡ 0 → v i ≡ fine)
+      → ((i : ℕ) → Among (lines f) i → (lineAt f i .letter ≡ k → ⊥) → v i ≡ fine) → scan (lines f) v ≡ scan m (λ i. v (j + i))
+  scan-section v clean other =
+      scan-within (lines f) j m (s .fits) v (λ i. v (j + i)) clean (λ i w out. other i w (λ e. out (s .only i w e))) (λ i w. refl)
+
+-- ---- the numbers of lines
+
+-- the numbers of the m lines l of the part p are its figures; a letter of two fields has no third
+pub record Told (p : List ℕ) (l : ℕ → Line) (m : ℕ) : Type 0 where
+  pub one : (i : ℕ) → Among m i → one p i ≡ l i .a
+  pub two : (i : ℕ) → Among m i → two p i ≡ l i .b
+  pub mode : (i : ℕ) → Among m i → l i .letter ≡ P → three p i ≡ l i .c
+  pub none : (i : ℕ) → Among m i → fields (l i .letter) ≡ 2 → l i .c ≡ 0
+
+module _ (f : List ℕ) (good : (k : ℕ) → Among (lines f) k → GoodLine f k) {k j m : ℕ} (s : Section f k j m) where
+  line-reads : (i : ℕ) → Among m i → Reads (part f j) (start i) (lineAt f (j + i))
+  line-reads i w =
+      let fits = s .fits in
+      line-iff (part f j) i (lineAt f (j + i)) .0 (part-line f j i (w .0), some-letter f good (j + i) (omega arith))
+
+  third : (i : ℕ) → Among m i → (t : Bool) → inUse 3 (lineAt f (j + i) .letter) ≡ t
+      → Stands t (fieldAt (part f j) (start i + 11)) (lineAt f (j + i) .c)
+  third i w t e = rw e at (line-reads i w .c)
+
+  pub told : Told (part f j) (λ i. lineAt f (j + i)) m
+  unfolding one two three fields
+  told =
+      let p = part f j in
+      record {
+        one = λ i w. figures p (start i + 1) (lineAt f (j + i) .a) (line-reads i w .a);
+        two = λ i w. figures p (start i + 6) (lineAt f (j + i) .b) (line-reads i w .b);
+        mode = λ i w e. figures p (start i + 11) (lineAt f (j + i) .c) (third i w true (rw e));
+        none = λ i w e. third i w false (rw e) .1;
+      }
+
+  -- ---- what the lines say
+
+  -- a letter of two fields
+  pub says-two : fields k ≡ 2 → (x y : ℕ) → says f k x y 0 ≡ some m (λ i. eqb (one (part f j) i) x && eqb (two (part f j) i) y)
+  unfolding says
+  says-two e x y =
+      some-within (lines f) j m (s .fits) (λ i. is (lineAt f i) k x y 0) _ (tested s _)
+      (λ i w. rw (s .inside i w, eq-eqb k k refl, told .none i w (rw (s .inside i w) e), and-true, told .one i w, told .two i w))
+
+  -- the letter of three
+  pub says-three : k ≡ P → (x y z : ℕ)
+      → says f k x y z ≡ some m (λ i. eqb (one (part f j) i) x && (eqb (two (part f j) i) y && eqb (three (part f j) i) z))
+  unfolding says
+  says-three e x y z =
+      some-within (lines f) j m (s .fits) (λ i. is (lineAt f i) k x y z) _ (tested s _)
+      (λ i w. rw (s .inside i w, eq-eqb k k refl, told .one i w, told .two i w, told .mode i w (s .inside i w ∙ e)))
+
+  module _ (x : ℕ) where
+    about-one : (i : ℕ) → Among m i → about f k x (j + i) ≡ eqb (one (part f j) i) x
+    about-one i w = rw (s .inside i w, eq-eqb k k refl, told .one i w)
+
+    pub count-about : count (lines f) (about f k x) ≡ count m (λ i. eqb (one (part f j) i) x)
+    count-about = count-within (lines f) j m (s .fits) (about f k x) _ (tested s _) about-one
+
+    pub label-section : labelBy f k x ≡ last m (λ i. eqb (one (part f j) i) x) (two (part f j))
+    unfolding labelBy
+    label-section =
+        last-within (lines f) j m (s .fits) (about f k x) _ (tested s _) about-one _ _ (λ i w. sym (told .two i w))
