@@ -6,3 +6,4 @@ pub mod Relating
 pub mod Gathering
 pub mod Noted
 pub mod Marked
+pub mod Assigning

@@ -1,13 +1,15 @@
 -- The tables of a policy in a list of bytes: where each stands, how it is read, and what the lines of a part put into it. Assumes nothing.
-use Prim.Native.Nat.{ℕ, zero, suc, _+_, _*_, _-_, _%_, _≤_, _<_}
+use Prim.Native.Nat.{ℕ, zero, suc, _+_, _*_, _-_, _%_, _≤_, _<_, min}
 use mathlib.Core.Path.{_≡_}
 use mathlib.Core.List.{List}
-use mathlib.Core.Bool.{Bool, true, false, _&&_, _||_, cond}
+use mathlib.Core.Bool.{Bool, true, false, not, _&&_, _||_, cond}
 use lib.Dec.{leb, eqb}
 use lib.ListN.{length, getD}
 use Rattle.search.specs.Search.{among, some, first, Among}
 use Rattle.roleset.specs.Row.{member}
 use Rattle.order.specs.Closure.{Relation}
+use Rattle.rolefile.specs.declared.Verdict.{Verdict}
+use Rattle.rolefile.specs.Form.{fine, refusal, unless}
 use Rattle.rolefile.specs.Section.{one, two, three}
 
 -- ---- where the tables start
@@ -108,3 +110,30 @@ pub record Granted (said : ℕ → ℕ → ℕ → Bool) (xs ys : List ℕ) : Ty
   pub readers : (o r : ℕ) → Among 512 o → Among 128 r → member ys (rowOf readersAt o) r ≡ (member xs (rowOf readersAt o) r || said 1 o r)
   pub writers : (o r : ℕ) → Among 512 o → Among 128 r → member ys (rowOf writersAt o) r ≡ (member xs (rowOf writersAt o) r || said 2 o r)
   pub rest : Kept readersAt 28688 xs ys
+
+-- ---- role flow by the rows of the first n cards
+
+unfoldable pub flowing : List ℕ → ℕ → Relation
+flowing xs n r q = not (eqb r q) && some n (λ o. member xs (rowOf writersAt o) r && member xs (rowOf readersAt o) q)
+
+-- the counts that a state holds, none above its limit
+abbrev pub rolesIn : List ℕ → ℕ
+rolesIn xs = min (word xs 2) 128
+
+abbrev pub cardsIn : List ℕ → ℕ
+cardsIn xs = min (word xs 6) 512
+
+-- a whole state
+abbrev pub isState : List ℕ → Bool
+isState xs = leb stateSize (length xs)
+
+-- ---- 14 to 16 by the tables
+
+unfoldable pub assignByTables : List ℕ → ℕ → ℕ → Verdict
+assignByTables xs u r =
+    let c = byteOf xs clearancesAt u in
+    let reads = byteOf xs rLevelsAt r in
+    let writes = byteOf xs wLevelsAt r in
+    unless (not (eqb writes 99)) (refusal 14 u r)
+    (unless (eqb reads 0 || marked xs c reads) (refusal 15 u r)
+    (unless (eqb writes 0 || marked xs writes c) (refusal 16 u r) fine))

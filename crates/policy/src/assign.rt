@@ -1,1 +1,52 @@
-// assign
+// The numbers 14 to 16: each assignment against the levels of its role, by the tables.
+use super::marks;
+use rolefile::Verdict;
+use rolefile::check;
+use rolefile::read;
+ghost use mathlib.Core.Path.{_≡_};
+ghost use Prim.Native.Nat.{ℕ, _≤_};
+ghost use lib.ListN.{length};
+ghost use Rattle.search.specs.Search.{Among};
+ghost use Rattle.rolefile.specs.Line.{lines};
+ghost use Rattle.rolefile.specs.Form.{scan};
+ghost use Rattle.rolefile.specs.Section.{one, two};
+ghost use Rattle.policy.specs.Tables.{assignByTables};
+
+// 14 to 16 for user u and role r.
+fn assign(s: &[u8], u: usize, r: usize) -> Verdict
+    requires { ⌜ (2064 ≤ length (now s)) × Among 256 u × Among 128 r ⌝ }
+    ensures { λ v. ⌜ v ≡ assignByTables (now (s .entry)) u r ⌝ }
+{
+    let clearance = s[1040 + (u - 1)] as usize;
+    let reads = s[1808 + (r - 1)] as usize;
+    let writes = s[1936 + (r - 1)] as usize;
+    if writes == 99 {
+        return check::refused(14, u as u64, r as u64);
+    }
+    let under = marks::dominates(s, clearance, reads);
+    if !((reads == 0) | under) {
+        return check::refused(15, u as u64, r as u64);
+    }
+    let over = marks::dominates(s, writes, clearance);
+    if !((writes == 0) | over) {
+        return check::refused(16, u as u64, r as u64);
+    }
+    check::nothing()
+}
+
+// 14 to 16 for the first m lines of a part: the first refusal.
+pub fn assign_lines(s: &[u8], p: &[u8], m: usize) -> Verdict
+    requires { ⌜ (2064 ≤ length (now s)) × (m ≤ lines (now p)) × ((i : ℕ) → Among m i → Among 256 (one (now p) i) × Among 128 (two (now p) i)) ⌝ }
+    ensures { λ v. ⌜ v ≡ scan m (λ i. assignByTables (now (s .entry)) (one (now (p .entry)) i) (two (now (p .entry)) i)) ⌝ }
+{
+    let mut i = 0;
+    while i < m {
+        let l = read::numbers_of(p, i);
+        let v = assign(s, l.a, l.b);
+        if v.number != 0 {
+            return v;
+        }
+        i += 1;
+    }
+    check::nothing()
+}

@@ -10,7 +10,8 @@ ghost use Rattle.search.specs.Search.{among, implies};
 ghost use Rattle.rolefile.specs.Line.{lines};
 ghost use Rattle.rolefile.specs.Form.{fine, refusal, sized, counted, firstLimit, secondLimit, ranged, before, rises, headVerdict, bodyVerdict, lineVerdict, scan, linesVerdict};
 
-fn nothing() -> Verdict
+// Nothing to refuse.
+pub fn nothing() -> Verdict
     ensures { λ v. ⌜ v ≡ fine ⌝ }
 {
     Verdict {
@@ -20,7 +21,8 @@ fn nothing() -> Verdict
     }
 }
 
-fn refused(number: u64, first: u64, second: u64) -> Verdict
+// A refusal with its place.
+pub fn refused(number: u64, first: u64, second: u64) -> Verdict
     ensures { λ v. ⌜ v ≡ refusal number first second ⌝ }
 {
     Verdict {

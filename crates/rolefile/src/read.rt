@@ -5,7 +5,7 @@ ghost use mathlib.Core.Path.{_≡_};
 ghost use mathlib.Core.Bool.{true, _&&_, cond};
 ghost use Prim.Native.Nat.{ℕ, _+_, _*_, _-_, _%_, _≤_, _<_};
 ghost use lib.Dec.{leb};
-ghost use lib.ListN.{length, getD};
+ghost use lib.ListN.{length, drop};
 ghost use Rattle.rolefile.specs.Field.{isDigit, column, fieldAt};
 ghost use Rattle.rolefile.specs.Section.{figure, Leads, Reads};
 ghost use Rattle.rolefile.specs.Line.{letterOf, fields, taken, noLine, lineOf, lineFrom, lineAt};
@@ -230,4 +230,17 @@ pub fn leading(p: &[u8], letter: u8) -> usize
         i += 1;
     }
     n
+}
+
+// The part of the file that starts after its first j lines.
+pub fn part(f: &[u8], j: usize) -> &[u8]
+    ensures { λ p. ⌜ now p ≡ drop (22 * j) (now (f .entry)) ⌝ }
+{
+    let n = f.len() / 22;
+    if n < j {
+        let end = f.len();
+        return &f[end..];
+    }
+    let at = 22 * j;
+    &f[at..]
 }
