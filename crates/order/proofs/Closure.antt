@@ -3,7 +3,7 @@
 use Prim.Native.Nat.{ℕ, zero, suc, _+_, _≤_, _<_}
 use mathlib.Core.Path.{_≡_, refl, sym, ap, _∙_}
 use mathlib.Core.Logic.{_↔_, _⊎_, inl, inr, ⊎-elim}
-use mathlib.Core.Bool.{Bool, true, false, _&&_, _||_}
+use mathlib.Core.Bool.{Bool, true, false, _&&_, _||_, and-comm}
 use native.Mathlib.Omega.{arith}
 use native.Mathlib.Numerals.{add-one}
 use lib.Dec.{eqb}
@@ -152,6 +152,14 @@ module _ (e : Relation) where
     -- the lowest on a circle
     pub circle-lowest : (a : ℕ) → 1 ≤ a → (circle n e ≡ a) ↔ Lowest n (λ a. path n e a a) a
     circle-lowest a l = first-lowest (λ a. path n e a a) n a l
+
+-- a path in the relation turned round is one the other way
+pub via-turned : (e : Relation) (k a b : ℕ) → via (λ x y. e y x) k a b ≡ via e k b a
+unfolding via
+via-turned e zero a b = refl
+via-turned e (suc k) a b =
+    rw (via-turned e k a b, via-turned e k a (suc k), via-turned e k (suc k) b)
+    (ap (λ t. via e k b a || t) (and-comm (via e k (suc k) a) (via e k b (suc k))))
 
 -- f and g say the same of the things 1 to n over the things 1 to m
 abbrev pub Agree : ℕ → ℕ → Relation → Relation → Type 0

@@ -7,3 +7,6 @@ pub mod Gathering
 pub mod Noted
 pub mod Marked
 pub mod Assigning
+pub mod Readying
+pub mod Ranks
+pub mod Finishes

@@ -3,4 +3,6 @@ pub mod Verdict
 pub mod Flow
 pub mod Accepted
 pub mod Tables
+pub mod Image
+pub mod Stages
 pub mod Cases

@@ -1,5 +1,6 @@
 // What a role file's policy comes to: levels, the numbers 11 to 16, and role flow.
 mod assign;
+mod build;
 mod gather;
 mod labels;
 mod marks;

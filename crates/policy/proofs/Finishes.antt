@@ -1,0 +1,62 @@
+-- The last stage: counts and assigned roles. Bytes that a store leaves alone keep what is read of them. Assumes nothing.
+use Prim.Native.Nat.{ℕ, _+_, _*_, _-_, _≤_, _<_}
+use mathlib.Core.Path.{_≡_, refl, sym, ap, _∙_}
+use mathlib.Core.List.{List}
+use mathlib.Core.Bool.{Bool, true, false, _||_}
+use native.Mathlib.Omega.{arith}
+use lib.ListN.{length, getD, drop}
+use Rattle.search.specs.Search.{Among}
+use Rattle.roleset.specs.Row.{member}
+use Rattle.roleset.proofs.Rows.{same-bytes}
+use Rattle.rolefile.specs.declared.Line.{Line}
+use Rattle.rolefile.specs.Line.{A, fields}
+use Rattle.rolefile.specs.Said.{assigned}
+use Rattle.rolefile.proofs.Sections.{part}
+use Rattle.policy.specs.declared.build.Parts.{Parts}
+use Rattle.policy.specs.Tables.{word, rowOf, assignedAt, Kept, pairs, Related}
+use Rattle.policy.specs.Stages.{Ready, Zeros, Counts, Finishing}
+use Rattle.policy.proofs.Readying.{good-of, section-a}
+use Rattle.policy.proofs.Ranks.{empty-row, pairs-say}
+
+-- two words one after the other
+pub word-stays : (a b at : ℕ) (xs ys : List ℕ) → Kept a b xs ys → (a ≤ at + 1 → b ≤ at) → word ys at ≡ word xs at
+word-stays a b at xs ys kept out = rw (kept at (λ l. out (omega arith)), kept (at + 1) (λ l. let far = out l in omega arith))
+
+module _ (h : Line) (v w x y z : List ℕ) (first : (word w 0 ≡ h .a) × Kept 0 2 v w) (second : (word x 2 ≡ h .b) × Kept 2 4 w x)
+    (third : (word y 4 ≡ h .c) × Kept 4 6 x y) (fourth : (word z 6 ≡ h .d) × Kept 6 8 y z) where
+  pub four-words : Counts h v z
+  four-words = record {
+    labels =
+        word-stays 6 8 0 y z (fourth .1) (λ l. omega arith) ∙ word-stays 4 6 0 x y (third .1) (λ l. omega arith)
+        ∙ word-stays 2 4 0 w x (second .1) (λ l. omega arith) ∙ first .0;
+    roles = word-stays 6 8 2 y z (fourth .1) (λ l. omega arith) ∙ word-stays 4 6 2 x y (third .1) (λ l. omega arith) ∙ second .0;
+    users = word-stays 6 8 4 y z (fourth .1) (λ l. omega arith) ∙ third .0;
+    cards = fourth .0;
+    rest = λ i out.
+        let far = out (omega arith) in
+        fourth .1 i (λ l. far) ∙ third .1 i (λ l. omega arith) ∙ second .1 i (λ l. omega arith) ∙ first .1 i (λ l. omega arith);
+  }
+
+module _ (f : List ℕ) (q : Parts) (h : Line) (ready : Ready f q h) (xs ys zs p : List ℕ) (zeros : Zeros 4112 8208 xs)
+    (its : p ≡ drop (22 * q .a .start) f) (filled : Related 4112 256 (pairs p (q .a .count)) xs ys) (counted : Counts h ys zs) where
+  two-fields : fields A ≡ 2
+  unfolding fields
+  two-fields = refl
+
+  said : (u r : ℕ) → pairs p (q .a .count) u r ≡ assigned f u r
+  said u r = rw its (pairs-say f (good-of f (ready .lines)) (section-a f q (ready .lines) (ready .laid)) two-fields u r)
+
+  pub finished : Finishing f xs zs
+  finished = record {
+    assigning = λ u r v w.
+        same-bytes ys zs (rowOf assignedAt u) (rowOf assignedAt u) (λ k l. counted .rest (rowOf assignedAt u + k) (λ m. omega arith)) r
+        ∙ filled .rows u r v w
+        ∙ rw (empty-row 4112 8208 (rowOf assignedAt u) xs zeros (omega arith) (omega arith) r) (said u r);
+    counted = record {
+      labels = counted .labels ∙ ap (λ (l : Line). l .a) (ready .head);
+      roles = counted .roles ∙ ap (λ (l : Line). l .b) (ready .head);
+      users = counted .users ∙ ap (λ (l : Line). l .c) (ready .head);
+      cards = counted .cards ∙ ap (λ (l : Line). l .d) (ready .head);
+    };
+    rest = λ i l out. counted .rest i (λ m. l) ∙ filled .rest i (λ m. let far = out m in omega arith);
+  }

@@ -1,0 +1,162 @@
+-- Seniority from the S lines: the rows that the lines fill are closed, and hold each role's seniors. Assumes nothing.
+use Prim.Native.Nat.{ℕ, _+_, _*_, _-_, _≤_, _<_, min}
+use mathlib.Core.Path.{_≡_, refl, sym, ap, _∙_}
+use mathlib.Core.List.{List}
+use mathlib.Core.Bool.{Bool, true, false, _&&_, _||_, cond}
+use native.Mathlib.Omega.{arith}
+use native.Mathlib.Decide.{decLe}
+use lib.Dec.{leb, eqb}
+use lib.ListN.{length, getD, drop}
+use borrow.Author.Tests.{eq-eqb, ne-eqb, eqb-true, le-leb, lt-leb}
+use Rattle.search.specs.Search.{Among, some}
+use Rattle.search.proofs.Truth.{and-iff, untrue, both, same}
+use Rattle.search.proofs.Found.{some-iff, first-agree}
+use Rattle.roleset.specs.Row.{member}
+use Rattle.roleset.proofs.Rows.{member-of, no-bits}
+use Rattle.order.specs.Closure.{Relation, path, loop, circle}
+use Rattle.order.specs.Table.{Rows, related, reflexive, Tabled}
+use Rattle.order.proofs.Closure.{via-agree, via-turned}
+use Rattle.rolefile.specs.declared.Line.{Line}
+use Rattle.rolefile.specs.declared.Verdict.{Verdict}
+use Rattle.rolefile.specs.Line.{S, lineAt, fields}
+use Rattle.rolefile.specs.Form.{fine, refusal, found, header}
+use Rattle.rolefile.specs.Said.{roles, above}
+use Rattle.rolefile.specs.Section.{one, two}
+use Rattle.rolefile.proofs.Sections.{part, Section, says-two}
+use Rattle.policy.specs.Policy.{senior}
+use Rattle.policy.specs.Tables.{rowOf, seniorsAt, Kept, pairs, Related}
+use Rattle.policy.specs.Image.{Seniors}
+use Rattle.policy.specs.Stages.{Ready, Zeros, roleVerdict, Ranking}
+use Rattle.policy.specs.declared.build.Parts.{Parts}
+use Rattle.policy.proofs.Readying.{Good, good-of, counts-of, section-s, one-within, two-within, limits-s}
+
+-- a row of zeros holds no role
+pub empty-row : (a b at : ℕ) (xs : List ℕ) → Zeros a b xs → a ≤ at → at + 16 ≤ b → (r : ℕ) → member xs at r ≡ false
+empty-row a b at xs z l m r = member-of xs at (λ k. 0) (λ k n. z (at + k) (omega arith) (omega arith)) r ∙ no-bits r
+
+-- what two fields of a letter's section say, and that its numbers are within the counts
+module _ (f : List ℕ) (good : Good f) {k j m : ℕ} (s : Section f k j m) (two-fields : fields k ≡ 2) where
+  pub pairs-say : (x y : ℕ) → pairs (part f j) m x y ≡ Rattle.rolefile.specs.Said.says f k x y 0
+  unfolding pairs
+  pairs-say x y = sym (says-two f good s two-fields x y)
+
+pub pairs-within : (p : List ℕ) (m a b x y : ℕ) → ((i : ℕ) → Among m i → Among a (one p i)) → ((i : ℕ) → Among m i → Among b (two p i))
+    → pairs p m x y ≡ true → Among a x × Among b y
+unfolding pairs
+pairs-within p m a b x y first second e =
+    let (i, w, h) = some-iff (λ i. eqb (one p i) x && eqb (two p i) y) m .0 e in
+    let (p₁, p₂) = and-iff (eqb (one p i) x) (eqb (two p i) y) .0 h in
+    (rw (eqb-true (one p i) x p₁) at (first i w), rw (eqb-true (two p i) y p₂) at (second i w))
+
+module _ (f : List ℕ) (good : Good f) {j m : ℕ} (s : Section f S j m) (few : roles f ≤ 128) where
+  two-fields : fields S ≡ 2
+  unfolding fields
+  two-fields = refl
+
+  said : (r q : ℕ) → pairs (part f j) m r q ≡ above f r q
+  said r q = pairs-say f good s two-fields r q
+
+  -- only roles of the file are above one another
+  pub above-within : (r q : ℕ) → above f r q ≡ true → Among (roles f) r × Among (roles f) q
+  above-within r q e =
+      pairs-within (part f j) m (roles f) (roles f) r q
+      (λ i w. rw (limits-s (header f) .0) at (one-within f good s (omega arith) i w))
+      (λ i w. rw (limits-s (header f) .1) at (two-within f good s (omega arith) i w))
+      (said r q ∙ e)
+
+  module _ (xs ys zs ws : List ℕ) (long : 65536 ≤ length xs) (ys-long : length ys ≡ length xs) (zs-long : length zs ≡ length xs)
+      (zeros : Zeros 2064 4112 xs) (filled : Related seniorsAt 128 (λ x r. pairs (part f j) m r x) xs ys)
+      (pathed : Tabled seniorsAt (roles f) (path (roles f) (related ys seniorsAt)) ys zs) where
+    -- the lines' rows
+    direct : (q r : ℕ) → Among 128 q → Among 128 r → related ys seniorsAt q r ≡ above f r q
+    direct q r v w = filled .rows q r v w ∙ rw (empty-row 2064 4112 (rowOf seniorsAt q) xs zeros (omega arith) (omega arith) r) (said r q)
+
+    -- and the paths
+    paths : (q r : ℕ) → Among (roles f) q → Among 128 r → related zs seniorsAt q r ≡ path (roles f) (above f) r q
+    paths q r v w =
+        pathed .rows (omega arith) .done q r v w
+        ∙ via-agree (roles f) 128 (related ys seniorsAt) (λ a b. above f b a) few (λ a b x y. direct a b (omega arith) y) (roles f) (omega arith) q r v w
+        ∙ via-turned (above f) (roles f) q r
+
+    pub role-circle : loop (roles f) (related zs seniorsAt) ≡ circle (roles f) (above f)
+    role-circle = first-agree (λ a. related zs seniorsAt a a) (λ a. path (roles f) (above f) a a) (roles f) (λ a w. paths a a w (omega arith))
+
+    pub paths-kept : Kept 2064 4112 xs zs
+    paths-kept i out = pathed .rest i (λ l. let far = out l in omega arith) ∙ filled .rest i (λ l. let far = out l in omega arith)
+
+    module _ (closed : Tabled seniorsAt (roles f) (reflexive (related zs seniorsAt)) zs ws) where
+      swapped : (q r : ℕ) → eqb q r ≡ eqb r q
+      swapped q r = same (eqb q r) (eqb r q) (λ e. eq-eqb r q (sym (eqb-true q r e))) (λ e. eq-eqb q r (sym (eqb-true r q e)))
+
+      pub seniors-are : Seniors f ws
+      unfolding senior
+      seniors-are q r v w = elim (decLe q (roles f)) [
+        | yes l ↦
+            rw (le-leb q (roles f) l)
+            (closed .rows (omega arith) .done q r (omega arith) w ∙ rw (paths q r (omega arith) w, swapped q r))
+        | no l ↦
+            rw (lt-leb q (roles f) (omega arith))
+            (closed .rows (omega arith) .left q r (omega arith) (v .1) w
+            ∙ pathed .rows (omega arith) .left q r (omega arith) (v .1) w
+            ∙ direct q r v w
+            ∙ untrue (above f r q) (λ e. let u = above-within r q e .1 in omega arith))
+      ]
+
+      pub seniors-kept : Kept 2064 4112 xs ws
+      seniors-kept i out = closed .rest i (λ l. let far = out l in omega arith) ∙ paths-kept i out
+
+-- ---- 13
+
+pub rank-refused : (f : List ℕ) (r : ℕ) → r ≡ circle (roles f) (above f) → (r ≡ 0 → ⊥) → refusal 13 r 0 ≡ roleVerdict f
+unfolding roleVerdict
+rank-refused f r e ne = rw (← e, ne-eqb r 0 ne)
+
+pub rank-fine : (f : List ℕ) (r : ℕ) → r ≡ circle (roles f) (above f) → r ≡ 0 → fine ≡ roleVerdict f
+unfolding roleVerdict
+rank-fine f r e z = rw (← e, z)
+
+-- the stage as its function has it
+module _ (f : List ℕ) (q : Parts) (h : Line) (ready : Ready f q h) (xs ys zs p : List ℕ) (r : ℕ) (long : 65536 ≤ length xs)
+    (ys-long : length ys ≡ length xs) (zs-long : length zs ≡ length ys) (zeros : Zeros 2064 4112 xs) (its : p ≡ drop (22 * q .s .start) f)
+    (filled : Related 2064 128 (λ x r. pairs p (q .s .count) r x) xs ys)
+    (pathed : Tabled 2064 (min (h .b) 128) (path (min (h .b) 128) (related ys 2064)) ys zs)
+    (lowest : r ≡ cond (leb (2064 + 2048) (length zs)) (loop (min (h .b) 128) (related zs 2064)) 0) where
+  few : roles f ≤ 128
+  few = counts-of f (ready .lines) .roles
+
+  count : min (h .b) 128 ≡ roles f
+  count = let e : h .b ≡ roles f = ap (λ (l : Line). l .b) (ready .head) in let l = few in omega arith
+
+  good : Good f
+  good = good-of f (ready .lines)
+
+  s-lines : Section f S (q .s .start) (q .s .count)
+  s-lines = section-s f q (ready .lines) (ready .laid)
+
+  filled-by : Related seniorsAt 128 (λ x r. pairs (part f (q .s .start)) (q .s .count) r x) xs ys
+  filled-by = rw its at filled
+
+  pathed-by : Tabled seniorsAt (roles f) (path (roles f) (related ys seniorsAt)) ys zs
+  pathed-by = rw count at pathed
+
+  lowest-is : r ≡ circle (roles f) (above f)
+  lowest-is =
+      lowest
+      ∙ rw (le-leb (2064 + 2048) (length zs) (omega arith), count)
+      (role-circle f good s-lines few xs ys zs zs long ys-long (zs-long ∙ ys-long) zeros filled-by pathed-by)
+
+  pub ranked-refused : (v : Verdict) → v ≡ refusal 13 r 0 → (r ≡ 0 → ⊥) → Ranking f v xs zs
+  ranked-refused v e ne = record {
+    answer = e ∙ rank-refused f r lowest-is ne;
+    done = λ z. let n : v .number ≡ 13 = ap (λ (w : Verdict). w .number) e in absurd (omega arith);
+    rest = paths-kept f good s-lines few xs ys zs zs long ys-long (zs-long ∙ ys-long) zeros filled-by pathed-by;
+  }
+
+  pub ranked : (ws : List ℕ) (v : Verdict) → v ≡ fine → r ≡ 0 → Tabled 2064 (min (h .b) 128) (reflexive (related zs 2064)) zs ws → Ranking f v xs ws
+  ranked ws v e z closed =
+      let c = rw count at closed in
+      record {
+        answer = e ∙ rank-fine f r lowest-is z;
+        done = λ n. seniors-are f good s-lines few xs ys zs ws long ys-long (zs-long ∙ ys-long) zeros filled-by pathed-by c;
+        rest = seniors-kept f good s-lines few xs ys zs ws long ys-long (zs-long ∙ ys-long) zeros filled-by pathed-by c;
+      }

@@ -1,0 +1,128 @@
+-- A file whose lines have nothing to refuse, laid out by letter: its lines are good, its counts within their limits, the lines of each letter are a
+-- section of it, and their numbers are within the counts. Assumes nothing.
+use Prim.Native.Nat.{ℕ, _+_, _*_, _-_, _≤_, _<_}
+use mathlib.Core.Path.{_≡_, refl, sym, ap, _∙_}
+use mathlib.Core.List.{List}
+use mathlib.Core.Bool.{Bool, true, false}
+use native.Mathlib.Omega.{arith}
+use lib.ListN.{length, drop}
+use Rattle.search.specs.Search.{Among}
+use Rattle.rolefile.specs.declared.Line.{Line}
+use Rattle.rolefile.specs.Line.{H, D, S, U, O, P, A, lineAt, lines, fields}
+use Rattle.rolefile.specs.Form.{fine, refusal, unless, sized, header, firstLimit, secondLimit, scan, lineVerdict, linesVerdict}
+use Rattle.rolefile.specs.Said.{labels, roles, users, cards}
+use Rattle.rolefile.specs.Section.{one, two, three, Leads}
+use Rattle.rolefile.specs.WellFormed.{Sized, GoodCounts, GoodNumbers, GoodLine}
+use Rattle.rolefile.specs.Decimal.{letterByte}
+use Rattle.rolefile.proofs.Verdicts.{then-zero, unless-zero, scan-zero}
+use Rattle.rolefile.proofs.Formed.{sized-iff, line-iff, line-clean}
+use Rattle.rolefile.proofs.Sections.{part, Cut, Section, Told, cut-first, cut-next, section-of, told}
+use Rattle.policy.specs.declared.build.Parts.{Parts}
+use Rattle.policy.specs.Stages.{Laid, Ready}
+
+abbrev pub Good : List ℕ → Type 0
+Good f = (k : ℕ) → Among (lines f) k → GoodLine f k
+
+-- what no refusal among 1 to 5 means
+module _ (f : List ℕ) (e : linesVerdict f .number ≡ 0) where
+  both : (unless (sized f) (refusal 1 0 0) fine .number ≡ 0) × (scan (lines f) (lineVerdict f) .number ≡ 0)
+  unfolding linesVerdict
+  both = then-zero (unless (sized f) (refusal 1 0 0) fine) (scan (lines f) (lineVerdict f)) .0 e
+
+  pub sized-of : Sized f
+  sized-of = sized-iff f .0 (unless-zero (refusal 1 0 0) fine (sized f) (λ z. omega arith) .0 (both .0) .0)
+
+  pub good-of : Good f
+  good-of k w = line-iff f k .0 (line-clean f k (scan-zero (lineVerdict f) (lines f) .0 (both .1) k w))
+
+  pub some-line : 1 ≤ lines f
+  some-line = let s = sized-of in omega (arith, s .some, s .whole)
+
+  pub counts-of : GoodCounts (lineAt f 1)
+  counts-of = let l = some-line in good-of 1 (omega arith) .head refl .counts
+
+-- the sections, one after the other
+module _ (f : List ℕ) (q : Parts) (e : linesVerdict f .number ≡ 0) (laid : Laid f q) where
+  good : Good f
+  good = good-of f e
+
+  bytes : (letterByte D ≡ 68) × (letterByte S ≡ 83) × (letterByte U ≡ 85) × (letterByte O ≡ 79) × (letterByte P ≡ 80) × (letterByte A ≡ 65)
+  unfolding letterByte
+  bytes = (refl, refl, refl, refl, refl, refl)
+
+  at-d : Cut f 2 (q .d .start)
+  at-d = rw (laid .first) (cut-first f good (some-line f e))
+
+  at-s : Cut f 3 (q .s .start)
+  at-s = rw (laid .s-after) (cut-next f good 2 (q .d .start) (q .d .count) 68 at-d (bytes .0) (omega arith) (laid .d))
+
+  at-u : Cut f 4 (q .u .start)
+  at-u = rw (laid .u-after) (cut-next f good 3 (q .s .start) (q .s .count) 83 at-s (bytes .1) (omega arith) (laid .s))
+
+  at-o : Cut f 5 (q .o .start)
+  at-o = rw (laid .o-after) (cut-next f good 4 (q .u .start) (q .u .count) 85 at-u (bytes .2) (omega arith) (laid .u))
+
+  at-p : Cut f 6 (q .p .start)
+  at-p = rw (laid .p-after) (cut-next f good 5 (q .o .start) (q .o .count) 79 at-o (bytes .3) (omega arith) (laid .o))
+
+  at-a : Cut f 7 (q .a .start)
+  at-a = rw (laid .a-after) (cut-next f good 6 (q .p .start) (q .p .count) 80 at-p (bytes .4) (omega arith) (laid .p))
+
+  pub section-d : Section f D (q .d .start) (q .d .count)
+  section-d = section-of f good 2 (q .d .start) (q .d .count) 68 at-d (bytes .0) (omega arith) (laid .d)
+
+  pub section-s : Section f S (q .s .start) (q .s .count)
+  section-s = section-of f good 3 (q .s .start) (q .s .count) 83 at-s (bytes .1) (omega arith) (laid .s)
+
+  pub section-u : Section f U (q .u .start) (q .u .count)
+  section-u = section-of f good 4 (q .u .start) (q .u .count) 85 at-u (bytes .2) (omega arith) (laid .u)
+
+  pub section-o : Section f O (q .o .start) (q .o .count)
+  section-o = section-of f good 5 (q .o .start) (q .o .count) 79 at-o (bytes .3) (omega arith) (laid .o)
+
+  pub section-p : Section f P (q .p .start) (q .p .count)
+  section-p = section-of f good 6 (q .p .start) (q .p .count) 80 at-p (bytes .4) (omega arith) (laid .p)
+
+  pub section-a : Section f A (q .a .start) (q .a .count)
+  section-a = section-of f good 7 (q .a .start) (q .a .count) 65 at-a (bytes .5) (omega arith) (laid .a)
+
+-- a section of a letter after H: its numbers are within the counts
+module _ (f : List ℕ) (good : Good f) {k j m : ℕ} (s : Section f k j m) (after : H < k) where
+  numbers : (i : ℕ) → Among m i → GoodNumbers (header f) (lineAt f (j + i))
+  numbers i w =
+      let fits = s .fits in
+      let l = s .inside i w in
+      good (j + i) (omega arith) .body (λ first. let top : lineAt f 1 .letter ≡ k = rw first at l in
+      let h = good 1 (omega arith) .head refl .letter in omega arith) .numbers
+
+  pub one-within : (i : ℕ) → Among m i → Among (firstLimit (header f) k) (one (part f j) i)
+  one-within i w = rw (told f good s .one i w) (rw (s .inside i w) at (numbers i w .one))
+
+  pub two-within : (i : ℕ) → Among m i → Among (secondLimit (header f) k) (two (part f j) i)
+  two-within i w = rw (told f good s .two i w) (rw (s .inside i w) at (numbers i w .two))
+
+-- the limits of each letter's numbers
+module _ (h : Line) where
+  pub limits-d : (firstLimit h D ≡ h .a) × (secondLimit h D ≡ h .a)
+  unfolding firstLimit secondLimit
+  limits-d = (refl, refl)
+
+  pub limits-s : (firstLimit h S ≡ h .b) × (secondLimit h S ≡ h .b)
+  unfolding firstLimit secondLimit
+  limits-s = (refl, refl)
+
+  pub limits-u : (firstLimit h U ≡ h .c) × (secondLimit h U ≡ h .a)
+  unfolding firstLimit secondLimit
+  limits-u = (refl, refl)
+
+  pub limits-o : (firstLimit h O ≡ h .d) × (secondLimit h O ≡ h .a)
+  unfolding firstLimit secondLimit
+  limits-o = (refl, refl)
+
+  pub limits-p : (firstLimit h P ≡ h .b) × (secondLimit h P ≡ h .d)
+  unfolding firstLimit secondLimit
+  limits-p = (refl, refl)
+
+  pub limits-a : (firstLimit h A ≡ h .c) × (secondLimit h A ≡ h .b)
+  unfolding firstLimit secondLimit
+  limits-a = (refl, refl)

@@ -1,0 +1,72 @@
+-- What a state holds after a load of the file f: each table says what the file says, and every other byte of the state is 0. Assumes nothing.
+use Prim.Native.Nat.{ℕ, _+_, _*_, _-_, _≤_, _<_}
+use mathlib.Core.Path.{_≡_}
+use mathlib.Core.List.{List}
+use mathlib.Core.Bool.{Bool, true, false, _&&_, cond}
+use lib.Dec.{leb, ltb}
+use lib.ListN.{length, getD}
+use Rattle.search.specs.Search.{Among}
+use Rattle.roleset.specs.Row.{member}
+use Rattle.rolefile.specs.declared.Verdict.{Verdict}
+use Rattle.rolefile.specs.Form.{fine, refusal, unless, _then_}
+use Rattle.rolefile.specs.Said.{labels, roles, users, cards, clearance, cardLabel, assigned}
+use Rattle.policy.specs.Policy.{dominates, senior, may, rLevel, wLevel, shown}
+use Rattle.policy.specs.Tables.{dominanceAt, clearancesAt, cardLabelsAt, rLevelsAt, wLevelsAt, seniorsAt, assignedAt, readersAt, writersAt, stateSize, word, byteOf, rowOf, Kept}
+use Rattle.policy.specs.Verdict.{verdict}
+
+pub record Counted (f ys : List ℕ) : Type 0 where
+  pub labels : word ys 0 ≡ labels f
+  pub roles : word ys 2 ≡ roles f
+  pub users : word ys 4 ≡ users f
+  pub cards : word ys 6 ≡ cards f
+
+-- a number past the file's count has no line, and so no label
+pub record Labelled (f ys : List ℕ) : Type 0 where
+  pub users : (u : ℕ) → Among 256 u → byteOf ys clearancesAt u ≡ clearance f u
+  pub cards : (o : ℕ) → Among 512 o → byteOf ys cardLabelsAt o ≡ cardLabel f o
+
+abbrev pub Dominating : List ℕ → List ℕ → Type 0
+Dominating f ys = (a b : ℕ) → Among 32 a → Among 32 b
+    → getD ys (dominanceAt + (32 * (a - 1) + (b - 1))) 0 ≡ cond (leb a (labels f) && dominates f a b) 1 0
+
+-- the row of a role holds its seniors, itself included
+abbrev pub Seniors : List ℕ → List ℕ → Type 0
+Seniors f ys = (q r : ℕ) → Among 128 q → Among 128 r → member ys (rowOf seniorsAt q) r ≡ (leb q (roles f) && senior f r q)
+
+-- the row of a card holds the roles that may read it, and write it
+pub record Permitting (f ys : List ℕ) : Type 0 where
+  pub readers : (o r : ℕ) → Among 512 o → Among 128 r → member ys (rowOf readersAt o) r ≡ may f 1 r o
+  pub writers : (o r : ℕ) → Among 512 o → Among 128 r → member ys (rowOf writersAt o) r ≡ may f 2 r o
+
+pub record Levelled (f ys : List ℕ) : Type 0 where
+  pub reads : (r : ℕ) → Among 128 r → byteOf ys rLevelsAt r ≡ shown (rLevel f r)
+  pub writes : (r : ℕ) → Among 128 r → byteOf ys wLevelsAt r ≡ shown (wLevel f r)
+
+abbrev pub Assigning : List ℕ → List ℕ → Type 0
+Assigning f ys = (u r : ℕ) → Among 256 u → Among 128 r → member ys (rowOf assignedAt u) r ≡ assigned f u r
+
+-- byte i belongs to no table: those after the counts, those kept for later tables, and those after the last one
+abbrev pub Unused : ℕ → Type 0
+Unused i = (8 ≤ i) × (16 ≤ i → 8208 ≤ i) × (12304 ≤ i → 28688 ≤ i)
+
+pub record Image (f ys : List ℕ) : Type 0 where
+  pub counted : Counted f ys
+  pub labelled : Labelled f ys
+  pub dominating : Dominating f ys
+  pub seniors : Seniors f ys
+  pub permitting : Permitting f ys
+  pub levelled : Levelled f ys
+  pub assigning : Assigning f ys
+  pub unused : (i : ℕ) → Unused i → i < stateSize → getD ys i 0 ≡ 0
+
+-- ---- a load: "7: load with a state shorter than 65,536 bytes", then the verdict
+
+unfoldable pub loadVerdict : ℕ → List ℕ → Verdict
+loadVerdict n f = unless (leb stateSize n) (refusal 7 0 0) fine then verdict f
+
+-- the state after a load answered with v: as it was on a refusal; else its first 65,536 bytes are the file's, and the rest as it was
+pub record Loaded (f : List ℕ) (v : Verdict) (xs ys : List ℕ) : Type 0 where
+  pub answer : v ≡ loadVerdict (length xs) f
+  pub refused : (v .number ≡ 0 → ⊥) → ys ≡ xs
+  pub done : v .number ≡ 0 → Image f ys
+  pub rest : (i : ℕ) → stateSize ≤ i → getD ys i 0 ≡ getD xs i 0

@@ -1,0 +1,103 @@
+-- What each stage of a load finds and leaves, for the contracts of the functions that make it. Assumes nothing.
+use Prim.Native.Nat.{ℕ, _+_, _*_, _-_, _≤_, _<_}
+use mathlib.Core.Path.{_≡_}
+use mathlib.Core.List.{List}
+use mathlib.Core.Bool.{Bool, true, false, _&&_}
+use lib.Dec.{leb}
+use lib.ListN.{length, getD, drop}
+use Rattle.search.specs.Search.{Among}
+use Rattle.order.specs.Closure.{Relation, path, loop, circle}
+use Rattle.order.specs.Bound.{lonely, unjoined}
+use Rattle.order.specs.Table.{mark}
+use Rattle.rolefile.specs.declared.Line.{Line}
+use Rattle.rolefile.specs.declared.Verdict.{Verdict}
+use Rattle.rolefile.specs.Line.{lineAt}
+use Rattle.rolefile.specs.Form.{fine, refusal, _then_, found, linesVerdict, unlabelledVerdict}
+use Rattle.rolefile.specs.Said.{labels, roles, over, above}
+use Rattle.rolefile.specs.Section.{Leads}
+use Rattle.policy.specs.declared.build.Parts.{Parts}
+use Rattle.policy.specs.Policy.{dominates}
+use Rattle.policy.specs.Tables.{word, Kept}
+use Rattle.policy.specs.Verdict.{verdict}
+use Rattle.policy.specs.Image.{Labelled, Dominating, Seniors, Permitting, Levelled, Assigning, Counted, Image}
+
+-- the lines of each letter stand where q says
+pub record Laid (f : List ℕ) (q : Parts) : Type 0 where
+  pub first : q .d .start ≡ 1
+  pub d : Leads (drop (22 * q .d .start) f) 68 (q .d .count)
+  pub s-after : q .s .start ≡ q .d .start + q .d .count
+  pub s : Leads (drop (22 * q .s .start) f) 83 (q .s .count)
+  pub u-after : q .u .start ≡ q .s .start + q .s .count
+  pub u : Leads (drop (22 * q .u .start) f) 85 (q .u .count)
+  pub o-after : q .o .start ≡ q .u .start + q .u .count
+  pub o : Leads (drop (22 * q .o .start) f) 79 (q .o .count)
+  pub p-after : q .p .start ≡ q .o .start + q .o .count
+  pub p : Leads (drop (22 * q .p .start) f) 80 (q .p .count)
+  pub a-after : q .a .start ≡ q .p .start + q .p .count
+  pub a : Leads (drop (22 * q .a .start) f) 65 (q .a .count)
+
+-- a file whose lines have nothing to refuse, laid out, with its counts in h
+pub record Ready (f : List ℕ) (q : Parts) (h : Line) : Type 0 where
+  pub lines : linesVerdict f .number ≡ 0
+  pub laid : Laid f q
+  pub head : h ≡ lineAt f 1
+
+-- the bytes from a up to b are 0
+abbrev pub Zeros : ℕ → ℕ → List ℕ → Type 0
+Zeros a b xs = (i : ℕ) → a ≤ i → i < b → getD xs i 0 ≡ 0
+
+-- 6
+pub record Noting (f : List ℕ) (v : Verdict) (xs ys : List ℕ) : Type 0 where
+  pub answer : v ≡ unlabelledVerdict f
+  pub done : v .number ≡ 0 → Labelled f ys
+  pub rest : Kept 1040 1808 xs ys
+
+-- the paths of dominance, and its closure, as tables
+pub record Paths (f : List ℕ) (t : List (List Bool)) : Type 0 where
+  pub inside : (a b : ℕ) → Among (labels f) a → Among 32 b → mark t a b ≡ path (labels f) (over f) a b
+  pub outside : (a b : ℕ) → labels f < a → a ≤ 32 → Among 32 b → mark t a b ≡ false
+
+abbrev pub Closed : List ℕ → List (List Bool) → Type 0
+Closed f t = (a b : ℕ) → Among 32 a → Among 32 b → mark t a b ≡ (leb a (labels f) && dominates f a b)
+
+-- 11 and 12, of paths and of a closed order
+unfoldable pub orderVerdict : ℕ → Relation → Relation → Verdict
+orderVerdict n paths ge =
+    let a = loop n paths in
+    let b = unjoined n ge in
+    found a (refusal 11 a 0) then found b (refusal 12 b (lonely n ge b))
+
+-- 13
+unfoldable pub roleVerdict : List ℕ → Verdict
+roleVerdict f = let r = circle (roles f) (above f) in found r (refusal 13 r 0)
+
+pub record Ranking (f : List ℕ) (v : Verdict) (xs ys : List ℕ) : Type 0 where
+  pub answer : v ≡ roleVerdict f
+  pub done : v .number ≡ 0 → Seniors f ys
+  pub rest : Kept 2064 4112 xs ys
+
+-- dominance, permissions and levels are in; three stretches of bytes have changed
+pub record Granting (f xs ys : List ℕ) : Type 0 where
+  pub dominating : Dominating f ys
+  pub permitting : Permitting f ys
+  pub levelled : Levelled f ys
+  pub rest : (i : ℕ) → (16 ≤ i → 1040 ≤ i) → (1808 ≤ i → 2064 ≤ i) → (12304 ≤ i → 28688 ≤ i) → getD ys i 0 ≡ getD xs i 0
+
+-- the counts of h are in
+pub record Counts (h : Line) (xs ys : List ℕ) : Type 0 where
+  pub labels : word ys 0 ≡ h .a
+  pub roles : word ys 2 ≡ h .b
+  pub users : word ys 4 ≡ h .c
+  pub cards : word ys 6 ≡ h .d
+  pub rest : Kept 0 8 xs ys
+
+-- the assigned roles and the counts are in
+pub record Finishing (f xs ys : List ℕ) : Type 0 where
+  pub assigning : Assigning f ys
+  pub counted : Counted f ys
+  pub rest : (i : ℕ) → 8 ≤ i → (4112 ≤ i → 8208 ≤ i) → getD ys i 0 ≡ getD xs i 0
+
+-- the whole check, into bytes that were all 0; after a refusal nobody reads them
+pub record Built (f : List ℕ) (v : Verdict) (ys : List ℕ) : Type 0 where
+  pub answer : v ≡ verdict f
+  pub done : v .number ≡ 0 → Image f ys

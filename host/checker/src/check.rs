@@ -1,0 +1,415 @@
+//! The check itself, in the order of document 01: "Load checks 7, 1, then line
+//! by line 2 to 5 in that order within the line, then 6 (users before cards),
+//! 11, 12, 13, then assignments in file order, 14 to 16 within each."
+//! Number 7 is about a lent state and cannot arise here.
+
+use crate::line::{read_line, Letter, Line, LINE_LENGTH, MOST_BYTES};
+use crate::order::{lowest_on_circle, Order};
+use std::collections::BTreeSet;
+
+/// One number and one place from document 01's list.
+#[derive(Clone, Copy, Debug, PartialEq, Eq)]
+pub struct Refusal {
+    pub number: usize,
+    pub place: [usize; 2],
+}
+
+/// A role's r-level or w-level.
+#[derive(Clone, Copy, Debug, PartialEq, Eq)]
+pub enum Level {
+    /// No limit.
+    Free,
+    Label(usize),
+    /// No such bound exists.
+    Undefined,
+}
+
+impl Level {
+    /// "0 free, 99 undefined"
+    pub fn printed(self) -> usize {
+        match self {
+            Level::Free => 0,
+            Level::Label(label) => label,
+            Level::Undefined => 99,
+        }
+    }
+}
+
+/// The two levels of a role.
+#[derive(Clone, Copy, Debug, PartialEq, Eq)]
+pub struct RoleLevels {
+    pub role: usize,
+    pub read_level: Level,
+    pub write_level: Level,
+}
+
+/// What an accepted file comes to.
+#[derive(Clone, Debug, PartialEq, Eq)]
+pub struct Accepted {
+    /// Levels of role 1, 2 and so on.
+    pub roles: Vec<RoleLevels>,
+    /// Role flow: (from, to).
+    pub flows: BTreeSet<(usize, usize)>,
+    /// The lowest role on a circle of role flow.
+    pub circle: Option<usize>,
+}
+
+/// The check's outcome.
+#[derive(Clone, Debug, PartialEq, Eq)]
+pub enum Outcome {
+    Accepted(Accepted),
+    Refused(Refusal),
+}
+
+impl Outcome {
+    /// The number on the V line; "0 is done".
+    pub fn number(&self) -> usize {
+        match self {
+            Outcome::Accepted(_) => 0,
+            Outcome::Refused(refusal) => refusal.number,
+        }
+    }
+
+    /// The place on the V line.
+    pub fn place(&self) -> [usize; 2] {
+        match self {
+            Outcome::Accepted(_) => [0, 0],
+            Outcome::Refused(refusal) => refusal.place,
+        }
+    }
+}
+
+/// The numbers of the H line.
+#[derive(Clone, Copy, Debug, Default, PartialEq, Eq)]
+pub struct Counts {
+    pub labels: usize,
+    pub roles: usize,
+    pub users: usize,
+    pub cards: usize,
+}
+
+/// The numbers of a role file, each letter's lines in file order.
+#[derive(Clone, Debug, Default, PartialEq, Eq)]
+pub struct RoleFile {
+    pub counts: Counts,
+    /// D: label, label it dominates.
+    pub dominance: Vec<(usize, usize)>,
+    /// S: role, role it is senior to.
+    pub seniority: Vec<(usize, usize)>,
+    /// U: user, clearance.
+    pub clearances: Vec<(usize, usize)>,
+    /// O: card, label.
+    pub card_labels: Vec<(usize, usize)>,
+    /// P: role, card, mode.
+    pub permissions: Vec<(usize, usize, usize)>,
+    /// A: user, role.
+    pub assignments: Vec<(usize, usize)>,
+}
+
+/// "role r may read (m = 1) or write (m = 2) card o"
+pub const READ: usize = 1;
+/// "role r may read (m = 1) or write (m = 2) card o"
+pub const WRITE: usize = 2;
+
+/// Checks a whole role file.
+pub fn check(file: &[u8]) -> Outcome {
+    match read(file).and_then(|role_file| judge(&role_file)) {
+        Ok(accepted) => Outcome::Accepted(accepted),
+        Err(refusal) => Outcome::Refused(refusal),
+    }
+}
+
+/// Numbers 1 to 5: the file's form.
+pub fn read(file: &[u8]) -> Result<RoleFile, Refusal> {
+    // "1: length 0, not a multiple of 22, or above 63,800 [0, 0]"
+    if file.is_empty() || !file.len().is_multiple_of(LINE_LENGTH) || file.len() > MOST_BYTES {
+        return Err(Refusal {
+            number: 1,
+            place: [0, 0],
+        });
+    }
+    let mut role_file = RoleFile::default();
+    let mut previous: Option<Line> = None;
+    for (index, bytes) in file.chunks(LINE_LENGTH).enumerate() {
+        let line_number = index + 1;
+        let refuse = |number| {
+            Err(Refusal {
+                number,
+                place: [line_number, 0],
+            })
+        };
+        // "2: malformed line, unknown letter, H missing on line 1 or found
+        // later [line, 0]"
+        let Some(line) = read_line(bytes) else {
+            return refuse(2);
+        };
+        if (line.letter == Letter::H) != (line_number == 1) {
+            return refuse(2);
+        }
+        // "3: count outside its limits [line, 0]"
+        if line.letter == Letter::H && !counts_within_limits(&line.numbers) {
+            return refuse(3);
+        }
+        // "4: a user, role, card, label or mode number out of its range
+        // [line, 0]"
+        if !numbers_in_range(&line, &role_file.counts) {
+            return refuse(4);
+        }
+        // "5: line out of order or repeated [line, 0]": "After H the letters
+        // come in the table's order, and lines of a letter rise strictly by
+        // their fields read left to right."
+        if previous.is_some_and(|previous| previous >= line) {
+            return refuse(5);
+        }
+        keep(&line, &mut role_file);
+        previous = Some(line);
+    }
+    Ok(role_file)
+}
+
+/// "Counts: labels 1 to 32, roles 0 to 128, users 0 to 256, cards 0 to 512."
+fn counts_within_limits(numbers: &[usize]) -> bool {
+    (1..=32).contains(&numbers[0])
+        && (0..=128).contains(&numbers[1])
+        && (0..=256).contains(&numbers[2])
+        && (0..=512).contains(&numbers[3])
+}
+
+/// "Things are numbered from 1", and the H line counts them.
+fn numbers_in_range(line: &Line, counts: &Counts) -> bool {
+    let label = counts.labels;
+    let role = counts.roles;
+    let user = counts.users;
+    let card = counts.cards;
+    let highest = match line.letter {
+        Letter::H => return true,
+        Letter::D => vec![label, label],
+        Letter::S => vec![role, role],
+        Letter::U => vec![user, label],
+        Letter::O => vec![card, label],
+        Letter::P => vec![role, card, WRITE],
+        Letter::A => vec![user, role],
+    };
+    line.numbers
+        .iter()
+        .zip(highest)
+        .all(|(&number, highest)| (1..=highest).contains(&number))
+}
+
+/// Puts a good line's numbers where they belong.
+fn keep(line: &Line, role_file: &mut RoleFile) {
+    let numbers = &line.numbers;
+    match line.letter {
+        Letter::H => {
+            role_file.counts = Counts {
+                labels: numbers[0],
+                roles: numbers[1],
+                users: numbers[2],
+                cards: numbers[3],
+            }
+        }
+        Letter::D => role_file.dominance.push((numbers[0], numbers[1])),
+        Letter::S => role_file.seniority.push((numbers[0], numbers[1])),
+        Letter::U => role_file.clearances.push((numbers[0], numbers[1])),
+        Letter::O => role_file.card_labels.push((numbers[0], numbers[1])),
+        Letter::P => role_file
+            .permissions
+            .push((numbers[0], numbers[1], numbers[2])),
+        Letter::A => role_file.assignments.push((numbers[0], numbers[1])),
+    }
+}
+
+/// Numbers 6 and 11 to 16, then the report's numbers.
+fn judge(role_file: &RoleFile) -> Result<Accepted, Refusal> {
+    let counts = &role_file.counts;
+    let refuse = |number, place| Err(Refusal { number, place });
+
+    // "6: user or card with no label or more than one [1 and lowest such user,
+    // or 2 and lowest such card]", "users before cards"
+    if let Some(user) = lowest_without_one_line(counts.users, &role_file.clearances) {
+        return refuse(6, [1, user]);
+    }
+    if let Some(card) = lowest_without_one_line(counts.cards, &role_file.card_labels) {
+        return refuse(6, [2, card]);
+    }
+
+    // "11: labels dominate in a circle, a line D a a included [lowest label
+    // on one, 0]"
+    if let Some(label) = lowest_on_circle(counts.labels, &role_file.dominance) {
+        return refuse(11, [label, 0]);
+    }
+    // "12: two labels without least upper bound [lower and higher label of
+    // the pair that comes first by its lower, then by its higher label]"
+    let dominance = Order::closure(counts.labels, &role_file.dominance);
+    if let Some((lower, higher)) = dominance.first_pair_without_bound() {
+        return refuse(12, [lower, higher]);
+    }
+    // "13: the same as 11 for roles [lowest role, 0]"
+    if let Some(role) = lowest_on_circle(counts.roles, &role_file.seniority) {
+        return refuse(13, [role, 0]);
+    }
+
+    // "then assignments in file order, 14 to 16 within each"
+    let meaning = Meaning::of(role_file);
+    for &(user, role) in &role_file.assignments {
+        let number = meaning.assignment_number(user, role);
+        if number != 0 {
+            return refuse(number, [user, role]);
+        }
+    }
+
+    let flows = meaning.flows();
+    let pairs: Vec<(usize, usize)> = flows.iter().copied().collect();
+    Ok(Accepted {
+        roles: (1..=counts.roles)
+            .map(|role| meaning.levels(role))
+            .collect(),
+        // "the lowest role on a circle of two or more roles, or 0"; no role
+        // flows to itself, so that every circle has two roles or more.
+        circle: lowest_on_circle(counts.roles, &pairs),
+        flows,
+    })
+}
+
+/// "Each user has one U line and each card one O line."
+fn lowest_without_one_line(count: usize, lines: &[(usize, usize)]) -> Option<usize> {
+    (1..=count).find(|&thing| lines.iter().filter(|line| line.0 == thing).count() != 1)
+}
+
+/// What a file with good orders, clearances and card labels says.
+/// All vectors are used from index 1.
+pub struct Meaning {
+    pub dominance: Order,
+    pub seniority: Order,
+    pub clearance: Vec<usize>,
+    pub card_label: Vec<usize>,
+    /// Cards each role may read, inherited ones included.
+    pub may_read: Vec<BTreeSet<usize>>,
+    /// Cards each role may write, inherited ones included.
+    pub may_write: Vec<BTreeSet<usize>>,
+    pub read_level: Vec<Level>,
+    pub write_level: Vec<Level>,
+}
+
+impl Meaning {
+    pub fn of(role_file: &RoleFile) -> Meaning {
+        let counts = &role_file.counts;
+        let dominance = Order::closure(counts.labels, &role_file.dominance);
+        let seniority = Order::closure(counts.roles, &role_file.seniority);
+        let mut clearance = vec![0; counts.users + 1];
+        for &(user, label) in &role_file.clearances {
+            clearance[user] = label;
+        }
+        let mut card_label = vec![0; counts.cards + 1];
+        for &(card, label) in &role_file.card_labels {
+            card_label[card] = label;
+        }
+
+        // "A role has the permissions of its own P lines and of all its
+        // juniors."
+        let mut may_read = vec![BTreeSet::new(); counts.roles + 1];
+        let mut may_write = vec![BTreeSet::new(); counts.roles + 1];
+        for &(owner, card, mode) in &role_file.permissions {
+            for role in 1..=counts.roles {
+                if seniority.over(role, owner) {
+                    if mode == READ {
+                        may_read[role].insert(card);
+                    } else {
+                        may_write[role].insert(card);
+                    }
+                }
+            }
+        }
+
+        let labels_of = |cards: &BTreeSet<usize>| -> BTreeSet<usize> {
+            cards.iter().map(|&card| card_label[card]).collect()
+        };
+        // "Its r-level is the least upper bound of the labels it may read;
+        // with no read it is free, no limit."
+        let read_level = may_read
+            .iter()
+            .map(|cards| level(cards, dominance.least_upper_bound(&labels_of(cards))))
+            .collect();
+        // "Its w-level is the greatest lower bound of the labels it may
+        // write; with no write it is free; where no such bound exists it is
+        // undefined"
+        let write_level = may_write
+            .iter()
+            .map(|cards| level(cards, dominance.greatest_lower_bound(&labels_of(cards))))
+            .collect();
+
+        Meaning {
+            dominance,
+            seniority,
+            clearance,
+            card_label,
+            may_read,
+            may_write,
+            read_level,
+            write_level,
+        }
+    }
+
+    pub fn levels(&self, role: usize) -> RoleLevels {
+        RoleLevels {
+            role,
+            read_level: self.read_level[role],
+            write_level: self.write_level[role],
+        }
+    }
+
+    /// The number an A line gets, 0 where it is good: "For each A line the
+    /// w-level must not be undefined, the clearance must dominate the r-level,
+    /// and the w-level must dominate the clearance". "A free level always
+    /// passes".
+    pub fn assignment_number(&self, user: usize, role: usize) -> usize {
+        let clearance = self.clearance[user];
+        // "14: assigned role with undefined w-level [user, role]"
+        if self.write_level[role] == Level::Undefined {
+            return 14;
+        }
+        // "15: clearance doesn't dominate the r-level [user, role]"
+        let clearance_is_enough = match self.read_level[role] {
+            Level::Free => true,
+            Level::Label(label) => self.dominance.over(clearance, label),
+            Level::Undefined => false,
+        };
+        if !clearance_is_enough {
+            return 15;
+        }
+        // "16: w-level doesn't dominate the clearance [user, role]"
+        let clearance_is_low_enough = match self.write_level[role] {
+            Level::Free => true,
+            Level::Label(label) => self.dominance.over(label, clearance),
+            Level::Undefined => false,
+        };
+        if !clearance_is_low_enough {
+            return 16;
+        }
+        0
+    }
+
+    /// "Role r flows to another role q where a card that r may write is a
+    /// card that q may read."
+    pub fn flows(&self) -> BTreeSet<(usize, usize)> {
+        let roles = self.may_read.len() - 1;
+        let mut flows = BTreeSet::new();
+        for from in 1..=roles {
+            for to in 1..=roles {
+                if from != to && !self.may_write[from].is_disjoint(&self.may_read[to]) {
+                    flows.insert((from, to));
+                }
+            }
+        }
+        flows
+    }
+}
+
+/// Free with no card, undefined without a bound.
+fn level(cards: &BTreeSet<usize>, bound: Option<usize>) -> Level {
+    match bound {
+        _ if cards.is_empty() => Level::Free,
+        Some(label) => Level::Label(label),
+        None => Level::Undefined,
+    }
+}
