@@ -10,3 +10,4 @@ pub mod Assigning
 pub mod Readying
 pub mod Ranks
 pub mod Finishes
+pub mod Builds

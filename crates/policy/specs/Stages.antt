@@ -101,3 +101,8 @@ pub record Finishing (f xs ys : List ℕ) : Type 0 where
 pub record Built (f : List ℕ) (v : Verdict) (ys : List ℕ) : Type 0 where
   pub answer : v ≡ verdict f
   pub done : v .number ≡ 0 → Image f ys
+
+-- zs is ys with its first n bytes as in xs
+pub record Copied (n : ℕ) (xs ys zs : List ℕ) : Type 0 where
+  pub done : (i : ℕ) → i < n → getD zs i 0 ≡ getD xs i 0
+  pub rest : (i : ℕ) → n ≤ i → getD zs i 0 ≡ getD ys i 0

@@ -19,7 +19,7 @@ ghost use Rattle.rolefile.specs.WellFormed.{GoodCounts};
 ghost use Rattle.policy.specs.Tables.{word, Kept};
 ghost use Rattle.policy.specs.Image.{Labelled, Seniors, Levelled, Dominating};
 ghost use Rattle.policy.specs.Verdict.{assignmentVerdict};
-ghost use Rattle.policy.specs.Stages.{Laid, Ready, Zeros, Noting, Paths, Closed, orderVerdict, Ranking, Granting, Counts, Finishing, Built};
+ghost use Rattle.policy.specs.Stages.{Laid, Ready, Zeros, Noting, Paths, Closed, orderVerdict, Ranking, Granting, Counts, Finishing, Built, Copied};
 
 // The lines of one letter: how many stand before them, and how many they are.
 pub struct Part {
@@ -84,4 +84,16 @@ fn finish(f: &[u8], s: &mut [u8], q: Parts, h: Line)
     let p = read::part(f, a.start);
     rows::relate_lines(s, 4112, 256, p, a.count);
     put_counts(s, h);
+}
+
+// Copies a whole state into the first bytes of another.
+fn copy_state(to: &mut [u8], from: &[u8; 65536])
+    requires { ⌜ 65536 ≤ length (now to) ⌝ }
+    ensures { λ _. ⌜ Copied 65536 (now (from .entry)) (now (to .entry)) (now (to .exit)) ⌝ }
+{
+    let mut i = 0;
+    while i < 65536 {
+        to[i] = from[i];
+        i += 1;
+    }
 }

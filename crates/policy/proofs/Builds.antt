@@ -1,0 +1,173 @@
+-- The stages of a load put together: the verdict is the first refusal of the stages, and each table stays as its stage left it. Assumes nothing.
+use Prim.Native.Nat.{ℕ, zero, suc, _+_, _*_, _-_, _≤_, _<_}
+use mathlib.Core.Path.{_≡_, refl, sym, ap, _∙_}
+use mathlib.Core.List.{List}
+use mathlib.Core.Bool.{Bool, true, false}
+use native.Mathlib.Omega.{arith}
+use lib.ListN.{length, getD}
+use Rattle.search.specs.Search.{Among}
+use Rattle.roleset.specs.Row.{member}
+use Rattle.roleset.proofs.Rows.{same-bytes}
+use Rattle.order.specs.Closure.{circle}
+use Rattle.order.specs.Bound.{lonely, unjoined}
+use Rattle.rolefile.specs.declared.Verdict.{Verdict}
+use Rattle.rolefile.specs.Line.{lines}
+use Rattle.rolefile.specs.Form.{fine, refusal, unless, either, _then_, sized, scan, found, lineVerdict, linesVerdict, unlabelledVerdict, formVerdict}
+use Rattle.rolefile.specs.Said.{labels, roles, over, above}
+use Rattle.rolefile.proofs.Verdicts.{Refuses, then-next, then-stop}
+use Rattle.policy.specs.Policy.{dominates}
+use Rattle.policy.specs.Verdict.{assignmentVerdict, policyVerdict, verdict}
+use Rattle.policy.specs.Tables.{dominanceAt, clearancesAt, cardLabelsAt, rLevelsAt, wLevelsAt, seniorsAt, readersAt, writersAt, rowOf, Kept}
+use Rattle.policy.specs.Image.{Labelled, Dominating, Seniors, Permitting, Levelled, Image}
+use Rattle.policy.specs.Stages.{Zeros, Noting, roleVerdict, Ranking, Granting, Finishing, Built}
+
+-- ---- the verdict, stage by stage
+
+then-joined : (u v w : Verdict) → ((u then v) then w) ≡ (u then (v then w))
+then-joined u v w = go (u .number) refl
+  where
+    go : (n : ℕ) → u .number ≡ n → (either n u v then w) ≡ either n u (v then w)
+    go zero e = refl
+    go (suc n) e = then-stop u w (λ z. omega arith)
+
+-- 11 and 12
+unfoldable pub labelVerdict : List ℕ → Verdict
+labelVerdict f =
+    let a = circle (labels f) (over f) in
+    let b = unjoined (labels f) (dominates f) in
+    found a (refusal 11 a 0) then found b (refusal 12 b (lonely (labels f) (dominates f) b))
+
+module _ (f : List ℕ) where
+  pub last-stage : Verdict
+  last-stage = scan (lines f) (assignmentVerdict f)
+
+  pub third-stage : Verdict
+  third-stage = labelVerdict f then (roleVerdict f then scan (lines f) (assignmentVerdict f))
+
+  policy-stages : policyVerdict f ≡ third-stage
+  unfolding policyVerdict labelVerdict roleVerdict third-stage
+  policy-stages =
+      let a = circle (labels f) (over f) in
+      let b = unjoined (labels f) (dominates f) in
+      sym (then-joined (found a (refusal 11 a 0)) (found b (refusal 12 b (lonely (labels f) (dominates f) b)))
+      (roleVerdict f then scan (lines f) (assignmentVerdict f)))
+
+  pub stages : verdict f ≡ (linesVerdict f then (unlabelledVerdict f then third-stage))
+  unfolding verdict formVerdict linesVerdict
+  stages =
+      then-joined (unless (sized f) (refusal 1 0 0) fine) (scan (lines f) (lineVerdict f) then unlabelledVerdict f) (policyVerdict f)
+      ∙ ap (λ v. unless (sized f) (refusal 1 0 0) fine then v)
+      (then-joined (scan (lines f) (lineVerdict f)) (unlabelledVerdict f) (policyVerdict f)
+      ∙ ap (λ v. scan (lines f) (lineVerdict f) then (unlabelledVerdict f then v)) policy-stages)
+      ∙ sym (then-joined (unless (sized f) (refusal 1 0 0) fine) (scan (lines f) (lineVerdict f)) (unlabelledVerdict f then third-stage))
+
+  -- each stage's refusal is the file's where those before refuse nothing
+  pub refused-lines : Refuses (linesVerdict f) → linesVerdict f ≡ verdict f
+  refused-lines h = sym (stages ∙ then-stop (linesVerdict f) _ h)
+
+  module _ (first : linesVerdict f .number ≡ 0) where
+    from-second : verdict f ≡ (unlabelledVerdict f then third-stage)
+    from-second = stages ∙ then-next (linesVerdict f) _ first
+
+    pub refused-labels : Refuses (unlabelledVerdict f) → unlabelledVerdict f ≡ verdict f
+    refused-labels h = sym (from-second ∙ then-stop (unlabelledVerdict f) _ h)
+
+    module _ (second : unlabelledVerdict f .number ≡ 0) where
+      from-third : verdict f ≡ (labelVerdict f then (roleVerdict f then scan (lines f) (assignmentVerdict f)))
+      unfolding third-stage
+      from-third = from-second ∙ then-next (unlabelledVerdict f) _ second
+
+      pub refused-order : Refuses (labelVerdict f) → labelVerdict f ≡ verdict f
+      refused-order h = sym (from-third ∙ then-stop (labelVerdict f) _ h)
+
+      module _ (third : labelVerdict f .number ≡ 0) where
+        from-fourth : verdict f ≡ (roleVerdict f then scan (lines f) (assignmentVerdict f))
+        from-fourth = from-third ∙ then-next (labelVerdict f) _ third
+
+        pub refused-roles : Refuses (roleVerdict f) → roleVerdict f ≡ verdict f
+        refused-roles h = sym (from-fourth ∙ then-stop (roleVerdict f) _ h)
+
+        pub the-last : roleVerdict f .number ≡ 0 → scan (lines f) (assignmentVerdict f) ≡ verdict f
+        the-last fourth = sym (from-fourth ∙ then-next (roleVerdict f) _ fourth)
+
+-- ---- the tables
+
+-- the bytes from a up to b are the same
+abbrev pub Same : ℕ → ℕ → List ℕ → List ℕ → Type 0
+Same a b xs ys = (i : ℕ) → a ≤ i → i < b → getD ys i 0 ≡ getD xs i 0
+
+module _ (f xs ys : List ℕ) where
+  row-stays : (a b at : ℕ) → Same a b xs ys → a ≤ at → at + 16 ≤ b → (r : ℕ) → member ys at r ≡ member xs at r
+  row-stays a b at s l m = same-bytes xs ys at at (λ k n. s (at + k) (omega arith) (omega arith))
+
+  pub labelled-stays : Same 1040 1808 xs ys → Labelled f xs → Labelled f ys
+  labelled-stays s t = record {
+    users = λ u w. s (clearancesAt + (u - 1)) (omega arith) (omega arith) ∙ t .users u w;
+    cards = λ o w. s (cardLabelsAt + (o - 1)) (omega arith) (omega arith) ∙ t .cards o w;
+  }
+
+  pub dominating-stays : Same 16 1040 xs ys → Dominating f xs → Dominating f ys
+  dominating-stays s t a b v w = s (dominanceAt + (32 * (a - 1) + (b - 1))) (omega arith) (omega arith) ∙ t a b v w
+
+  pub seniors-stay : Same 2064 4112 xs ys → Seniors f xs → Seniors f ys
+  seniors-stay s t q r v w = row-stays 2064 4112 (rowOf seniorsAt q) s (omega arith) (omega arith) r ∙ t q r v w
+
+  pub permitting-stays : Same 12304 28688 xs ys → Permitting f xs → Permitting f ys
+  permitting-stays s t = record {
+    readers = λ o r v w. row-stays 12304 28688 (rowOf readersAt o) s (omega arith) (omega arith) r ∙ t .readers o r v w;
+    writers = λ o r v w. row-stays 12304 28688 (rowOf writersAt o) s (omega arith) (omega arith) r ∙ t .writers o r v w;
+  }
+
+  pub levelled-stays : Same 1808 2064 xs ys → Levelled f xs → Levelled f ys
+  levelled-stays s t = record {
+    reads = λ r w. s (rLevelsAt + (r - 1)) (omega arith) (omega arith) ∙ t .reads r w;
+    writes = λ r w. s (wLevelsAt + (r - 1)) (omega arith) (omega arith) ∙ t .writes r w;
+  }
+
+-- from zeros to the image, stage by stage
+module _ (f : List ℕ) (xs s₁ s₂ s₃ s₄ : List ℕ) (zeros : Zeros 0 65536 xs) (v w : Verdict) (noting : Noting f v xs s₁) (clean : v .number ≡ 0)
+    (ranking : Ranking f w s₁ s₂) (ranked : w .number ≡ 0) where
+  -- what the stage of permissions needs
+  pub level-zeros : Zeros 1808 2064 s₂
+  level-zeros i m n = ranking .rest i (λ k. omega arith) ∙ noting .rest i (λ k. omega arith) ∙ zeros i (omega arith) (omega arith)
+
+  pub row-zeros : Zeros 12304 28688 s₂
+  row-zeros i m n = ranking .rest i (λ k. omega arith) ∙ noting .rest i (λ k. omega arith) ∙ zeros i (omega arith) (omega arith)
+
+  pub second-labelled : Labelled f s₂
+  second-labelled = labelled-stays f s₁ s₂ (λ i l m. ranking .rest i (λ k. omega arith)) (noting .done clean)
+
+  module _ (granting : Granting f s₂ s₃) where
+    pub third-labelled : Labelled f s₃
+    third-labelled = labelled-stays f s₂ s₃ (λ i l m. granting .rest i (λ k. omega arith) (λ k. omega arith) (λ k. omega arith)) second-labelled
+
+    pub third-zeros : Zeros 4112 8208 s₃
+    third-zeros i m n =
+        granting .rest i (λ k. omega arith) (λ k. omega arith) (λ k. omega arith)
+        ∙ ranking .rest i (λ k. omega arith) ∙ noting .rest i (λ k. omega arith) ∙ zeros i (omega arith) (omega arith)
+
+    module _ (finishing : Finishing f s₃ s₄) where
+      stays : (a b : ℕ) → 8 ≤ a → (b ≤ 4112) → Same a b s₃ s₄
+      stays a b l m i j k = finishing .rest i (omega arith) (λ n. omega arith)
+
+      pub image : Image f s₄
+      image = record {
+        counted = finishing .counted;
+        labelled = labelled-stays f s₃ s₄ (stays 1040 1808 (omega arith) (omega arith)) third-labelled;
+        dominating = dominating-stays f s₃ s₄ (stays 16 1040 (omega arith) (omega arith)) (granting .dominating);
+        seniors = seniors-stay f s₂ s₄ (λ i l m. finishing .rest i (omega arith) (λ n. omega arith) ∙ granting .rest i (λ k. omega arith) (λ k. omega arith) (λ k. omega arith)) (ranking .done ranked);
+        permitting = permitting-stays f s₃ s₄ (λ i l m. finishing .rest i (omega arith) (λ n. omega arith)) (granting .permitting);
+        levelled = levelled-stays f s₃ s₄ (stays 1808 2064 (omega arith) (omega arith)) (granting .levelled);
+        assigning = finishing .assigning;
+        unused = λ i out l.
+            let (a, b, c) = out in
+            finishing .rest i a (λ n. b (omega arith))
+            ∙ granting .rest i (λ n. let far = b n in omega arith) (λ n. let far = b (omega arith) in omega arith) c
+            ∙ ranking .rest i (λ n. let far = b (omega arith) in omega arith)
+            ∙ noting .rest i (λ n. let far = b (omega arith) in omega arith)
+            ∙ zeros i (omega arith) l;
+      }
+
+-- a refusal: nobody reads the bytes
+pub built-refused : (f : List ℕ) (v : Verdict) (ys : List ℕ) → v ≡ verdict f → Refuses v → Built f v ys
+built-refused f v ys e h = record { answer = e; done = λ z. absurd (h z) }
