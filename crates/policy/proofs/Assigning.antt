@@ -1,14 +1,36 @@
 -- 14 to 16 by the tables: a verdict with no number has no place, and the tables' verdict is the file's where the tables are. Assumes nothing.
-use Prim.Native.Nat.{ℕ, _+_, _-_, _≤_, _<_}
-use mathlib.Core.Path.{_≡_, refl, sym, ap, _∙_}
-use mathlib.Core.Bool.{Bool, true, false, not, _&&_, _||_, cond}
+use Prim.Native.Nat.{ℕ, _+_, _*_, _-_, _≤_}
+use mathlib.Core.Path.{_≡_, refl, sym, _∙_}
+use mathlib.Core.Logic.{_⊎_, inl, inr, ⊎-elim}
+use mathlib.Core.Bool.{Bool, true, false, not, _&&_, _||_, cond, and-false}
 use mathlib.Core.List.{List}
 use native.Mathlib.Omega.{arith}
-use lib.Dec.{eqb}
+use lib.Dec.{leb, eqb}
+use lib.ListN.{getD}
+use borrow.Author.Tests.{ne-eqb, le-leb}
+use Rattle.search.specs.Search.{Among, among}
+use Rattle.search.proofs.Truth.{and-iff, among-iff, same}
+use Rattle.order.specs.Closure.{Relation}
+use Rattle.order.specs.Bound.{turned}
 use Rattle.rolefile.specs.declared.Verdict.{Verdict}
-use Rattle.rolefile.specs.Form.{fine, refusal}
+use Rattle.rolefile.specs.Line.{A, lineAt, lines}
+use Rattle.rolefile.specs.Form.{refusal, header, scan}
+use Rattle.rolefile.specs.Said.{labels, roles, users, over, clearance}
+use Rattle.rolefile.specs.Section.{one, two}
+use Rattle.rolefile.specs.WellFormed.{GoodCounts}
 use Rattle.rolefile.proofs.Verdicts.{Clean, unless-clean}
-use Rattle.policy.specs.Tables.{clearancesAt, rLevelsAt, wLevelsAt, byteOf, marked, assignByTables}
+use Rattle.rolefile.proofs.Sections.{part, Section, told}
+use Rattle.rolefile.proofs.Within.{scan-within}
+use Rattle.policy.specs.declared.Level.{Level}
+use Rattle.policy.specs.declared.Level.the-variants.{Free, Label, Undefined}
+use Rattle.policy.specs.Policy.{dominates, mayAt, level, rLevel, wLevel, passes, isDefined, shown}
+use Rattle.policy.specs.Tables.{dominanceAt, clearancesAt, rLevelsAt, wLevelsAt, byteOf, marked, assignByTables}
+use Rattle.policy.specs.Image.{Labelled, Dominating, Levelled}
+use Rattle.policy.specs.Verdict.{assignVerdict, assignmentVerdict}
+use Rattle.policy.proofs.Readying.{Good, one-within, two-within, limits-a}
+use Rattle.policy.proofs.Inside.{Between, closure-between}
+use Rattle.policy.proofs.Levels.{Tells, level-tells}
+use Rattle.policy.proofs.Checks.{assignment-clean}
 
 pub tables-clean : (xs : List ℕ) (u r : ℕ) → Clean (assignByTables xs u r)
 unfolding assignByTables
@@ -17,3 +39,105 @@ tables-clean xs u r =
     (unless-clean (eqb (byteOf xs rLevelsAt r) 0 || marked xs (byteOf xs clearancesAt u) (byteOf xs rLevelsAt r)) (refusal 15 u r) (λ e. omega arith)
     (unless-clean (eqb (byteOf xs wLevelsAt r) 0 || marked xs (byteOf xs wLevelsAt r) (byteOf xs clearancesAt u)) (refusal 16 u r) (λ e. omega arith)
     (λ e. refl)))
+
+-- ---- a level as it is kept: no label is 0 or 99
+
+module _ (n : ℕ) (ge : Relation) (s : ℕ → Bool) (few : n ≤ 32) where
+  pub defined-shown : not (eqb (shown (level n ge s)) 99) ≡ isDefined (level n ge s)
+  defined-shown = go (level n ge s) (level-tells n ge s)
+    where
+      go : (l : Level) → Tells n ge s l → not (eqb (shown l) 99) ≡ isDefined l
+      go Free t = refl
+      go (Label c) (h, b) = rw (ne-eqb c 99 (λ e. omega (arith, b .inside)))
+      go Undefined t = refl
+
+  -- what a test of the number kept says, where it agrees with p on the labels
+  pub passes-shown : (test p : ℕ → Bool) → test 99 ≡ false → ((l : ℕ) → Among n l → test l ≡ p l)
+      → (eqb (shown (level n ge s)) 0 || test (shown (level n ge s))) ≡ passes p (level n ge s)
+  passes-shown test p none agree = go (level n ge s) (level-tells n ge s)
+    where
+      go : (l : Level) → Tells n ge s l → (eqb (shown l) 0 || test (shown l)) ≡ passes p l
+      go Free t = refl
+      go (Label c) (h, b) = rw (ne-eqb c 0 (λ e. omega (arith, b .inside))) (agree c (b .inside))
+      go Undefined t = none
+
+-- ---- the tables' verdict
+
+module _ (f ys : List ℕ) (counts : GoodCounts (header f)) (between : Between (labels f) (over f)) (dominating : Dominating f ys) where
+  abbrev byte : ℕ → ℕ → ℕ
+  byte a b = getD ys (dominanceAt + (32 * (a - 1) + (b - 1))) 0
+
+  marks-byte : (a b : ℕ) → Among 32 a → Among 32 b → eqb (byte a b) 1 ≡ (leb a (labels f) && dominates f a b)
+  marks-byte a b v w = rw (dominating a b v w) (go (leb a (labels f) && dominates f a b))
+    where
+      go : (m : Bool) → eqb (cond m 1 0) 1 ≡ m
+      go true = refl
+      go false = refl
+
+  -- dominance by the bytes, where one of the two is a label
+  marked-is : (a b : ℕ) → Among (labels f) a ⊎ Among (labels f) b → marked ys a b ≡ dominates f a b
+  unfolding dominates
+  marked-is a b one = same (marked ys a b) (dominates f a b) to of
+    where
+      to : marked ys a b ≡ true → dominates f a b ≡ true
+      to h =
+          let (v, g) = and-iff (among 32 a) (among 32 b && eqb (byte a b) 1) .0 h in
+          let (w, e) = and-iff (among 32 b) (eqb (byte a b) 1) .0 g in
+          and-iff (leb a (labels f)) (dominates f a b) .0 (sym (marks-byte a b (among-iff 32 a .0 v) (among-iff 32 b .0 w)) ∙ e) .1
+
+      both : dominates f a b ≡ true → Among (labels f) a × Among (labels f) b
+      both h =
+          ⊎-elim
+          (λ i. ⊎-elim (λ v. (v, rw i at v)) (λ w. (rw i w, w)) one)
+          (λ vw. vw)
+          (closure-between (labels f) (over f) between a b h)
+
+      of : dominates f a b ≡ true → marked ys a b ≡ true
+      of h =
+          let (v, w) = both h in
+          let few = counts .labels in
+          let i : Among 32 a = omega arith in
+          let j : Among 32 b = omega arith in
+          rw (among-iff 32 a .1 i, among-iff 32 b .1 j, marks-byte a b i j, le-leb a (labels f) (v .1)) h
+
+  module _ (labelled : Labelled f ys) (levelled : Levelled f ys) where
+    pub tables-verdict : (u r : ℕ) → Among 256 u → Among 128 r → assignByTables ys u r ≡ assignVerdict f u r
+    unfolding assignByTables assignVerdict rLevel wLevel
+    tables-verdict u r v w =
+        rw (
+          labelled .users u v,
+          levelled .reads r w,
+          levelled .writes r w,
+          defined-shown (labels f) (turned (dominates f)) (mayAt f 2 r) (counts .labels .1),
+          passes-shown (labels f) (dominates f) (mayAt f 1 r) (counts .labels .1) (marked ys c) (dominates f c)
+              (and-false (among 32 c)) (λ l i. marked-is c l (inr i)),
+          passes-shown (labels f) (turned (dominates f)) (mayAt f 2 r) (counts .labels .1) (λ l. marked ys l c) (λ l. dominates f l c)
+              refl (λ l i. marked-is l c (inl i)),
+        )
+      where
+        c : ℕ
+        c = clearance f u
+
+-- ---- the assignments of a file, by the section of its A lines
+
+module _ (f : List ℕ) (good : Good f) (counts : GoodCounts (header f)) {j m : ℕ} (s : Section f A j m) where
+  pub numbers-within : (i : ℕ) → Among m i → Among 256 (one (part f j) i) × Among 128 (two (part f j) i)
+  numbers-within i w =
+      let u = rw (limits-a (header f) .0) at (one-within f good s (omega arith) i w) in
+      let r = rw (limits-a (header f) .1) at (two-within f good s (omega arith) i w) in
+      let users = counts .users in
+      let roles = counts .roles in
+      omega arith
+
+  -- v says of a user and a role what the file does
+  pub scan-assignments : (v : ℕ → ℕ → Verdict) → ((u r : ℕ) → Among 256 u → Among 128 r → v u r ≡ assignVerdict f u r)
+      → scan m (λ i. v (one (part f j) i) (two (part f j) i)) ≡ scan (lines f) (assignmentVerdict f)
+  unfolding assignmentVerdict
+  scan-assignments v agree =
+      sym (scan-within (lines f) j m (s .fits) (assignmentVerdict f) (λ i. v (one (part f j) i) (two (part f j) i))
+      (λ i w. assignment-clean f i)
+      (λ i w out. rw (ne-eqb (lineAt f i .letter) A (λ e. out (s .only i w e))))
+      (λ i w.
+      let n = numbers-within i w in
+      let numbers = told f good s in
+      rw (s .inside i w, ← (numbers .one i w), ← (numbers .two i w)) (sym (agree (one (part f j) i) (two (part f j) i) (n .0) (n .1)))))

@@ -10,4 +10,8 @@ pub mod Assigning
 pub mod Readying
 pub mod Ranks
 pub mod Finishes
+pub mod Inside
+pub mod Granting
+pub mod Labelling
+pub mod Dominance
 pub mod Builds

@@ -86,6 +86,9 @@ module _ (f : List ℕ) (q : Parts) (e : linesVerdict f .number ≡ 0) (laid : L
   pub section-a : Section f A (q .a .start) (q .a .count)
   section-a = section-of f good 7 (q .a .start) (q .a .count) 65 at-a (bytes .5) (omega arith) (laid .a)
 
+pub head-counts : (f : List ℕ) (q : Parts) (h : Line) → Ready f q h → GoodCounts h
+head-counts f q h ready = rw (ready .head) (counts-of f (ready .lines))
+
 -- a section of a letter after H: its numbers are within the counts
 module _ (f : List ℕ) (good : Good f) {k j m : ℕ} (s : Section f k j m) (after : H < k) where
   numbers : (i : ℕ) → Among m i → GoodNumbers (header f) (lineAt f (j + i))

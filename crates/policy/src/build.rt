@@ -37,6 +37,75 @@ pub struct Parts {
     pub a: Part,
 }
 
+fn part_after(f: &[u8], start: usize, letter: u8) -> Part
+    ensures { λ q. ⌜ (q .start ≡ start) × Leads (drop (22 * start) (now (f .entry))) letter (q .count) ⌝ }
+{
+    let p = read::part(f, start);
+    let count = read::leading(p, letter);
+    Part { start, count }
+}
+
+// Where the lines of each letter stand.
+fn lay_out(f: &[u8]) -> Parts
+    ensures { λ q. ⌜ Laid (now (f .entry)) q ⌝ }
+{
+    let d = part_after(f, 1, 68);
+    let s = part_after(f, d.start + d.count, 83);
+    let u = part_after(f, s.start + s.count, 85);
+    let o = part_after(f, u.start + u.count, 79);
+    let p = part_after(f, o.start + o.count, 80);
+    let a = part_after(f, p.start + p.count, 65);
+    Parts { d, s, u, o, p, a }
+}
+
+// 6, with clearances and card labels put into the state.
+fn note_labels(f: &[u8], s: &mut [u8], q: Parts, h: Line) -> Verdict
+    requires { ⌜ Ready (now f) q h × (65536 ≤ length (now s)) × Zeros 1040 1808 (now s) ⌝ }
+    ensures { λ v. ⌜ Noting (now (f .entry)) v (now (s .entry)) (now (s .exit)) ⌝ }
+{
+    let u = q.u;
+    let users = read::part(f, u.start);
+    labels::note_lines(s, 1040, 256, users, u.count);
+    let o = q.o;
+    let cards = read::part(f, o.start);
+    labels::note_lines(s, 1296, 512, cards, o.count);
+    let user = labels::lowest_unlabelled(s, 1040, h.c as usize);
+    if user != 0 {
+        return check::refused(6, 1, user as u64);
+    }
+    let card = labels::lowest_unlabelled(s, 1296, h.d as usize);
+    if card != 0 {
+        return check::refused(6, 2, card as u64);
+    }
+    check::nothing()
+}
+
+// The paths of dominance by the D lines.
+fn dominance(f: &[u8], q: Parts, h: Line) -> [[bool; 32]; 32]
+    requires { ⌜ Ready (now f) q h ⌝ }
+    ensures { λ t. ⌜ Paths (now (f .entry)) t ⌝ }
+{
+    let d = q.d;
+    let lines = read::part(f, d.start);
+    let table = marks::table_of(lines, d.count);
+    order::marks::paths(table, h.a as usize)
+}
+
+// 11 and 12, by the paths and the closed table.
+fn judge_labels(paths: [[bool; 32]; 32], closed: [[bool; 32]; 32], n: usize) -> Verdict
+    ensures { λ v. ⌜ v ≡ orderVerdict (min n 32) (mark paths) (mark closed) ⌝ }
+{
+    let a = order::marks::lowest_loop(paths, n);
+    if a != 0 {
+        return check::refused(11, a as u64, 0);
+    }
+    let pair = order::bounds::first_pair(closed, n);
+    if pair.lower != 0 {
+        return check::refused(12, pair.lower as u64, pair.higher as u64);
+    }
+    check::nothing()
+}
+
 // 13, with the seniors of each role put into the state.
 fn rank_roles(f: &[u8], s: &mut [u8], q: Parts, h: Line) -> Verdict
     requires { ⌜ Ready (now f) q h × (65536 ≤ length (now s)) × Zeros 2064 4112 (now s) ⌝ }
@@ -53,6 +122,35 @@ fn rank_roles(f: &[u8], s: &mut [u8], q: Parts, h: Line) -> Verdict
     }
     order::rows::reflect(s, 2064, n);
     check::nothing()
+}
+
+// Dominance, readers, writers and levels, put into the state.
+fn grant_all(f: &[u8], s: &mut [u8], q: Parts, h: Line, t: [[bool; 32]; 32])
+    requires { ⌜ Ready (now f) q h × (65536 ≤ length (now s)) × Labelled (now f) (now s) × Seniors (now f) (now s) × Closed (now f) t × Zeros 1808 2064 (now s) × Zeros 12304 28688 (now s) ⌝ }
+    ensures { λ _. ⌜ Granting (now (f .entry)) (now (s .entry)) (now (s .exit)) ⌝ }
+{
+    let p = q.p;
+    let lines = read::part(f, p.start);
+    marks::put_table(s, t);
+    rows::grant_lines(s, lines, p.count);
+    let n = h.a as usize;
+    let roles = h.b as usize;
+    let cards = h.d as usize;
+    let up = order::bounds::turned(t);
+    let read_at = gather::gather(s, 12304, cards);
+    gather::put_levels(s, 1808, read_at, up, n, roles);
+    let written_at = gather::gather(s, 20496, cards);
+    gather::put_levels(s, 1936, written_at, t, n, roles);
+}
+
+// 14 to 16, by the tables in the state.
+fn judge_assignments(f: &[u8], s: &[u8], q: Parts, h: Line) -> Verdict
+    requires { ⌜ Ready (now f) q h × (65536 ≤ length (now s)) × Labelled (now f) (now s) × Dominating (now f) (now s) × Levelled (now f) (now s) ⌝ }
+    ensures { λ v. ⌜ v ≡ scan (lines (now (f .entry))) (assignmentVerdict (now (f .entry))) ⌝ }
+{
+    let a = q.a;
+    let p = read::part(f, a.start);
+    assign::assign_lines(s, p, a.count)
 }
 
 // The lower and the upper byte of a count at `at`.
@@ -84,6 +182,41 @@ fn finish(f: &[u8], s: &mut [u8], q: Parts, h: Line)
     let p = read::part(f, a.start);
     rows::relate_lines(s, 4112, 256, p, a.count);
     put_counts(s, h);
+}
+
+// The whole check of a file, into a state of zeros.
+pub fn build(f: &[u8], s: &mut [u8]) -> Verdict
+    requires { ⌜ (length (now s) ≡ 65536) × Zeros 0 65536 (now s) ⌝ }
+    ensures { λ v. ⌜ Built (now (f .entry)) v (now (s .exit)) ⌝ }
+{
+    let v = check::lines(f);
+    if v.number != 0 {
+        return v;
+    }
+    let h = read::line(f, 1);
+    let q = lay_out(f);
+    let v = note_labels(f, s, q, h);
+    if v.number != 0 {
+        return v;
+    }
+    let paths = dominance(f, q, h);
+    let n = h.a as usize;
+    let closed = order::marks::reflected(paths, n);
+    let v = judge_labels(paths, closed, n);
+    if v.number != 0 {
+        return v;
+    }
+    let v = rank_roles(f, s, q, h);
+    if v.number != 0 {
+        return v;
+    }
+    grant_all(f, s, q, h, closed);
+    let v = judge_assignments(f, s, q, h);
+    if v.number != 0 {
+        return v;
+    }
+    finish(f, s, q, h);
+    check::nothing()
 }
 
 // Copies a whole state into the first bytes of another.

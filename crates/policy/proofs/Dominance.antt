@@ -1,0 +1,99 @@
+-- Dominance in tables: the D lines' paths and their closure, and what 11 and 12 find in them. Assumes nothing.
+use Prim.Native.Nat.{ℕ, zero, suc, _≤_}
+use mathlib.Core.Path.{_≡_, refl, sym, _∙_}
+use mathlib.Core.List.{List}
+use mathlib.Core.Bool.{Bool, true, _&&_, cond}
+use native.Mathlib.Omega.{arith}
+use native.Mathlib.Decide.{decLt}
+use lib.Dec.{ltb, eqb}
+use borrow.Author.Tests.{eqb-true, le-leb, lt-leb, lt-ltb}
+use Rattle.search.specs.Search.{Among}
+use Rattle.search.proofs.Truth.{and-iff, untrue}
+use Rattle.search.proofs.Found.{some-iff, first-agree}
+use Rattle.order.specs.Closure.{Relation, path, loop, circle}
+use Rattle.order.specs.Bound.{lonely, unjoined, FirstApart}
+use Rattle.order.specs.Table.{mark, Rows, reflexive}
+use Rattle.order.proofs.Closure.{via-agree}
+use Rattle.order.proofs.Bound.{first-apart-agree}
+use Rattle.rolefile.specs.Line.{D, fields}
+use Rattle.rolefile.specs.Form.{refusal, _then_, found, header}
+use Rattle.rolefile.specs.Said.{labels, over}
+use Rattle.rolefile.specs.Section.{one, two}
+use Rattle.rolefile.proofs.Sections.{part, Section, says-two}
+use Rattle.policy.specs.Policy.{dominates}
+use Rattle.policy.specs.Tables.{pairs}
+use Rattle.policy.specs.Stages.{Paths, Closed, orderVerdict}
+use Rattle.policy.proofs.Marked.{Marking}
+use Rattle.policy.proofs.Readying.{Good, one-within, limits-d}
+
+-- ---- the tables
+
+module _ (f : List ℕ) (good : Good f) (few : labels f ≤ 32) {j m : ℕ} (s : Section f D j m) where
+  pairs-over : (a b : ℕ) → pairs (part f j) m a b ≡ over f a b
+  unfolding pairs fields
+  pairs-over a b = sym (says-two f good s refl a b)
+
+  -- only a label is over another
+  over-label : (a b : ℕ) → over f a b ≡ true → a ≤ labels f
+  unfolding pairs
+  over-label a b e =
+      let (i, w, h) = some-iff (λ i. eqb (one (part f j) i) a && eqb (two (part f j) i) b) m .0 (pairs-over a b ∙ e) in
+      let named = eqb-true (one (part f j) i) a (and-iff (eqb (one (part f j) i) a) (eqb (two (part f j) i) b) .0 h .0) in
+      omega (arith, one-within f good s (omega arith) i w, limits-d (header f) .0)
+
+  -- t has the marks of the D lines, and u its paths
+  pub paths-of : (t u : List (List Bool)) → Marking (part f j) m t → Rows 32 (labels f) (path (labels f) (mark t)) (mark t) (mark u) → Paths f u
+  paths-of t u said rows = record {
+    inside = λ a b v w. rows .done a b v w
+        ∙ via-agree (labels f) 32 (mark t) (over f) few (λ a b v w. said a b (omega arith) w ∙ pairs-over a b) (labels f) (omega arith) a b v w;
+    outside = λ a b l v w. rows .left a b l v w
+        ∙ said a b (omega arith) w ∙ pairs-over a b ∙ untrue (over f a b) (λ e. let k = over-label a b e in omega arith);
+  }
+
+pub closed-of : (f : List ℕ) (t c : List (List Bool)) → Paths f t
+    → Rows 32 (labels f) (reflexive (mark t)) (mark t) (mark c) → Closed f c
+unfolding dominates
+closed-of f t c p rows a b v w = elim (decLt (labels f) a) [
+  | yes l ↦ rows .left a b l (v .1) w ∙ p .outside a b l (v .1) w ∙ rw (lt-leb a (labels f) l)
+  | no l ↦
+      let u : Among (labels f) a = omega arith in
+      rows .done a b u w ∙ rw (p .inside a b u w, le-leb a (labels f) (u .1))
+]
+
+-- ---- 11 and 12
+
+-- the first pair that was found is refused
+pub apart-verdict : (n : ℕ) (ge : Relation) (a b : ℕ) → FirstApart n ge a b
+    → found (unjoined n ge) (refusal 12 (unjoined n ge) (lonely n ge (unjoined n ge))) ≡ found a (refusal 12 a b)
+apart-verdict n ge a b h = rw (← (h .lower)) (go a (h .higher))
+  where
+    go : (a : ℕ) → b ≡ cond (ltb 0 a) (lonely n ge a) 0 → found a (refusal 12 a (lonely n ge a)) ≡ found a (refusal 12 a b)
+    go zero e = refl
+    go (suc a) e = rw (e, lt-ltb 0 (suc a) (omega arith))
+
+pub order-verdict-is : (f : List ℕ) (t c : List (List Bool)) → labels f ≤ 32 → Paths f t → Closed f c
+    → orderVerdict (labels f) (mark t) (mark c)
+    ≡ (found (circle (labels f) (over f)) (refusal 11 (circle (labels f) (over f)) 0)
+    then found (unjoined (labels f) (dominates f))
+    (refusal 12 (unjoined (labels f) (dominates f)) (lonely (labels f) (dominates f) (unjoined (labels f) (dominates f)))))
+unfolding orderVerdict
+order-verdict-is f t c few p closed =
+    rw (loops, apart-verdict n (mark c) a b here, apart-verdict n (dominates f) a b (first-apart-agree n (mark c) (dominates f) agree a b here))
+  where
+    n : ℕ
+    n = labels f
+
+    loops : loop n (mark t) ≡ circle n (over f)
+    loops = first-agree (λ a. mark t a a) (λ a. path n (over f) a a) n (λ a w. p .inside a a w (omega arith))
+
+    agree : (a b : ℕ) → Among n a → Among n b → mark c a b ≡ dominates f a b
+    agree a b v w = closed a b (omega arith) (omega arith) ∙ rw (le-leb a n (v .1))
+
+    a : ℕ
+    a = unjoined n (mark c)
+
+    b : ℕ
+    b = cond (ltb 0 a) (lonely n (mark c) a) 0
+
+    here : FirstApart n (mark c) a b
+    here = record { lower = refl; higher = refl }

@@ -1,0 +1,264 @@
+-- Dominance, permissions and levels as the tables hold them are those of the file: what the P lines grant by the seniors' rows is what a role may do,
+-- and the bounds of the labels gathered are its levels. Assumes nothing.
+use Prim.Native.Nat.{ℕ, _+_, _*_, _-_, _≤_, _<_}
+use mathlib.Core.Path.{_≡_, refl, sym, ap, _∙_}
+use mathlib.Core.Logic.{_⊎_, inr, ⊎-elim}
+use mathlib.Core.List.{List}
+use mathlib.Core.Bool.{Bool, true, false, _&&_, cond, and-assoc, and-comm}
+use native.Mathlib.Omega.{arith}
+use native.Mathlib.Decide.{decLt}
+use lib.Dec.{eqb}
+use lib.ListN.{getD}
+use borrow.Author.Tests.{eqb-true, eq-eqb, le-leb}
+use Rattle.search.specs.Search.{Among, among, some}
+use Rattle.search.proofs.Truth.{and-iff, among-iff, untrue, same}
+use Rattle.search.proofs.Found.{some-of, some-iff, some-none, some-agree}
+use Rattle.roleset.specs.Row.{member}
+use Rattle.roleset.proofs.Rows.{member-of, no-bits, same-bytes}
+use Rattle.order.specs.Closure.{Relation}
+use Rattle.order.specs.Bound.{turned}
+use Rattle.order.specs.Table.{mark}
+use Rattle.order.proofs.Closure.{Agree}
+use Rattle.order.proofs.Bound.{lub-agree}
+use Rattle.rolefile.specs.declared.Line.{Line}
+use Rattle.rolefile.specs.Line.{P}
+use Rattle.rolefile.specs.Form.{header}
+use Rattle.rolefile.specs.Said.{labels, roles, cards, above, permits, cardLabel}
+use Rattle.rolefile.specs.Section.{one, two, three}
+use Rattle.rolefile.specs.WellFormed.{GoodCounts}
+use Rattle.rolefile.proofs.Sections.{part, Section, says-three}
+use Rattle.policy.specs.declared.build.Parts.{Parts}
+use Rattle.policy.specs.Policy.{dominates, senior, may, mayAt, level, rLevel, wLevel, shown}
+use Rattle.policy.specs.Tables.{dominanceAt, cardLabelsAt, rLevelsAt, wLevelsAt, seniorsAt, readersAt, writersAt, byteOf, rowOf, Kept}
+use Rattle.policy.specs.Tables.{granted, gathered, Bytes, Granted}
+use Rattle.policy.specs.Image.{Labelled, Seniors, Permitting}
+use Rattle.policy.specs.Stages.{Ready, Zeros, Closed, Granting}
+use Rattle.policy.proofs.Readying.{Good, good-of, counts-of, section-s, section-p, one-within, limits-p}
+use Rattle.policy.proofs.Inside.{Between, closure-between, above-between}
+use Rattle.policy.proofs.Gathering.{level-empty, level-same-set}
+
+-- ---- rows
+
+pub row-kept : (a b : ℕ) (xs ys : List ℕ) → Kept a b xs ys → (at r : ℕ) → (at + 16 ≤ a) ⊎ (b ≤ at) → member ys at r ≡ member xs at r
+row-kept a b xs ys kept at r far =
+    same-bytes xs ys at at (λ k l. kept (at + k) (λ m. ⊎-elim (λ h. omega arith) (λ h. omega arith) far)) r
+
+pub row-empty : (xs : List ℕ) (at r : ℕ) → Zeros at (at + 16) xs → member xs at r ≡ false
+row-empty xs at r zeros = member-of xs at (λ k. 0) (λ k l. zeros (at + k) (omega arith) (omega arith)) r ∙ no-bits r
+
+-- ---- permissions
+
+-- a search for a thing and a line that names it is one for the line
+by-line : (n m : ℕ) (x : ℕ → ℕ) (t u : ℕ → Bool) → ((i : ℕ) → Among m i → Among n (x i))
+    → some m (λ i. u i && t (x i)) ≡ some n (λ q. t q && some m (λ i. eqb (x i) q && u i))
+by-line n m x t u inside = same (some m line) (some n thing) (λ h. to (some-iff line m .0 h)) (λ h. of (some-iff thing n .0 h))
+  where
+    line : ℕ → Bool
+    line i = u i && t (x i)
+
+    names : ℕ → ℕ → Bool
+    names q i = eqb (x i) q && u i
+
+    thing : ℕ → Bool
+    thing q = t q && some m (names q)
+
+    to : (i : ℕ) × Among m i × (line i ≡ true) → some n thing ≡ true
+    to (i, w, h) =
+        let (a, b) = and-iff (u i) (t (x i)) .0 h in
+        let named = some-of (names (x i)) m i w (and-iff (eqb (x i) (x i)) (u i) .1 (eq-eqb (x i) (x i) refl, a)) in
+        some-of thing n (x i) (inside i w) (and-iff (t (x i)) (some m (names (x i))) .1 (b, named))
+
+    of : (q : ℕ) × Among n q × (thing q ≡ true) → some m line ≡ true
+    of (q, w, h) =
+        let (a, b) = and-iff (t q) (some m (names q)) .0 h in
+        let (i, v, e) = some-iff (names q) m .0 b in
+        let (c, d) = and-iff (eqb (x i) q) (u i) .0 e in
+        some-of line m i v (and-iff (u i) (t (x i)) .1 (d, rw (eqb-true (x i) q c) a))
+
+-- the table at `at` has the roles that may do d
+abbrev pub Allows : List ℕ → ℕ → ℕ → List ℕ → Type 0
+Allows f d at xs = (o r : ℕ) → Among 512 o → Among 128 r → member xs (rowOf at o) r ≡ may f d r o
+
+module _ (f xs : List ℕ) (good : Good f) (few : roles f ≤ 128) (seniors : Seniors f xs) {j m : ℕ} (s : Section f P j m) where
+  role-within : (i : ℕ) → Among m i → Among (roles f) (one (part f j) i)
+  role-within i w = rw (limits-p (header f) .0) at (one-within f good s (omega arith) i w)
+
+  senior-row : (q r : ℕ) → Among (roles f) q → Among 128 r → (among 128 q && member xs (rowOf seniorsAt q) r) ≡ senior f r q
+  senior-row q r v w = rw (among-iff 128 q .1 (omega arith), seniors q r (omega arith) w, le-leb q (roles f) (v .1))
+
+  pub may-is : (d o r : ℕ) → Among 128 r → granted xs (part f j) m d o r ≡ may f d r o
+  unfolding granted may
+  may-is d o r w =
+      some-agree
+      (λ i. eqb (two p i) o && (eqb (three p i) d && (among 128 (one p i) && member xs (rowOf seniorsAt (one p i)) r)))
+      (λ i. line i && senior f r (one p i))
+      m (λ i v. rw (senior-row (one p i) r (role-within i v) w) (sym (and-assoc (eqb (two p i) o) (eqb (three p i) d) (senior f r (one p i)))))
+      ∙ by-line (roles f) m (one p) (senior f r) line role-within
+      ∙ some-agree
+      (λ q. senior f r q && some m (λ i. eqb (one p i) q && line i))
+      (λ q. senior f r q && permits f d q o)
+      (roles f) (λ q v. rw (says-three f good s refl q o d))
+    where
+      p : List ℕ
+      p = part f j
+
+      line : ℕ → Bool
+      line i = eqb (two p i) o && eqb (three p i) d
+
+  pub permitted : (ys : List ℕ) → Granted (granted xs (part f j) m) xs ys → Zeros readersAt 28688 xs → Permitting f ys
+  permitted ys g zeros = record {
+    readers = λ o r v w. g .readers o r v w ∙ rw (none readersAt o r (omega arith) v) (may-is 1 o r w);
+    writers = λ o r v w. g .writers o r v w ∙ rw (none writersAt o r (omega arith) v) (may-is 2 o r w);
+  }
+    where
+      none : (at o r : ℕ) → (readersAt ≤ at) × (at + 8192 ≤ 28688) → Among 512 o → member xs (rowOf at o) r ≡ false
+      none at o r l v = row-empty xs (rowOf at o) r (λ i p q. zeros i (omega arith) (omega arith))
+
+-- ---- levels
+
+abbrev pub CardLabels : List ℕ → List ℕ → Type 0
+CardLabels f xs = (o : ℕ) → Among 512 o → byteOf xs cardLabelsAt o ≡ cardLabel f o
+
+pub may-at-is : (f xs : List ℕ) → cards f ≤ 512 → CardLabels f xs → (d at : ℕ) → Allows f d at xs
+    → (l r : ℕ) → Among 128 r → gathered xs at (cards f) l r ≡ mayAt f d r l
+unfolding gathered mayAt
+may-at-is f xs few label d at allows l r w =
+    some-agree
+    (λ o. eqb (byteOf xs cardLabelsAt o) l && member xs (rowOf at o) r)
+    (λ o. may f d r o && eqb (cardLabel f o) l)
+    (cards f) (λ o v.
+    let u : Among 512 o = omega arith in
+    rw (label o u, allows o r u w) (and-comm (eqb (cardLabel f o) l) (may f d r o)))
+
+level-agree : (n : ℕ) (ge le : Relation) (s t : ℕ → Bool) → Agree n n ge le → ((l : ℕ) → Among n l → s l ≡ t l) → level n ge s ≡ level n le t
+unfolding level
+level-agree n ge le s t order set = level-same-set n ge s t set ∙ rw (lub-agree n ge le order t)
+
+-- a number past the roles is no role's, and so may do nothing
+module _ (f : List ℕ) (between : Between (roles f) (above f)) (r : ℕ) (past : roles f < r) where
+  no-junior : (q : ℕ) → Among (roles f) q → senior f r q ≡ false
+  unfolding senior
+  no-junior q w =
+      untrue (senior f r q) (λ e. ⊎-elim (λ i. omega arith) (λ v. omega arith) (closure-between (roles f) (above f) between r q e))
+
+  no-card : (d o : ℕ) → may f d r o ≡ false
+  unfolding may
+  no-card d o = some-none (λ q. senior f r q && permits f d q o) (roles f) .1 (λ q w. rw (no-junior q w))
+
+  no-label : (d l : ℕ) → mayAt f d r l ≡ false
+  unfolding mayAt
+  no-label d l = some-none (λ o. may f d r o && eqb (cardLabel f o) l) (cards f) .1 (λ o w. rw (no-card d o))
+
+  free-past : (n d : ℕ) (ge : Relation) → 0 ≡ shown (level n ge (mayAt f d r))
+  free-past n d ge = level-empty n ge (mayAt f d r) (some-none (mayAt f d r) n .1 (λ l w. no-label d l))
+
+-- a table of levels: the roles' are stored, and the others stay 0
+module _ (f : List ℕ) (counts : GoodCounts (header f)) (between : Between (roles f) (above f)) (d at : ℕ) (ge le : Relation) (g xs ys : List ℕ) where
+  pub levels-are : Agree (labels f) (labels f) ge le
+      → ((l r : ℕ) → Among 32 l → Among 128 r → member g (rowOf 0 l) r ≡ mayAt f d r l)
+      → Bytes at (roles f) (λ r. shown (level (labels f) ge (λ l. member g (rowOf 0 l) r))) xs ys
+      → Zeros at (at + 128) xs
+      → (r : ℕ) → Among 128 r → byteOf ys at r ≡ shown (level (labels f) le (mayAt f d r))
+  levels-are order set put zeros r w = elim (decLt (roles f) r) [
+    | yes l ↦
+        put .rest (at + (r - 1)) (λ m. omega arith)
+        ∙ zeros (at + (r - 1)) (omega arith) (omega arith)
+        ∙ free-past f between r l (labels f) d le
+    | no l ↦
+        put .bytes r (omega arith)
+        ∙ ap shown (level-agree (labels f) ge le (λ l. member g (rowOf 0 l) r) (mayAt f d r) order (λ l v. set l r (omega (arith, counts .labels)) w))
+  ]
+
+-- ---- the whole stage, from x₀: the table of dominance, the lines' permissions, the levels of reading and those of writing
+
+permitting-kept : (f : List ℕ) (a b : ℕ) (xs ys : List ℕ) → b ≤ readersAt → Kept a b xs ys → Permitting f xs → Permitting f ys
+permitting-kept f a b xs ys l kept p = record {
+  readers = λ o r v w. row-kept a b xs ys kept (rowOf readersAt o) r (inr (omega arith)) ∙ p .readers o r v w;
+  writers = λ o r v w. row-kept a b xs ys kept (rowOf writersAt o) r (inr (omega arith)) ∙ p .writers o r v w;
+}
+
+module _ (f : List ℕ) (q : Parts) (h : Line) (t up : List (List Bool)) (x₀ x₁ x₂ x₃ x₄ reading writing : List ℕ) (ready : Ready f q h)
+    (labelled : Labelled f x₀) (seniors : Seniors f x₀) (closed : Closed f t) (no-level : Zeros 1808 2064 x₀) (no-role : Zeros 12304 28688 x₀)
+    (table : (a b : ℕ) → Among 32 a → Among 32 b → getD x₁ (dominanceAt + (32 * (a - 1) + (b - 1))) 0 ≡ cond (mark t a b) 1 0)
+    (kept : Kept 16 1040 x₀ x₁)
+    (grants : Granted (granted x₁ (part f (q .p .start)) (q .p .count)) x₁ x₂)
+    (turns : Agree 32 32 (mark up) (turned (mark t)))
+    (reads : (l r : ℕ) → Among 32 l → Among 128 r → member reading (rowOf 0 l) r ≡ gathered x₂ readersAt (h .d) l r)
+    (read-levels : Bytes rLevelsAt (h .b) (λ r. shown (level (h .a) (turned (mark up)) (λ l. member reading (rowOf 0 l) r))) x₂ x₃)
+    (writes : (l r : ℕ) → Among 32 l → Among 128 r → member writing (rowOf 0 l) r ≡ gathered x₃ writersAt (h .d) l r)
+    (write-levels : Bytes wLevelsAt (h .b) (λ r. shown (level (h .a) (turned (mark t)) (λ l. member writing (rowOf 0 l) r))) x₃ x₄) where
+  good : Good f
+  good = good-of f (ready .lines)
+
+  counts : GoodCounts (header f)
+  counts = counts-of f (ready .lines)
+
+  between : Between (roles f) (above f)
+  between = above-between f good (section-s f q (ready .lines) (ready .laid))
+
+  -- what each store leaves alone
+  kept₃ : Kept 1808 1936 x₂ x₃
+  kept₃ i out = rw (ready .head) at read-levels .rest i (λ m. omega (arith, counts .roles, out m))
+
+  kept₄ : Kept 1936 2064 x₃ x₄
+  kept₄ i out = rw (ready .head) at write-levels .rest i (λ m. omega (arith, counts .roles, out m))
+
+  -- what stands in each state
+  permitting₂ : Permitting f x₂
+  permitting₂ =
+      permitted f x₁ good (counts .roles)
+      (λ r s v w. row-kept 16 1040 x₀ x₁ kept (rowOf seniorsAt r) s (inr (omega arith)) ∙ seniors r s v w)
+      (section-p f q (ready .lines) (ready .laid)) x₂ grants
+      (λ i l m. kept i (λ n. omega arith) ∙ no-role i l m)
+
+  permitting₃ : Permitting f x₃
+  permitting₃ = permitting-kept f 1808 1936 x₂ x₃ (omega arith) kept₃ permitting₂
+
+  labels₂ : CardLabels f x₂
+  labels₂ o v =
+      grants .rest (cardLabelsAt + (o - 1)) (λ m. omega arith)
+      ∙ kept (cardLabelsAt + (o - 1)) (λ m. omega arith)
+      ∙ labelled .cards o v
+
+  labels₃ : CardLabels f x₃
+  labels₃ o v = kept₃ (cardLabelsAt + (o - 1)) (λ m. omega arith) ∙ labels₂ o v
+
+  zeros₂ : Zeros 1808 2064 x₂
+  zeros₂ i l m = grants .rest i (λ n. omega arith) ∙ kept i (λ n. omega arith) ∙ no-level i l m
+
+  -- the orders of the two bounds
+  dominance : Agree (labels f) (labels f) (mark t) (dominates f)
+  dominance a b v w = closed a b (omega (arith, counts .labels)) (omega (arith, counts .labels)) ∙ rw (le-leb a (labels f) (v .1))
+
+  upward : Agree (labels f) (labels f) (turned (mark up)) (dominates f)
+  upward a b v w = turns b a (omega (arith, counts .labels)) (omega (arith, counts .labels)) ∙ dominance a b v w
+
+  read₃ : (r : ℕ) → Among 128 r → byteOf x₃ rLevelsAt r ≡ shown (rLevel f r)
+  unfolding rLevel
+  read₃ =
+      levels-are f counts between 1 rLevelsAt (turned (mark up)) (dominates f) reading x₂ x₃ upward
+      (λ l r v w. rw (ready .head) at reads l r v w ∙ may-at-is f x₂ (counts .cards) labels₂ 1 readersAt (permitting₂ .readers) l r w)
+      (rw (ready .head) at read-levels)
+      (λ i l m. zeros₂ i (omega arith) (omega arith))
+
+  written₄ : (r : ℕ) → Among 128 r → byteOf x₄ wLevelsAt r ≡ shown (wLevel f r)
+  unfolding wLevel
+  written₄ =
+      levels-are f counts between 2 wLevelsAt (turned (mark t)) (turned (dominates f)) writing x₃ x₄ (λ a b v w. dominance b a w v)
+      (λ l r v w. rw (ready .head) at writes l r v w ∙ may-at-is f x₃ (counts .cards) labels₃ 2 writersAt (permitting₃ .writers) l r w)
+      (rw (ready .head) at write-levels)
+      (λ i l m. kept₃ i (λ n. omega arith) ∙ zeros₂ i (omega arith) (omega arith))
+
+  kept-since₁ : (i : ℕ) → (1808 ≤ i → 2064 ≤ i) → (12304 ≤ i → 28688 ≤ i) → getD x₄ i 0 ≡ getD x₁ i 0
+  kept-since₁ i l m = kept₄ i (λ n. omega (arith, l (omega arith))) ∙ kept₃ i (λ n. omega (arith, l n)) ∙ grants .rest i m
+
+  pub granting : Granting f x₀ x₄
+  granting = record {
+    dominating = λ a b v w.
+        kept-since₁ (dominanceAt + (32 * (a - 1) + (b - 1))) (λ m. omega arith) (λ m. omega arith)
+        ∙ table a b v w
+        ∙ ap (λ m. cond m 1 0) (closed a b v w);
+    permitting = permitting-kept f 1936 2064 x₃ x₄ (omega arith) kept₄ permitting₃;
+    levelled = record { reads = λ r w. kept₄ (rLevelsAt + (r - 1)) (λ m. omega arith) ∙ read₃ r w; writes = written₄ };
+    rest = λ i out l m. kept-since₁ i l m ∙ kept i out;
+  }

@@ -1,0 +1,89 @@
+-- What each call leaves, in order: the table of dominance, the permissions, and the levels of reading and of writing.
+use native.Mathlib.Omega.{arith}
+use borrow.Author.Needs.{needs}
+use denote.Ref.{now}
+use Rattle.policy.proofs.Readying.{head-counts}
+use Rattle.policy.proofs.Granting.{granting}
+use Rattle.policy.proofs.build.grant_all.Statement.{statement}
+use Rattle.policy.proofs.build.grant_all.Tie as tie
+
+grant-lines-requires : tie.Need-grant-lines-requires
+grant-lines-requires c κs =
+    let part = c .before .before .before .before .before in
+    let start = part .before .before .before .before in
+    (search needs, rw (part .part .ensures) (start .pre .0 .laid .p .fits))
+
+gather-requires : tie.Need-gather-requires
+gather-requires c κs =
+    let start = c .before .before .before .before .before .before .before .before .before .before .before .before .before .before in
+    (search needs, search needs, head-counts _ _ _ (start .pre .0) .cards)
+
+put-levels-requires : tie.Need-put-levels-requires
+put-levels-requires c κs =
+    let start = c .before .before .before .before .before .before .before .before .before .before .before .before .before .before .before .before in
+    let counts = head-counts _ _ _ (start .pre .0) in
+    (omega arith, counts .labels .1, counts .roles)
+
+gather-requires-2 : tie.Need-gather-requires-2
+gather-requires-2 c κs =
+    let levels = c .before .before .before in
+    let grants = levels .before .before .before .before .before .before .before in
+    let table = grants .before .before .before .before in
+    let start = table .before .before .before .before .before .before in
+    let length₃ = levels .put-levels .last .1 in
+    let length₂ = grants .grant-lines .last .1 in
+    let length₁ = table .put-table .last .1 in
+    let long = start .pre .1 in
+    (omega arith, omega arith, head-counts _ _ _ (start .pre .0) .cards)
+
+put-levels-requires-2 : tie.Need-put-levels-requires-2
+put-levels-requires-2 c κs =
+    let levels = c .before .before .before .before .before in
+    let grants = levels .before .before .before .before .before .before .before in
+    let table = grants .before .before .before .before in
+    let start = table .before .before .before .before .before .before in
+    let length₃ = levels .put-levels .last .1 in
+    let length₂ = grants .grant-lines .last .1 in
+    let length₁ = table .put-table .last .1 in
+    let long = start .pre .1 in
+    let counts = head-counts _ _ _ (start .pre .0) in
+    (omega arith, counts .labels .1, counts .roles)
+
+returns : tie.Need-returns
+returns c =
+    let write-levels = c .before .before in
+    let writes = write-levels .before .before in
+    let read-levels = writes .before .before .before .before in
+    let reads = read-levels .before .before in
+    let turns = reads .before .before in
+    let grants = turns .before .before .before in
+    let table = grants .before .before .before .before in
+    let part = table .before .before in
+    let start = part .before .before .before .before in
+    let a = start .args in
+    let (ready, long, labelled, seniors, closed, no-level, no-role) = start .pre in
+    granting (now (a .f)) (a .q) (a .h) (a .t) (turns .turned .result) (now (a .s)) (table .put-table .last .0) (grants .grant-lines .last .0)
+    (read-levels .put-levels .last .0) (write-levels .put-levels2 .last .0) (reads .gather .result) (writes .gather2 .result)
+    ready labelled seniors closed no-level no-role
+    (table .put-table .ensures .0) (table .put-table .ensures .1)
+    (rw (part .part .ensures) at (grants .grant-lines .ensures))
+    (turns .turned .ensures)
+    (reads .gather .ensures)
+    (read-levels .put-levels .ensures)
+    (writes .gather2 .ensures)
+    (write-levels .put-levels2 .ensures)
+
+pub grant-all-spec : {M : Type 1} → statement M
+grant-all-spec =
+    tie.close
+    (tie.spec
+    (λ c κs. search needs)
+    (λ c κs. search needs)
+    grant-lines-requires
+    (λ c κs. search needs)
+    gather-requires
+    put-levels-requires
+    gather-requires-2
+    put-levels-requires-2
+    (λ c. search needs)
+    returns)

@@ -1,0 +1,41 @@
+-- The tables' verdict on each line of the A section is the file's, and no other line is an assignment.
+use mathlib.Core.Path.{_∙_}
+use native.Mathlib.Omega.{arith}
+use borrow.Author.Needs.{needs}
+use denote.Ref.{now}
+use Rattle.policy.specs.Tables.{assignByTables}
+use Rattle.policy.proofs.Readying.{good-of, counts-of, section-d, section-a}
+use Rattle.policy.proofs.Inside.{over-between}
+use Rattle.policy.proofs.Assigning.{tables-verdict, numbers-within, scan-assignments}
+use Rattle.policy.proofs.build.judge_assignments.Statement.{statement}
+use Rattle.policy.proofs.build.judge_assignments.Tie as tie
+
+assign-lines-requires : tie.Need-assign-lines-requires
+assign-lines-requires c κs =
+    let start = c .before .before .before .before in
+    let f = now (start .args .f) in
+    let q = start .args .q in
+    let ready = start .pre .0 in
+    let l = ready .lines in
+    rw (c .part .ensures) (
+      omega arith,
+      ready .laid .a .fits,
+      numbers-within f (good-of f l) (counts-of f l) (section-a f q l (ready .laid)),
+    )
+
+returns : tie.Need-returns
+returns c =
+    let start = c .before .before .before .before .before in
+    let f = now (start .args .f) in
+    let ys = now (start .args .s) in
+    let q = start .args .q in
+    let (ready, long, labelled, dominating, levelled) = start .pre in
+    let l = ready .lines in
+    let good = good-of f l in
+    let counts = counts-of f l in
+    rw (c .before .part .ensures) at (c .assign-lines .ensures)
+    ∙ scan-assignments f good counts (section-a f q l (ready .laid)) (assignByTables ys)
+    (tables-verdict f ys counts (over-between f good (section-d f q l (ready .laid))) dominating labelled levelled)
+
+pub judge-assignments-spec : {M : Type 1} → statement M
+judge-assignments-spec = tie.close (tie.spec (λ c κs. search needs) assign-lines-requires returns)

@@ -1,0 +1,50 @@
+-- The circle is looked for first, and then the pair.
+use borrow.Author.Needs.{needs}
+use borrow.Author.Tests.{ne-eqb}
+use Rattle.policy.specs.Stages.{orderVerdict}
+use Rattle.policy.proofs.Dominance.{apart-verdict}
+use Rattle.policy.proofs.build.judge_labels.Statement.{statement}
+use Rattle.policy.proofs.build.judge_labels.Tie as tie
+
+returns : tie.Need-returns
+unfolding orderVerdict
+returns c =
+    let a = c .before .before .lowest-loop in
+    rw (← (a .ensures), ne-eqb (a .result) 0 (c .before .if1 .taken)) (c .refused .ensures)
+
+returns-2 : tie.Need-returns-2
+unfolding orderVerdict
+returns-2 c =
+    let d = c .before .before .before in
+    let pair = d .first-pair in
+    rw (
+      ← (d .before .before .lowest-loop .ensures),
+      d .before .if1 .left,
+      apart-verdict _ _ (pair .result .lower) (pair .result .higher) (pair .ensures),
+      ne-eqb (pair .result .lower) 0 (c .before .if2 .taken),
+    ) (c .refused2 .ensures)
+
+returns-3 : tie.Need-returns-3
+unfolding orderVerdict
+returns-3 c =
+    let d = c .before .before .before in
+    let pair = d .first-pair in
+    rw (
+      ← (d .before .before .lowest-loop .ensures),
+      d .before .if1 .left,
+      apart-verdict _ _ (pair .result .lower) (pair .result .higher) (pair .ensures),
+      c .before .if2 .left,
+    ) (c .nothing .ensures)
+
+pub judge-labels-spec : {M : Type 1} → statement M
+judge-labels-spec =
+    tie.close
+    (tie.spec
+    (λ c κs. search needs)
+    (λ c κs. search needs)
+    returns
+    (λ c κs. search needs)
+    (λ c κs. search needs)
+    returns-2
+    (λ c κs. search needs)
+    returns-3)
