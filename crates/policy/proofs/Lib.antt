@@ -14,4 +14,6 @@ pub mod Inside
 pub mod Granting
 pub mod Labelling
 pub mod Dominance
+pub mod Flowing
 pub mod Builds
+pub mod Loads

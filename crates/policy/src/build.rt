@@ -220,7 +220,7 @@ pub fn build(f: &[u8], s: &mut [u8]) -> Verdict
 }
 
 // Copies a whole state into the first bytes of another.
-fn copy_state(to: &mut [u8], from: &[u8; 65536])
+pub fn copy_state(to: &mut [u8], from: &[u8; 65536])
     requires { ⌜ 65536 ≤ length (now to) ⌝ }
     ensures { λ _. ⌜ Copied 65536 (now (from .entry)) (now (to .entry)) (now (to .exit)) ⌝ }
 {

@@ -1,14 +1,38 @@
 // What a role file's policy comes to: levels, the numbers 11 to 16, and role flow.
+//
+// `load` checks a file and keeps its policy in a lent state; `flow` answers reports of a loaded one.
 mod assign;
 mod build;
+pub mod flow;
 mod gather;
 mod labels;
 mod marks;
 mod rows;
+
+use rolefile::Verdict;
+use rolefile::check;
+ghost use Rattle.policy.specs.Image.{Loaded};
 
 // The level of a role for reading or for writing.
 pub enum Level {
     Free,
     Label(u64),
     Undefined,
+}
+
+// Checks a role file and, where there is nothing to refuse, replaces the state by its policy. On a
+// refusal the state is as it was.
+pub fn load(f: &[u8], state: &mut [u8]) -> Verdict
+    ensures { λ v. ⌜ Loaded (now (f .entry)) v (now (state .entry)) (now (state .exit)) ⌝ }
+{
+    if state.len() < 65536 {
+        return check::refused(7, 0, 0);
+    }
+    let mut scratch = [0u8; 65536];
+    let v = build::build(f, &mut scratch);
+    if v.number != 0 {
+        return v;
+    }
+    build::copy_state(state, &scratch);
+    v
 }

@@ -1,0 +1,116 @@
+-- What is answered of a state and of a slice too short for one; and role flow, card by card, and as a table of role sets. Assumes nothing.
+use Prim.Native.Nat.{ℕ, _+_, _*_, _≤_, _<_}
+use mathlib.Core.Path.{_≡_, sym, _∙_}
+use mathlib.Core.Bool.{Bool, true, false, not, _&&_, _||_, cond, and-true, and-false}
+use mathlib.Core.List.{List}
+use native.Mathlib.Omega.{arith}
+use native.Mathlib.Nat.{zero-add}
+use native.Mathlib.Decide.{ℕ-discrete}
+use lib.Dec.{leb, eqb}
+use lib.ListN.{length}
+use borrow.Author.Tests.{le-leb, lt-leb, eq-eqb, ne-eqb}
+use Rattle.search.specs.Search.{Among, some}
+use Rattle.search.proofs.Found.{first-agree}
+use Rattle.roleset.specs.Row.{whole, member, removed, Placed}
+use Rattle.roleset.proofs.Rows.{whole-true}
+use Rattle.order.specs.Closure.{Relation, path, loop, circle}
+use Rattle.order.specs.Table.{related, Tabled}
+use Rattle.order.proofs.Closure.{circle-agree}
+use Rattle.order.proofs.Seats.{seats-more, seat-left}
+use Rattle.order.proofs.Stored.{place}
+use Rattle.policy.specs.Tables.{rowOf, readersAt, writersAt, stateSize, isState, flowing}
+
+-- ---- what is answered where a test holds, and where it fails
+
+module _ {b : Bool} where
+  pub refused : (found : ℕ) → b ≡ false → 0 ≡ cond b found 0
+  refused found e = rw e
+
+  pub answered : {r found : ℕ} → b ≡ true → r ≡ found → r ≡ cond b found 0
+  answered e q = rw e q
+
+module _ (xs : List ℕ) where
+  pub no-state : length xs < stateSize → isState xs ≡ false
+  no-state l = lt-leb stateSize (length xs) l
+
+  pub a-state : stateSize ≤ length xs → isState xs ≡ true
+  a-state l = le-leb stateSize (length xs) l
+
+  -- what a function that answers so tells of a state
+  pub of-state : {r found : ℕ} → stateSize ≤ length xs → r ≡ cond (isState xs) found 0 → r ≡ found
+  of-state l e = e ∙ rw (a-state l)
+
+-- ---- card by card
+
+-- the row of thing o + 1 of the table at `at`, as it is tested
+pub row-tested : (xs : List ℕ) (at o r : ℕ) (b : Bool) → at + 16 * o + 16 ≤ length xs
+    → b ≡ (whole xs (at + 16 * o) && member xs (at + 16 * o) r) → b ≡ member xs (rowOf at (o + 1)) r
+row-tested xs at o r b l e = rw (place o) (e ∙ rw (whole-true xs (at + 16 * o) l))
+
+-- r may write card o, and q may read it
+abbrev pub passing : List ℕ → ℕ → ℕ → ℕ → Bool
+passing xs r q o = member xs (rowOf writersAt o) r && member xs (rowOf readersAt o) q
+
+module _ (xs : List ℕ) (n r q : ℕ) where
+  pub flow-self : r ≡ q → flowing xs n r q ≡ false
+  unfolding flowing
+  flow-self e = rw (eq-eqb r q e)
+
+  pub flow-other : (r ≡ q → ⊥) → flowing xs n r q ≡ some n (passing xs r q)
+  unfolding flowing
+  flow-other ne = rw (ne-eqb r q ne)
+
+-- ---- as a table of role sets at the start of a list: row r has the roles that r flows to
+
+-- what card o adds
+abbrev pub pastCard : List ℕ → List ℕ → ℕ → Relation
+pastCard t xs o r q = related t 0 r q || passing xs r q o
+
+-- without what relates a role to itself
+abbrev pub apart : List ℕ → Relation
+apart t r q = related t 0 r q && not (eqb q r)
+
+-- rows 1 to i have had their turn: row i + 1 is as it was, and has its turn
+module _ (h : Relation) (t u : List ℕ) (i : ℕ) (long : 2048 ≤ length t) (same : length u ≡ length t) (l : i < 128) (done : Tabled 0 i h t u) where
+  row-left : (q : ℕ) → Among 128 q → member u (16 * i) q ≡ related t 0 (i + 1) q
+  row-left q w = rw (place i, zero-add (16 * i)) (rw (zero-add (16 * i)) at (seat-left 0 h t (omega arith) i q u l w done))
+
+  pub row-more : (v : List ℕ) (s : ℕ → Bool) → Placed (16 * i) s u v → ((q : ℕ) → Among 128 q → s q ≡ h (i + 1) q) → Tabled 0 (i + 1) h t v
+  row-more v s p new = seats-more 0 h t (omega arith) i s u v l same done (rw (zero-add (16 * i)) p) new
+
+-- what a turn makes of a row: the readers of card o + 1 are put into it where its role may write that card, or its role is taken out
+module _ (t u xs : List ℕ) (o i q : ℕ) (long : 2048 ≤ length t) (same : length u ≡ length t) (l : i < 128) (w : Among 128 q)
+    (fits : 28688 ≤ length xs) (card : o < 512) where
+  pub past-row : (readers : List ℕ) (writes : Bool) → Tabled 0 i (pastCard t xs (o + 1)) t u
+      → writes ≡ (whole xs (writersAt + 16 * o) && member xs (writersAt + 16 * o) (i + 1))
+      → ((r : ℕ) → member readers 0 r ≡ (whole xs (readersAt + 16 * o) && member xs (readersAt + 16 * o) r))
+      → (member u (16 * i) q || (writes && member readers 0 q)) ≡ pastCard t xs (o + 1) (i + 1) q
+  past-row readers writes done may read =
+      rw (
+        row-left (pastCard t xs (o + 1)) t u i long same l done q w,
+        row-tested xs writersAt o (i + 1) writes (omega arith) may,
+        row-tested xs readersAt o q (member readers 0 q) (omega arith) (read q),
+      )
+
+pub apart-row : (t u : List ℕ) (i q : ℕ) → 2048 ≤ length t → length u ≡ length t → i < 128 → Among 128 q → Tabled 0 i (apart t) t u
+    → removed u (16 * i) (i + 1) q ≡ apart t (i + 1) q
+apart-row t u i q long same l w done = rw (row-left (apart t) t u i long same l done q w)
+
+-- a table that says which role may write one of the first m cards that which role may read
+module _ (xs t : List ℕ) (m : ℕ) (said : (r q : ℕ) → Among 128 r → Among 128 q → related t 0 r q ≡ some m (passing xs r q)) where
+  apart-flows : (r q : ℕ) → Among 128 r → Among 128 q → apart t r q ≡ flowing xs m r q
+  apart-flows r q v w = elim (ℕ-discrete r q) [
+    | yes e ↦ rw (eq-eqb q r (sym e)) (and-false (related t 0 r q) ∙ sym (flow-self xs m r q e))
+    | no e ↦ rw (ne-eqb q r (λ i. e (sym i))) (and-true (related t 0 r q) ∙ said r q v w ∙ sym (flow-other xs m r q e))
+  ]
+
+  -- its circles, once no role is related to itself, as the lowest on one is answered for n roles
+  pub flow-circles : (u v : List ℕ) (n r : ℕ) → 2048 ≤ length t → length u ≡ length t → length v ≡ length u → n ≤ 128
+      → Tabled 0 128 (apart t) t u → Tabled 0 n (path n (related u 0)) u v
+      → r ≡ cond (leb (0 + 2048) (length v)) (loop n (related v 0)) 0 → r ≡ circle n (flowing xs m)
+  flow-circles u v n r long same kept l once closed e =
+      e
+      ∙ rw (le-leb (0 + 2048) (length v) (omega arith)) (first-agree (λ a. related v 0 a a) (λ a. path n (related u 0) a a) n
+      (λ a w. closed .rows (omega arith) .done a a w (omega arith)))
+      ∙ circle-agree n 128 (related u 0) (flowing xs m) l
+      (λ a b v w. once .rows (omega arith) .done a b (omega arith) w ∙ apart-flows a b (omega arith) w)

@@ -1,0 +1,54 @@
+-- Each turn relates by one card more.
+use Prim.Native.Nat.{ℕ, _+_, _*_, _≤_, _-_}
+use mathlib.Core.Path.{_≡_, sym, _∙_}
+use native.Mathlib.Omega.{arith}
+use borrow.Author.Needs.{needs}
+use denote.Ref.{now}
+use lib.ListN.{length, length-replicate}
+use Rattle.search.specs.Search.{some, Among}
+use Rattle.search.proofs.Found.{some-more, some-yet}
+use Rattle.order.specs.Table.{related}
+use Rattle.policy.proofs.Gathering.{zero-rows}
+use Rattle.policy.proofs.Flowing.{passing}
+use Rattle.policy.proofs.flow.flow_table.Statement.{statement}
+use Rattle.policy.proofs.flow.flow_table.Tie as tie
+
+abbrev Inv-loop : tie.InvT-loop
+Inv-loop s n t₀ o₀ t o =
+    (o ≤ n) × (length t ≡ 2048) × ((r q : ℕ) → Among 128 r → Among 128 q → related t 0 r q ≡ some o (passing s r q))
+
+abbrev μ-loop : tie.MeasureT-loop
+μ-loop s n t₀ o₀ t o = n - o
+
+loop-holds : tie.Need-loop-holds Inv-loop μ-loop
+loop-holds c = (search needs, length-replicate {A = ℕ} 2048 0, λ r q u v. zero-rows 2048 (0 + 16 * (r - 1)) q (omega arith) ∙ sym (some-yet _))
+
+loop-again : tie.Need-loop-again Inv-loop μ-loop
+loop-again c =
+    let w = c .before .before .before .before .loop in
+    let xs = now (c .before .before .before .before .before .before .args .s) in (
+      search needs,
+      search needs,
+      λ r q u v. c .before .flow-past .ensures .rows (search needs) .done r q u v
+          ∙ rw (w .inv .2 r q u v) (sym (some-more (passing xs r q) (w .o))),
+    )
+
+returns : tie.Need-returns Inv-loop μ-loop
+returns c =
+    let w = c .before .loop in
+    let all : w .o ≡ c .before .before .before .args .n = omega arith in
+    rw all at (w .inv .2)
+
+pub flow-table-spec : {M : Type 1} → statement M
+flow-table-spec =
+    tie.close
+    (tie.spec
+    Inv-loop
+    μ-loop
+    loop-holds
+    (λ c. search needs)
+    (λ c κs. search needs)
+    (λ c. search needs)
+    (λ c. search needs)
+    loop-again
+    returns)

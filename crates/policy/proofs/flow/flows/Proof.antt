@@ -1,0 +1,81 @@
+-- A search among the first cards, for two roles that differ.
+use Prim.Native.Nat.{ℕ, _≤_, _-_}
+use mathlib.Core.Path.{_≡_, sym, _∙_}
+use mathlib.Core.Bool.{Bool, false, _&&_}
+use mathlib.Core.List.{List}
+use lib.ListN.{length}
+use native.Mathlib.Omega.{arith}
+use borrow.Author.Needs.{needs}
+use denote.Ref.{now}
+use Rattle.search.specs.Search.{some}
+use Rattle.search.proofs.Found.{some-found, some-more, some-yet}
+use Rattle.policy.specs.Tables.{cardsIn, isState, stateSize, flowing}
+use Rattle.policy.proofs.Flowing.{no-state, a-state, of-state, passing, flow-self, flow-other}
+use Rattle.policy.proofs.flow.flows.Statement.{statement}
+use Rattle.policy.proofs.flow.flows.Tie as tie
+
+abbrev Inv-loop : tie.InvT-loop
+Inv-loop s from to n o₀ o = (n ≡ cardsIn s) × (o ≤ n) × (some o (passing s from to) ≡ false)
+
+abbrev μ-loop : tie.MeasureT-loop
+μ-loop s from to n o₀ o = n - o
+
+-- what is found in a state
+module _ (xs : List ℕ) (from to : ℕ) (whole : stateSize ≤ length xs) (b : Bool) where
+  found : (from ≡ to → ⊥) → b ≡ some (cardsIn xs) (passing xs from to) → b ≡ (isState xs && flowing xs (cardsIn xs) from to)
+  found ne e = rw (a-state xs whole, flow-other xs (cardsIn xs) from to ne) e
+
+returns : tie.Need-returns Inv-loop μ-loop
+returns c = rw (no-state (now (c .before .before .args .s)) (search needs))
+
+returns-2 : tie.Need-returns-2 Inv-loop μ-loop
+returns-2 c =
+    let a = c .before .before .before .args in
+    rw (a-state (now (a .s)) (search needs), flow-self (now (a .s)) (cardsIn (now (a .s))) (a .from) (a .to) (c .if2 .taken))
+
+loop-holds : tie.Need-loop-holds Inv-loop μ-loop
+loop-holds c =
+    let a = c .before .before .before .before .args in
+    (of-state (now (a .s)) (search needs) (c .cards .ensures), search needs, some-yet _)
+
+returns-3 : tie.Need-returns-3 Inv-loop μ-loop
+returns-3 c =
+    let turn = c .before .before .before in
+    let a = turn .before .before .before .before .before .args in
+    let w = turn .loop in
+    found (now (a .s)) (a .from) (a .to) (search needs) _ (turn .before .before .if2 .left)
+    (some-found (passing (now (a .s)) (a .from) (a .to)) (cardsIn (now (a .s))) (w .o) (omega arith) (rw (c .before .passes .ensures) at (c .if3 .taken)))
+
+loop-again : tie.Need-loop-again Inv-loop μ-loop
+loop-again c =
+    let turn = c .before .before .before in
+    let a = turn .before .before .before .before .before .args in
+    let w = turn .loop in (
+      w .inv .0,
+      search needs,
+      some-more (passing (now (a .s)) (a .from) (a .to)) (w .o) ∙ rw (w .inv .2) (rw (c .before .passes .ensures) at (c .if3 .left)),
+    )
+
+returns-4 : tie.Need-returns-4 Inv-loop μ-loop
+returns-4 c =
+    let a = c .before .before .before .before .before .before .args in
+    let w = c .before .loop in
+    let all : w .o ≡ cardsIn (now (a .s)) = omega arith in
+    found (now (a .s)) (a .from) (a .to) (search needs) _ (c .before .before .before .if2 .left) (sym (rw all at (w .inv .2)))
+
+pub flows-spec : {M : Type 1} → statement M
+flows-spec =
+    tie.close
+    (tie.spec
+    Inv-loop
+    μ-loop
+    returns
+    returns-2
+    (λ c κs. search needs)
+    loop-holds
+    (λ c κs. search needs)
+    returns-3
+    (λ c. search needs)
+    (λ c. search needs)
+    loop-again
+    returns-4)

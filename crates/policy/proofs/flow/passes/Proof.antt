@@ -1,0 +1,27 @@
+-- Both rows lie in the state.
+use borrow.Author.Needs.{needs}
+use denote.Ref.{now}
+use Rattle.policy.specs.Tables.{readersAt, writersAt}
+use Rattle.policy.proofs.Flowing.{row-tested}
+use Rattle.policy.proofs.flow.passes.Statement.{statement}
+use Rattle.policy.proofs.flow.passes.Tie as tie
+
+returns : tie.Need-returns
+returns c =
+    let a = c .before .before .before .args in
+    rw (
+      row-tested (now (a .s)) writersAt (a .o) (a .from) _ (search needs) (c .before .has .ensures),
+      row-tested (now (a .s)) readersAt (a .o) (a .to) _ (search needs) (c .has2 .ensures),
+    )
+
+pub passes-spec : {M : Type 1} → statement M
+passes-spec =
+    tie.close
+    (tie.spec
+    (λ c. search needs)
+    (λ c. search needs)
+    (λ c κs. search needs)
+    (λ c. search needs)
+    (λ c. search needs)
+    (λ c κs. search needs)
+    returns)

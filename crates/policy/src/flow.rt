@@ -1,0 +1,164 @@
+// Role flow, and what a state holds of its roles, for reports.
+//
+// Every public function takes any slice. One that is too short to be a state has no roles.
+ghost use mathlib.Core.Path.{_≡_};
+ghost use mathlib.Core.Bool.{not, _&&_, _||_, cond};
+ghost use Prim.Native.Nat.{ℕ, _+_, _*_, _≤_, _<_};
+ghost use lib.Dec.{eqb};
+ghost use lib.ListN.{length};
+ghost use Rattle.search.specs.Search.{among, some, Among};
+ghost use Rattle.roleset.specs.Row.{member, Placed};
+ghost use Rattle.order.specs.Closure.{circle};
+ghost use Rattle.order.specs.Table.{related, Tabled};
+ghost use Rattle.policy.specs.Tables.{word, byteOf, rowOf, rLevelsAt, wLevelsAt, readersAt, writersAt, flowing, rolesIn, cardsIn, isState};
+
+// The number in two bytes, the lower first.
+fn word(s: &[u8], at: usize) -> usize
+    requires { ⌜ at + 2 ≤ length (now s) ⌝ }
+    ensures { λ r. ⌜ r ≡ word (now (s .entry)) at ⌝ }
+{
+    s[at] as usize + 256 * s[at + 1] as usize
+}
+
+// How many roles the state holds.
+pub fn roles(s: &[u8]) -> usize
+    ensures { λ r. ⌜ r ≡ cond (isState (now (s .entry))) (rolesIn (now (s .entry))) 0 ⌝ }
+{
+    if s.len() < 65536 {
+        return 0;
+    }
+    order::marks::lesser(word(s, 2), 128)
+}
+
+// How many cards the state holds.
+pub fn cards(s: &[u8]) -> usize
+    ensures { λ r. ⌜ r ≡ cond (isState (now (s .entry))) (cardsIn (now (s .entry))) 0 ⌝ }
+{
+    if s.len() < 65536 {
+        return 0;
+    }
+    order::marks::lesser(word(s, 6), 512)
+}
+
+// The role's byte of the table of levels at `at`.
+fn level(s: &[u8], at: usize, role: usize) -> u8
+    requires { ⌜ at + 128 ≤ 65536 ⌝ }
+    ensures { λ r. ⌜ r ≡ cond (isState (now (s .entry)) && among 128 role) (byteOf (now (s .entry)) at role) 0 ⌝ }
+{
+    if s.len() < 65536 {
+        return 0;
+    }
+    if role < 1 {
+        return 0;
+    }
+    if 128 < role {
+        return 0;
+    }
+    s[at + (role - 1)]
+}
+
+// The r-level of a role: its label, 0 for free, 99 for undefined; 0 for a number that is no role's.
+pub fn r_level(s: &[u8], role: usize) -> u8
+    ensures { λ r. ⌜ r ≡ cond (isState (now (s .entry)) && among 128 role) (byteOf (now (s .entry)) rLevelsAt role) 0 ⌝ }
+{
+    level(s, 1808, role)
+}
+
+// The w-level of a role, in the same way.
+pub fn w_level(s: &[u8], role: usize) -> u8
+    ensures { λ r. ⌜ r ≡ cond (isState (now (s .entry)) && among 128 role) (byteOf (now (s .entry)) wLevelsAt role) 0 ⌝ }
+{
+    level(s, 1936, role)
+}
+
+// Whether role `from` may write card o + 1 and role `to` may read it.
+fn passes(s: &[u8], o: usize, from: usize, to: usize) -> bool
+    requires { ⌜ (28688 ≤ length (now s)) × (o < 512) ⌝ }
+    ensures { λ r. ⌜ r ≡ (member (now (s .entry)) (rowOf writersAt (o + 1)) from && member (now (s .entry)) (rowOf readersAt (o + 1)) to) ⌝ }
+{
+    roleset::has(s, 20496 + 16 * o, from) & roleset::has(s, 12304 + 16 * o, to)
+}
+
+// Whether role `from` flows to role `to`.
+pub fn flows(s: &[u8], from: usize, to: usize) -> bool
+    ensures { λ r. ⌜ r ≡ (isState (now (s .entry)) && flowing (now (s .entry)) (cardsIn (now (s .entry))) from to) ⌝ }
+{
+    if s.len() < 65536 {
+        return false;
+    }
+    if from == to {
+        return false;
+    }
+    let n = cards(s);
+    let mut o = 0;
+    while o < n {
+        if passes(s, o, from, to) {
+            return true;
+        }
+        o += 1;
+    }
+    false
+}
+
+// Puts the readers of a card into the row at `at`, where its role may write the card.
+fn flow_from(t: &mut [u8], at: usize, writes: bool, readers: [u8; 16])
+    ensures { λ _. ⌜ Placed at (λ q. member (now (t .entry)) at q || (writes && member readers 0 q)) (now (t .entry)) (now (t .exit)) ⌝ }
+{
+    if writes {
+        roleset::unite(t, at, readers);
+    }
+}
+
+// Relates each role that may write card o + 1 to each role that may read it.
+fn flow_past(t: &mut [u8], s: &[u8], o: usize)
+    requires { ⌜ (2048 ≤ length (now t)) × (28688 ≤ length (now s)) × (o < 512) ⌝ }
+    ensures { λ _. ⌜ Tabled 0 128 (λ r q. related (now (t .entry)) 0 r q || (member (now (s .entry)) (rowOf writersAt (o + 1)) r && member (now (s .entry)) (rowOf readersAt (o + 1)) q)) (now (t .entry)) (now (t .exit)) ⌝ }
+{
+    let readers = roleset::row(s, 12304 + 16 * o);
+    let mut i = 0;
+    while i < 128 {
+        let writes = roleset::has(s, 20496 + 16 * o, i + 1);
+        flow_from(t, 16 * i, writes, readers);
+        i += 1;
+    }
+}
+
+// Relates each role that may write one of the first n cards to each role that may read that card.
+fn flow_table(s: &[u8], n: usize) -> [u8; 2048]
+    requires { ⌜ (28688 ≤ length (now s)) × (n ≤ 512) ⌝ }
+    ensures { λ t. ⌜ ((r q : ℕ) → Among 128 r → Among 128 q → related t 0 r q ≡ some n (λ o. member (now (s .entry)) (rowOf writersAt o) r && member (now (s .entry)) (rowOf readersAt o) q)) ⌝ }
+{
+    let mut t = [0u8; 2048];
+    let mut o = 0;
+    while o < n {
+        flow_past(&mut t, s, o);
+        o += 1;
+    }
+    t
+}
+
+// Takes each role out of its own row.
+fn part_from_self(t: &mut [u8])
+    requires { ⌜ 2048 ≤ length (now t) ⌝ }
+    ensures { λ _. ⌜ Tabled 0 128 (λ r q. related (now (t .entry)) 0 r q && not (eqb q r)) (now (t .entry)) (now (t .exit)) ⌝ }
+{
+    let mut i = 0;
+    while i < 128 {
+        roleset::remove(t, 16 * i, i + 1);
+        i += 1;
+    }
+}
+
+// The lowest role on a circle of flow, or 0.
+pub fn flow_circle(s: &[u8]) -> usize
+    ensures { λ r. ⌜ r ≡ cond (isState (now (s .entry))) (circle (rolesIn (now (s .entry))) (flowing (now (s .entry)) (cardsIn (now (s .entry))))) 0 ⌝ }
+{
+    if s.len() < 65536 {
+        return 0;
+    }
+    let n = roles(s);
+    let mut t = flow_table(s, cards(s));
+    part_from_self(&mut t);
+    order::rows::paths(&mut t, 0, n);
+    order::rows::lowest_loop(&t, 0, n)
+}
