@@ -2,9 +2,15 @@
 // a lent store of cards.
 //
 // No exported function asks anything of its caller: every number is legal and every slice may be empty.
+mod cards;
+mod rules;
+mod sessions;
+mod state;
+
 use rolefile::Verdict;
 ghost use mathlib.Core.Path.{_≡_};
 ghost use Rattle.policy.specs.Image.{Loaded};
+ghost use Rattle.monitor.specs.Calls.{Opens, Closes, Takes, Drops, readNumber, Reads, Writes};
 
 // The answer of a load, as C has it.
 #[repr(C)]
@@ -24,4 +30,80 @@ pub extern "C" fn monitor_load(file: &[u8], state: &mut [u8]) -> Answer
         first: v.first,
         second: v.second,
     }
+}
+
+// Opens a place for a user at a label: 21, 22, 23, 25, 26.
+#[no_mangle]
+pub extern "C" fn monitor_open(state: &mut [u8], place: u64, user: u64, label: u64) -> u64
+    ensures { λ r. ⌜ Opens (now (state .entry)) place user label r (now (state .exit)) ⌝ }
+{
+    sessions::open(state, place, user, label)
+}
+
+// Closes a place: 21, 22, 24.
+#[no_mangle]
+pub extern "C" fn monitor_close(state: &mut [u8], place: u64) -> u64
+    ensures { λ r. ⌜ Closes (now (state .entry)) place r (now (state .exit)) ⌝ }
+{
+    sessions::close(state, place)
+}
+
+// Takes a role at a place: 21, 22, 24, 25, 27, 28.
+#[no_mangle]
+pub extern "C" fn monitor_take(state: &mut [u8], place: u64, role: u64) -> u64
+    ensures { λ r. ⌜ Takes (now (state .entry)) place role r (now (state .exit)) ⌝ }
+{
+    sessions::take(state, place, role)
+}
+
+// Drops a role at a place: 21, 22, 24, 25.
+#[no_mangle]
+pub extern "C" fn monitor_drop(state: &mut [u8], place: u64, role: u64) -> u64
+    ensures { λ r. ⌜ Drops (now (state .entry)) place role r (now (state .exit)) ⌝ }
+{
+    sessions::drop(state, place, role)
+}
+
+// The number of a read: 21, 22, 24, 25, 29, 30, 31.
+#[no_mangle]
+pub extern "C" fn monitor_read_number(
+    state: &[u8],
+    store: &[u8],
+    place: u64,
+    card: u64,
+    offset: u64,
+    length: u64,
+) -> u64
+    ensures { λ r. ⌜ r ≡ readNumber (now (state .entry)) (now (store .entry)) place card offset length ⌝ }
+{
+    cards::read_number(state, store, place, card, offset, length)
+}
+
+// The part of the store that a read hands back: empty, at the store's start, where the number is not 0.
+pub fn read<'a>(
+    state: &[u8],
+    store: &'a [u8],
+    place: u64,
+    card: u64,
+    offset: u64,
+    length: u64,
+) -> &'a [u8]
+    ensures { λ r. ⌜ Reads (now (state .entry)) (store .entry) place card offset length r ⌝ }
+{
+    cards::read(state, store, place, card, offset, length)
+}
+
+// Writes bytes into a card: 21, 22, 24, 25, 29, 30, 31.
+#[no_mangle]
+pub extern "C" fn monitor_write(
+    state: &[u8],
+    store: &mut [u8],
+    place: u64,
+    card: u64,
+    offset: u64,
+    bytes: &[u8],
+) -> u64
+    ensures { λ r. ⌜ Writes (now (state .entry)) (now (store .entry)) place card offset (now (bytes .entry)) r (now (store .exit)) ⌝ }
+{
+    cards::write(state, store, place, card, offset, bytes)
 }

@@ -1,0 +1,176 @@
+-- Each number of a call from the tests that led to it, and what a number 0 tells. Assumes nothing.
+use Prim.Native.Nat.{ℕ, zero, suc, _+_, _*_, _≤_, _<_}
+use mathlib.Core.Path.{_≡_, refl, sym, _∙_}
+use mathlib.Core.List.{List}
+use mathlib.Core.Bool.{Bool, true, false, not, _&&_}
+use native.Mathlib.Omega.{arith}
+use borrow.Author.Tests.{leb-true, le-leb, lt-leb}
+use lib.Dec.{leb}
+use lib.ListN.{length}
+use Rattle.search.specs.Search.{among, Among}
+use Rattle.search.proofs.Truth.{and-iff, among-iff, passed, failed}
+use Rattle.policy.specs.Tables.{isState}
+use Rattle.monitor.specs.Session.{sound, labelsIn, rolesIn, usersIn, cardsIn}
+use Rattle.monitor.specs.Calls.{unless, ifDone, openNumber, closeNumber, takeNumber, dropNumber, partNumber}
+
+-- ---- a row of tests whose answers r are those of calls: a call's `ensures` is r ≡ t
+module _ (t : Bool) (n rest : ℕ) {r : Bool} (e : r ≡ t) where
+  -- the test that refuses
+  pub stops : not r ≡ true → n ≡ unless t n rest
+  unfolding unless
+  stops h = rw (failed e h)
+
+  -- a test before it
+  pub passes : {x : ℕ} → not r ≡ false → x ≡ rest → x ≡ unless t n rest
+  unfolding unless
+  passes h k = rw (passed e h) k
+
+  -- the same of a test that is to fail
+  pub stops-not : r ≡ true → n ≡ unless (not t) n rest
+  unfolding unless
+  stops-not h = rw (← e, h)
+
+  pub passes-not : {x : ℕ} → r ≡ false → x ≡ rest → x ≡ unless (not t) n rest
+  unfolding unless
+  passes-not h k = rw (← e, h) k
+
+pub ruleset row = (stops, passes, stops-not, passes-not)
+
+-- done, each test has passed
+pub unless-done : (t : Bool) (n rest : ℕ) → 0 < n → unless t n rest ≡ 0 → (t ≡ true) × (rest ≡ 0)
+unfolding unless
+unless-done true n rest l h = (refl, h)
+unless-done false n rest l h = absurd (omega arith)
+
+-- ---- what a call leaves, where its number N is r
+module _ {A : Type 0} (N : ℕ) (new old : A) {r : ℕ} (e : r ≡ N) where
+  pub left : {t : A} → r ≡ 0 → t ≡ new → t ≡ ifDone N new old
+  unfolding ifDone
+  left h f = rw (← e, h) f
+
+  pub kept : (r ≡ 0 → ⊥) → old ≡ ifDone N new old
+  unfolding ifDone
+  kept h = rw (← e) (refused r h)
+    where
+      refused : (n : ℕ) → (n ≡ 0 → ⊥) → old ≡ ifDone n new old
+      refused zero h = absurd (h refl)
+      refused (suc n) h = refl
+
+pub ruleset outcome = (left, kept)
+
+-- ---- a sound state
+pub record Sound (xs : List ℕ) : Type 0 where
+  pub long : 65536 ≤ length xs
+  pub labels : Among 32 (labelsIn xs)
+  pub roles : rolesIn xs ≤ 128
+  pub users : usersIn xs ≤ 256
+  pub cards : cardsIn xs ≤ 512
+
+pub sound-of : (xs : List ℕ) → sound xs ≡ true → Sound xs
+unfolding sound
+sound-of xs h =
+    let a = and-iff _ _ .0 h in
+    let b = and-iff _ _ .0 (a .1) in
+    let c = and-iff _ _ .0 (b .1) in
+    let d = and-iff _ _ .0 (c .1) in
+    record {
+      long = leb-true _ _ (a .0);
+      labels = among-iff _ _ .0 (b .0);
+      roles = leb-true _ _ (c .0);
+      users = leb-true _ _ (d .0);
+      cards = leb-true _ _ (d .1);
+    }
+
+-- ---- what a test that passed tells
+pub one-of : (n x : ℕ) {r : Bool} → r ≡ among n x → not r ≡ false → Among n x
+one-of n x e h = among-iff n x .0 (passed e h)
+
+module _ (xs : List ℕ) {r : Bool} (e : r ≡ sound xs) (h : not r ≡ false) where
+  good : Sound xs
+  good = sound-of xs (passed e h)
+
+  pub user-known : (x : ℕ) {q : Bool} → q ≡ among (usersIn xs) x → not q ≡ false → Among 256 x
+  user-known x f k = let w = one-of (usersIn xs) x f k in let g = good in omega arith
+
+  pub role-known : (x : ℕ) {q : Bool} → q ≡ among (rolesIn xs) x → not q ≡ false → Among 128 x
+  role-known x f k = let w = one-of (rolesIn xs) x f k in let g = good in omega arith
+
+  pub card-known : (x : ℕ) {q : Bool} → q ≡ among (cardsIn xs) x → not q ≡ false → Among 512 x
+  card-known x f k = let w = one-of (cardsIn xs) x f k in let g = good in omega arith
+
+-- ---- what a call that is done tells, for the code that then writes
+pub record Room (xs : List ℕ) (p : ℕ) : Type 0 where
+  pub long : 65536 ≤ length xs
+  pub place : Among 64 p
+
+pub open-room : (xs : List ℕ) (p u l : ℕ) → openNumber xs p u l ≡ 0 → Room xs p × Among 256 u × Among 32 l
+unfolding openNumber
+open-room xs p u l h =
+    let a = unless-done _ _ _ (omega arith) h in
+    let b = unless-done _ _ _ (omega arith) (a .1) in
+    let c = unless-done _ _ _ (omega arith) (b .1) in
+    let d = unless-done _ _ _ (omega arith) (c .1) in
+    let e = unless-done _ _ _ (omega arith) (d .1) in
+    let s = sound-of xs (a .0) in
+    let v = among-iff (usersIn xs) u .0 (d .0) in
+    let w = among-iff (labelsIn xs) l .0 (e .0) in
+    (record { long = s .long; place = among-iff 64 p .0 (b .0) }, omega arith, omega arith)
+
+pub close-room : (xs : List ℕ) (p : ℕ) → closeNumber xs p ≡ 0 → Room xs p
+unfolding closeNumber
+close-room xs p h =
+    let a = unless-done _ _ _ (omega arith) h in
+    let b = unless-done _ _ _ (omega arith) (a .1) in
+    record { long = sound-of xs (a .0) .long; place = among-iff 64 p .0 (b .0) }
+
+pub take-room : (xs : List ℕ) (p r : ℕ) → takeNumber xs p r ≡ 0 → Room xs p × Among 128 r
+unfolding takeNumber
+take-room xs p r h =
+    let a = unless-done _ _ _ (omega arith) h in
+    let b = unless-done _ _ _ (omega arith) (a .1) in
+    let c = unless-done _ _ _ (omega arith) (b .1) in
+    let d = unless-done _ _ _ (omega arith) (c .1) in
+    let s = sound-of xs (a .0) in
+    let v = among-iff (rolesIn xs) r .0 (d .0) in
+    (record { long = s .long; place = among-iff 64 p .0 (b .0) }, omega arith)
+
+pub drop-room : (xs : List ℕ) (p r : ℕ) → dropNumber xs p r ≡ 0 → Room xs p × Among 128 r
+unfolding dropNumber
+drop-room xs p r h =
+    let a = unless-done _ _ _ (omega arith) h in
+    let b = unless-done _ _ _ (omega arith) (a .1) in
+    let c = unless-done _ _ _ (omega arith) (b .1) in
+    let d = unless-done _ _ _ (omega arith) (c .1) in
+    let s = sound-of xs (a .0) in
+    let v = among-iff (rolesIn xs) r .0 (d .0) in
+    (record { long = s .long; place = among-iff 64 p .0 (b .0) }, omega arith)
+
+-- the part lies in the store
+pub record Fit (size o k n : ℕ) : Type 0 where
+  pub card : 1 ≤ o
+  pub inCard : k + n ≤ 64
+  pub inStore : 64 * o ≤ size
+
+pub part-fits : (at : ℕ) (xs : List ℕ) (size p o k n : ℕ) → partNumber at xs size p o k n ≡ 0 → Fit size o k n
+unfolding partNumber
+part-fits at xs size p o k n h =
+    let a = unless-done _ _ _ (omega arith) h in
+    let b = unless-done _ _ _ (omega arith) (a .1) in
+    let c = unless-done _ _ _ (omega arith) (b .1) in
+    let d = unless-done _ _ _ (omega arith) (c .1) in
+    let e = unless-done _ _ _ (omega arith) (d .1) in
+    let f = unless-done _ _ _ (omega arith) (e .1) in
+    let g = unless-done _ _ _ (omega arith) (f .1) in
+    let v = among-iff (cardsIn xs) o .0 (d .0) in
+    let w = leb-true (64 * cardsIn xs) size (g .0) in
+    record { card = omega arith; inCard = leb-true (k + n) 64 (f .0); inStore = omega arith }
+
+-- tests that the code makes by comparing
+module _ (a b n rest : ℕ) where
+  pub stops-above : b < a → n ≡ unless (leb a b) n rest
+  unfolding unless
+  stops-above h = rw (lt-leb a b h)
+
+  pub passes-upto : {x : ℕ} → a ≤ b → x ≡ rest → x ≡ unless (leb a b) n rest
+  unfolding unless
+  passes-upto h k = rw (le-leb a b h) k

@@ -1,0 +1,81 @@
+-- A row with one role more, or one less, is the row with one byte changed: `Placed` leaves no other choice. Assumes nothing.
+use Prim.Native.Nat.{ℕ, _+_, _-_, _*_, _/_, _%_, _^_, _≤_, _<_}
+use mathlib.Core.Path.{_≡_, refl, sym, ap, _∙_}
+use mathlib.Core.Bool.{Bool, true, false, not, _&&_, _||_, cond, or-true, or-false, and-true, and-false}
+use mathlib.Core.List.{List}
+use native.Mathlib.Nat.{one-mul}
+use native.Mathlib.Omega.{arith}
+use native.Mathlib.Decide.{ℕ-discrete}
+use borrow.Author.Tests.{eq-eqb, ne-eqb}
+use lib.Bits.{bitOr, bitXor, or-lt, xor-lt}
+use lib.Dec.{eqb}
+use lib.ListN.{length, getD, set, length-set}
+use lib.Pow.{shl-exact}
+use lib.Seq.{getD-set-same, getD-set-other}
+use Rattle.search.specs.Search.{among, Among}
+use Rattle.search.proofs.Truth.{and-iff, among-iff}
+use Rattle.roleset.specs.Row.{bit, member, Placed, added, removed}
+use Rattle.roleset.proofs.Bits.{bit-on, bit-off}
+use Rattle.roleset.proofs.Rows.{one-written, placed-once, unwritten}
+
+-- `1 << k` at a byte
+shifted : (k : ℕ) → k < 8 → 1 * 2 ^ k % 256 ≡ 2 ^ k
+shifted k l = shl-exact {a = 1} 1 k 8 (omega arith) (omega arith) ∙ one-mul (2 ^ k)
+
+shifted-byte : (k : ℕ) → k < 8 → 2 ^ k < 256
+shifted-byte k l = rw (← shifted k l) (omega arith)
+
+module _ (xs ys : List ℕ) (at r : ℕ) (fits : at + 16 ≤ length xs) (w : Among 128 r) (long : length ys ≡ length xs)
+    (xs-bytes : (i : ℕ) → getD xs i 0 < 256) (ys-bytes : (i : ℕ) → getD ys i 0 < 256) where
+  abbrev i : ℕ
+  i = at + (r - 1) / 8
+
+  abbrev k : ℕ
+  k = (r - 1) % 8
+
+  small : k < 8
+  small = omega arith
+
+  -- a byte more is written
+  bytes : (b : ℕ) → b < 256 → (j : ℕ) → getD (set xs i b) j 0 < 256
+  bytes b l j = elim (ℕ-discrete j i) [
+    | yes e ↦ rw (e, getD-set-same xs i b 0 (omega arith)) l
+    | no n ↦ rw (getD-set-other xs i j b 0 n) (xs-bytes j)
+  ]
+
+  only : {s : ℕ → Bool} (b : ℕ) → b < 256 → Placed at s xs (set xs i b) → Placed at s xs ys → ys ≡ set xs i b
+  only {s} b l q p = placed-once at s xs ys (set xs i b) p q long (length-set xs i b) ys-bytes (bytes b l)
+
+  pub added-is : Placed at (added xs at r) xs ys → ys ≡ set xs i (bitOr (getD xs i 0) (2 ^ k))
+  added-is = only (bitOr (getD xs i 0) (2 ^ k)) (or-lt 8 _ _ (xs-bytes i) (shifted-byte k small))
+      (one-written xs at r _ true fits w
+      (λ j. ap (λ (y : ℕ). bit (bitOr (getD xs i 0) y) j) (sym (shifted k small)) ∙ bit-on (getD xs i 0) k small j)
+      (rw (among-iff 128 r .1 w, eq-eqb r r refl) (sym (or-true (member xs at r))))
+      (λ q n. rw (among-iff 128 r .1 w, ne-eqb q r n) (sym (or-false (member xs at q)))))
+
+  removed-held : member xs at r ≡ true → Placed at (removed xs at r) xs ys → ys ≡ set xs i (bitXor (getD xs i 0) (2 ^ k))
+  unfolding member
+  removed-held h = only (bitXor (getD xs i 0) (2 ^ k)) (xor-lt 8 _ _ (xs-bytes i) (shifted-byte k small))
+      (one-written xs at r _ false fits w
+      (λ j. ap (λ (y : ℕ). bit (bitXor (getD xs i 0) y) j) (sym (shifted k small))
+      ∙ bit-off (getD xs i 0) k small (and-iff (among 128 r) (bit (getD xs i 0) k) .0 h .1) j)
+      (rw (eq-eqb r r refl) (sym (and-false (member xs at r))))
+      (λ q n. rw (ne-eqb q r n) (sym (and-true (member xs at q)))))
+
+  -- without the role, which the row does not hold
+  none-less : member xs at r ≡ false → (q : ℕ) → member xs at q ≡ removed xs at r q
+  none-less h q = elim (ℕ-discrete q r) [
+    | yes e ↦ rw (e, h)
+    | no n ↦ rw (ne-eqb q r n) (sym (and-true (member xs at q)))
+  ]
+
+  removed-free : member xs at r ≡ false → Placed at (removed xs at r) xs ys → ys ≡ xs
+  removed-free h p = placed-once at (removed xs at r) xs ys xs p (unwritten (λ l. none-less h)) long refl ys-bytes xs-bytes
+
+  pub removed-is : Placed at (removed xs at r) xs ys
+      → ys ≡ cond (member xs at r) (set xs i (bitXor (getD xs i 0) (2 ^ k))) xs
+  removed-is p = by (member xs at r) refl
+    where
+      by : (b : Bool) → member xs at r ≡ b → ys ≡ cond b (set xs i (bitXor (getD xs i 0) (2 ^ k))) xs
+      by true h = removed-held h p
+      by false h = removed-free h p

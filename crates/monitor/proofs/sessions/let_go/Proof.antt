@@ -1,0 +1,37 @@
+-- The row changes by one byte.
+use native.Mathlib.Omega.{arith}
+use borrow.Author.Needs.{needs}
+use Rattle.search.specs.Search.{Among}
+use Rattle.monitor.specs.Session.{heldAt}
+use Rattle.monitor.specs.Calls.{dropped}
+use Rattle.monitor.proofs.Answers.{Room, drop-room}
+use Rattle.monitor.proofs.Holding.{removed-is}
+use Rattle.monitor.proofs.sessions.let_go.Statement.{statement}
+use Rattle.monitor.proofs.sessions.let_go.Tie as tie
+
+room : (c : tie.Start) → Room (c .args .s .now) (c .args .place) × Among 128 (c .args .role)
+room c = drop-room _ _ _ (c .pre)
+
+returns : tie.Need-returns
+unfolding dropped
+returns c =
+    let t = c .before .before in
+    let start = t .before .before .before in
+    let q = room start in
+    removed-is (start .args .s .now) (t .remove .last .0) (heldAt (start .args .place)) (start .args .role) (omega arith) (q .1)
+    (t .remove .kept .0)
+    (λ i. omega (arith, t .before .before .slice-known .given i))
+    (λ i. omega (arith, c .slice-known2 .given i))
+    (t .remove .ensures)
+
+pub let-go-spec : {M : Type 1} → statement M
+let-go-spec =
+    tie.close
+    (tie.spec
+    (λ c. omega (arith, room (c .before)))
+    (λ c. omega (arith, room (c .before)))
+    (λ c. omega (arith, room (c .before)))
+    (λ c. omega (arith, room (c .before)))
+    (λ c κs. search needs)
+    (λ c. search needs)
+    returns)

@@ -1,0 +1,65 @@
+-- The places of a state, and what the calls read of a state. Every accessor is total: a byte past the end is 0. Assumes nothing.
+use Prim.Native.Nat.{ℕ, _+_, _*_, _-_}
+use mathlib.Core.List.{List}
+use mathlib.Core.Bool.{Bool, true, false, not, _&&_, _||_}
+use lib.Dec.{leb, eqb}
+use lib.ListN.{getD}
+use Rattle.search.specs.Search.{among}
+use Rattle.roleset.specs.Row.{common}
+use Rattle.policy.specs.Tables.{word, byteOf, rowOf, marked, isState, clearancesAt, rLevelsAt, wLevelsAt, seniorsAt, assignedAt, readersAt, writersAt}
+
+-- ---- counts
+
+abbrev pub labelsIn : List ℕ → ℕ
+labelsIn xs = word xs 0
+
+abbrev pub rolesIn : List ℕ → ℕ
+rolesIn xs = word xs 2
+
+abbrev pub usersIn : List ℕ → ℕ
+usersIn xs = word xs 4
+
+abbrev pub cardsIn : List ℕ → ℕ
+cardsIn xs = word xs 6
+
+-- what 21 tests: 65,536 bytes, and the counts within "labels 1 to 32, roles 0 to 128, users 0 to 256, cards 0 to 512"
+unfoldable pub sound : List ℕ → Bool
+sound xs = isState xs && (among 32 (labelsIn xs) && (leb (rolesIn xs) 128 && (leb (usersIn xs) 256 && leb (cardsIn xs) 512)))
+
+-- ---- places: 20 bytes each: 1 where in use, the user less 1, the label, 0, and the row of held roles
+
+abbrev pub placeAt : ℕ → ℕ
+placeAt p = 61456 + 20 * (p - 1)
+
+unfoldable pub inUse : List ℕ → ℕ → Bool
+inUse xs p = eqb (getD xs (placeAt p) 0) 1
+
+unfoldable pub userAt : List ℕ → ℕ → ℕ
+userAt xs p = getD xs (placeAt p + 1) 0 + 1
+
+unfoldable pub labelAt : List ℕ → ℕ → ℕ
+labelAt xs p = getD xs (placeAt p + 2) 0
+
+abbrev pub heldAt : ℕ → ℕ
+heldAt p = placeAt p + 4
+
+-- ---- what the rules ask
+
+-- "a label that the clearance dominates"
+unfoldable pub cleared : List ℕ → ℕ → ℕ → Bool
+cleared xs u l = marked xs (byteOf xs clearancesAt u) l
+
+-- "the user is assigned to it or to a senior of it"
+unfoldable pub entitled : List ℕ → ℕ → ℕ → Bool
+entitled xs u r = common xs (rowOf assignedAt u) (rowOf seniorsAt r)
+
+-- "the session's label dominates its r-level, and its w-level dominates the session's label. A free level always passes; an undefined one never"
+unfoldable pub fitting : List ℕ → ℕ → ℕ → Bool
+fitting xs l r =
+    let reads = byteOf xs rLevelsAt r in
+    let writes = byteOf xs wLevelsAt r in
+    (eqb reads 0 || marked xs l reads) && (eqb writes 0 || marked xs writes l)
+
+-- a role that place p holds gives the read, or the write, of card o
+unfoldable pub gives : List ℕ → ℕ → ℕ → ℕ → Bool
+gives xs at p o = common xs (heldAt p) (rowOf at o)
