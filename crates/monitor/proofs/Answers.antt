@@ -11,7 +11,7 @@ use Rattle.search.specs.Search.{among, Among}
 use Rattle.search.proofs.Truth.{and-iff, among-iff, passed, failed}
 use Rattle.policy.specs.Tables.{isState}
 use Rattle.monitor.specs.Session.{sound, labelsIn, rolesIn, usersIn, cardsIn}
-use Rattle.monitor.specs.Calls.{unless, ifDone, openNumber, closeNumber, takeNumber, dropNumber, partNumber}
+use Rattle.monitor.specs.Calls.{unless, ifDone, openNumber, closeNumber, takeNumber, dropNumber, partNumber, flowsNumber, circleNumber}
 
 -- ---- a row of tests whose answers r are those of calls: a call's `ensures` is r ≡ t
 module _ (t : Bool) (n rest : ℕ) {r : Bool} (e : r ≡ t) where
@@ -174,3 +174,12 @@ module _ (a b n rest : ℕ) where
   pub passes-upto : {x : ℕ} → a ≤ b → x ≡ rest → x ≡ unless (leb a b) n rest
   unfolding unless
   passes-upto h k = rw (le-leb a b h) k
+
+-- a report that is done is on a whole state
+pub flows-state : (xs : List ℕ) (q r : ℕ) → flowsNumber xs q r ≡ 0 → isState xs ≡ true
+unfolding flowsNumber
+flows-state xs q r h = le-leb _ _ (sound-of xs (unless-done _ _ _ (omega arith) h .0) .long)
+
+pub circle-state : (xs : List ℕ) → circleNumber xs ≡ 0 → isState xs ≡ true
+unfolding circleNumber
+circle-state xs h = le-leb _ _ (sound-of xs (unless-done _ _ _ (omega arith) h .0) .long)

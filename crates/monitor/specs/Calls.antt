@@ -10,7 +10,9 @@ use lib.Dec.{leb, eqb}
 use lib.ListN.{length, getD, set, take, drop, replicate}
 use Rattle.search.specs.Search.{among}
 use Rattle.roleset.specs.Row.{member}
-use Rattle.policy.specs.Tables.{readersAt, writersAt}
+use Rattle.order.specs.Closure.{circle}
+use Rattle.policy.specs.Tables as tables
+use Rattle.policy.specs.Tables.{readersAt, writersAt, flowing}
 use Rattle.monitor.specs.Session.{sound, labelsIn, rolesIn, usersIn, cardsIn, placeAt, heldAt, inUse, userAt, labelAt, cleared, entitled, fitting, gives}
 
 -- the number n unless the test holds; then what the tests after it say
@@ -157,3 +159,24 @@ writeStore xs store p o k bytes = ifDone (writeNumber xs store p o k bytes) (wri
 pub record Writes (xs old : List ℕ) (p o k : ℕ) (bytes : List ℕ) (r : ℕ) (new : List ℕ) : Type 0 where
   pub number : r ≡ writeNumber xs old p o k bytes
   pub store : new ≡ writeStore xs old p o k bytes
+
+-- ---- the flow report: "whether the first flows to the second (never to itself), and gives the lowest role on a circle of two or more roles, or 0"
+
+unfoldable pub flowsNumber : List ℕ → ℕ → ℕ → ℕ
+flowsNumber xs q r =
+    unless (sound xs) 21
+    (unless (among (rolesIn xs) q) 25
+    (unless (among (rolesIn xs) r) 25
+    0))
+
+unfoldable pub circleNumber : List ℕ → ℕ
+circleNumber xs = unless (sound xs) 21 0
+
+-- "figure is 0 on a refusal"
+pub record Flows (xs : List ℕ) (q r n figure : ℕ) : Type 0 where
+  pub number : n ≡ flowsNumber xs q r
+  pub answer : figure ≡ ifDone (flowsNumber xs q r) (cond (flowing xs (tables.cardsIn xs) q r) 1 0) 0
+
+pub record Circles (xs : List ℕ) (n figure : ℕ) : Type 0 where
+  pub number : n ≡ circleNumber xs
+  pub answer : figure ≡ ifDone (circleNumber xs) (circle (tables.rolesIn xs) (flowing xs (tables.cardsIn xs))) 0

@@ -3,6 +3,7 @@
 //
 // No exported function asks anything of its caller: every number is legal and every slice may be empty.
 mod cards;
+mod report;
 mod rules;
 mod sessions;
 mod state;
@@ -10,7 +11,7 @@ mod state;
 use rolefile::Verdict;
 ghost use mathlib.Core.Path.{_≡_};
 ghost use Rattle.policy.specs.Image.{Loaded};
-ghost use Rattle.monitor.specs.Calls.{Opens, Closes, Takes, Drops, readNumber, Reads, Writes};
+ghost use Rattle.monitor.specs.Calls.{Opens, Closes, Takes, Drops, readNumber, Reads, Writes, Flows, Circles};
 
 // The answer of a load, as C has it.
 #[repr(C)]
@@ -20,6 +21,14 @@ pub struct Answer {
     pub second: u64,
 }
 
+// The answer of a report, as C has it.
+#[repr(C)]
+pub struct Figure {
+    pub number: u64,
+    pub figure: u64,
+}
+
+// Checks a role file and replaces the state by its policy: 7, or the verdict on the file.
 #[no_mangle]
 pub extern "C" fn monitor_load(file: &[u8], state: &mut [u8]) -> Answer
     ensures { λ r. ⌜ Loaded (now (file .entry)) (record { number = r .number; first = r .first; second = r .second }) (now (state .entry)) (now (state .exit)) ⌝ }
@@ -106,4 +115,24 @@ pub extern "C" fn monitor_write(
     ensures { λ r. ⌜ Writes (now (state .entry)) (now (store .entry)) place card offset (now (bytes .entry)) r (now (store .exit)) ⌝ }
 {
     cards::write(state, store, place, card, offset, bytes)
+}
+
+// Whether one role flows to another, 1 or 0: 21, 25.
+#[no_mangle]
+pub extern "C" fn monitor_flows(state: &[u8], from: u64, to: u64) -> Figure
+    ensures { λ r. ⌜ Flows (now (state .entry)) from to (r .number) (r .figure) ⌝ }
+{
+    let number = report::flows_number(state, from, to);
+    let figure = report::flows_figure(state, from, to, number);
+    Figure { number, figure }
+}
+
+// The lowest role on a circle of flow, or 0: 21.
+#[no_mangle]
+pub extern "C" fn monitor_circle(state: &[u8]) -> Figure
+    ensures { λ r. ⌜ Circles (now (state .entry)) (r .number) (r .figure) ⌝ }
+{
+    let number = report::circle_number(state);
+    let figure = report::circle_figure(state, number);
+    Figure { number, figure }
 }

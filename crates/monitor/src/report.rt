@@ -1,0 +1,54 @@
+// The flow report: numbers, and figures for a number that is known.
+use super::state;
+ghost use mathlib.Core.Path.{_≡_};
+ghost use mathlib.Core.Bool.{cond};
+ghost use Rattle.order.specs.Closure.{circle};
+ghost use Rattle.policy.specs.Tables as tables;
+ghost use Rattle.monitor.specs.Calls.{ifDone, flowsNumber, circleNumber};
+
+pub fn flows_number(s: &[u8], from: u64, to: u64) -> u64
+    ensures { λ r. ⌜ r ≡ flowsNumber (now (s .entry)) from to ⌝ }
+{
+    if !state::sound(s) {
+        return 21;
+    }
+    if !state::counted(s, 2, from) {
+        return 25;
+    }
+    if !state::counted(s, 2, to) {
+        return 25;
+    }
+    0
+}
+
+pub fn flows_figure(s: &[u8], from: u64, to: u64, number: u64) -> u64
+    requires { ⌜ number ≡ flowsNumber (now s) from to ⌝ }
+    ensures { λ r. ⌜ r ≡ ifDone (flowsNumber (now (s .entry)) from to) (cond (tables.flowing (now (s .entry)) (tables.cardsIn (now (s .entry))) from to) 1 0) 0 ⌝ }
+{
+    if number != 0 {
+        return 0;
+    }
+    if policy::flow::flows(s, from as usize, to as usize) {
+        return 1;
+    }
+    0
+}
+
+pub fn circle_number(s: &[u8]) -> u64
+    ensures { λ r. ⌜ r ≡ circleNumber (now (s .entry)) ⌝ }
+{
+    if !state::sound(s) {
+        return 21;
+    }
+    0
+}
+
+pub fn circle_figure(s: &[u8], number: u64) -> u64
+    requires { ⌜ number ≡ circleNumber (now s) ⌝ }
+    ensures { λ r. ⌜ r ≡ ifDone (circleNumber (now (s .entry))) (circle (tables.rolesIn (now (s .entry))) (tables.flowing (now (s .entry)) (tables.cardsIn (now (s .entry))))) 0 ⌝ }
+{
+    if number != 0 {
+        return 0;
+    }
+    policy::flow::flow_circle(s) as u64
+}
