@@ -1,15 +1,23 @@
 # What an outsider runs. `make help` lists it.
 FILE ?= examples/document.role
 COUNT ?= 20000
+LISTS ?= 5000
 SEED ?= 7
+PREFIX ?= /usr/local
+ARCHIVE = target/staticlib/libmonitor.a
 
-.PHONY: help check test prove differential kit
+.PHONY: help check test prove lib install differential lists sanitize bench kit
 
 help:
 	@echo "make check FILE=F       check a role file: its verdict, levels, flow"
 	@echo "make test               all tests: every proof from nothing, must-fail edits, host tests"
 	@echo "make prove              prove what has changed"
+	@echo "make lib                prove the monitor and build $(ARCHIVE)"
+	@echo "make install PREFIX=P   put header, archive and pkg-config file under P ($(PREFIX))"
 	@echo "make differential       COUNT=$(COUNT) random files against the second checker, from SEED=$(SEED)"
+	@echo "make lists              LISTS=$(LISTS) random call lists against the model, from SEED=$(SEED)"
+	@echo "make sanitize           the C test under AddressSanitizer and under valgrind"
+	@echo "make bench              load times beside plain Rust"
 
 kit:
 	@command -v rt >/dev/null || { echo "This needs rt, the Rattle kit's command, on the path."; exit 1; }
@@ -24,7 +32,25 @@ prove: kit
 test: kit
 	.ci/run
 
+lib: kit
+	rt staticlib monitor
+
+install: lib
+	install -d $(DESTDIR)$(PREFIX)/include $(DESTDIR)$(PREFIX)/lib/pkgconfig
+	install -m 644 include/monitor.h $(DESTDIR)$(PREFIX)/include/
+	install -m 644 $(ARCHIVE) $(DESTDIR)$(PREFIX)/lib/
+	sed 's|@PREFIX@|$(PREFIX)|' include/monitor.pc.in > $(DESTDIR)$(PREFIX)/lib/pkgconfig/monitor.pc
+
 differential: kit
 	rt check rolecheck >/dev/null
 	cargo build --release --offline --quiet --manifest-path host/checker/Cargo.toml
 	host/checker/target/release/differential target/bin/rolecheck $(COUNT) $(SEED) host/checker/kept
+
+lists: lib
+	MONITOR_LIB=$(CURDIR)/$(ARCHIVE) cargo run --release --offline --quiet --manifest-path host/monitor/Cargo.toml -- $(LISTS) $(SEED)
+
+sanitize: lib
+	$(MAKE) -C host/c asan valgrind LIB=$(CURDIR)/$(ARCHIVE)
+
+bench: lib
+	cargo run --release --offline --quiet --manifest-path host/bench/Cargo.toml

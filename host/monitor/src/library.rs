@@ -1,0 +1,156 @@
+//! Safe wrappers over the C functions of include/monitor.h.
+//!
+//! Every buffer is borrowed mutably, also where the C function takes a
+//! pointer to const: a library that writes there all the same is then seen by
+//! a comparison.
+
+/// `struct monitor_verdict`: 0, or the number and its place.
+#[repr(C)]
+#[derive(Clone, Copy, Debug, Default, PartialEq, Eq)]
+pub struct Verdict {
+    pub number: u64,
+    pub first: u64,
+    pub second: u64,
+}
+
+/// `struct monitor_figure`: figure is 0 on a refusal.
+#[repr(C)]
+#[derive(Clone, Copy, Debug, Default, PartialEq, Eq)]
+pub struct Figure {
+    pub number: u64,
+    pub figure: u64,
+}
+
+/// The library the tests are linked with.
+pub const UNDER_TEST: &str = env!("LIBRARY_UNDER_TEST");
+
+/// The C functions themselves.
+pub mod c {
+    use super::{Figure, Verdict};
+
+    // Referred to, so that the linker finds its functions.
+    #[cfg(stand_in)]
+    use stand_in as _;
+
+    extern "C" {
+        pub fn monitor_load(
+            file: *const u8,
+            file_len: usize,
+            state: *mut u8,
+            state_len: usize,
+        ) -> Verdict;
+        pub fn monitor_open(
+            state: *mut u8,
+            state_len: usize,
+            place: u64,
+            user: u64,
+            label: u64,
+        ) -> u64;
+        pub fn monitor_close(state: *mut u8, state_len: usize, place: u64) -> u64;
+        pub fn monitor_take(state: *mut u8, state_len: usize, place: u64, role: u64) -> u64;
+        pub fn monitor_drop(state: *mut u8, state_len: usize, place: u64, role: u64) -> u64;
+        pub fn monitor_read_number(
+            state: *const u8,
+            state_len: usize,
+            store: *const u8,
+            store_len: usize,
+            place: u64,
+            card: u64,
+            offset: u64,
+            length: u64,
+        ) -> u64;
+        pub fn monitor_write(
+            state: *const u8,
+            state_len: usize,
+            store: *mut u8,
+            store_len: usize,
+            place: u64,
+            card: u64,
+            offset: u64,
+            bytes: *const u8,
+            bytes_len: usize,
+        ) -> u64;
+        pub fn monitor_flows(state: *const u8, state_len: usize, from: u64, to: u64) -> Figure;
+        pub fn monitor_circle(state: *const u8, state_len: usize) -> Figure;
+    }
+}
+
+pub fn load(file: &mut [u8], state: &mut [u8]) -> Verdict {
+    unsafe {
+        c::monitor_load(
+            file.as_mut_ptr(),
+            file.len(),
+            state.as_mut_ptr(),
+            state.len(),
+        )
+    }
+}
+
+pub fn open(state: &mut [u8], place: u64, user: u64, label: u64) -> u64 {
+    unsafe { c::monitor_open(state.as_mut_ptr(), state.len(), place, user, label) }
+}
+
+pub fn close(state: &mut [u8], place: u64) -> u64 {
+    unsafe { c::monitor_close(state.as_mut_ptr(), state.len(), place) }
+}
+
+pub fn take(state: &mut [u8], place: u64, role: u64) -> u64 {
+    unsafe { c::monitor_take(state.as_mut_ptr(), state.len(), place, role) }
+}
+
+pub fn drop(state: &mut [u8], place: u64, role: u64) -> u64 {
+    unsafe { c::monitor_drop(state.as_mut_ptr(), state.len(), place, role) }
+}
+
+pub fn read_number(
+    state: &mut [u8],
+    store: &mut [u8],
+    place: u64,
+    card: u64,
+    offset: u64,
+    length: u64,
+) -> u64 {
+    unsafe {
+        c::monitor_read_number(
+            state.as_mut_ptr(),
+            state.len(),
+            store.as_mut_ptr(),
+            store.len(),
+            place,
+            card,
+            offset,
+            length,
+        )
+    }
+}
+
+pub fn write(
+    state: &mut [u8],
+    store: &mut [u8],
+    place: u64,
+    card: u64,
+    offset: u64,
+    bytes: &mut [u8],
+) -> u64 {
+    unsafe {
+        c::monitor_write(
+            state.as_mut_ptr(),
+            state.len(),
+            store.as_mut_ptr(),
+            store.len(),
+            place,
+            card,
+            offset,
+            bytes.as_mut_ptr(),
+            bytes.len(),
+        )
+    }
+}
+
+pub fn flows(state: &mut [u8], from: u64, to: u64) -> Figure {
+    unsafe { c::monitor_flows(state.as_mut_ptr(), state.len(), from, to) }
+}
+
+pub fn circle(state: &mut [u8]) -> Figure {
+    unsafe { c::monitor_circle(state.as_mut_ptr(), state.len()) }
+}

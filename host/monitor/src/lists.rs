@@ -1,0 +1,343 @@
+//! Random lists of calls, each call made on the model and on the library.
+
+use crate::call::{Answer, Call, Kind};
+use crate::generate::{accepted_file, random_bytes, Caller, Lending, LentState};
+use crate::laws::Change;
+use crate::lent::Lent;
+use crate::library;
+use crate::model::{Model, Part, CARD_BYTES, PLACES, STATE_BYTES};
+use second_checker::random::Random;
+use std::collections::BTreeMap;
+
+/// How many calls a list has, its first load included.
+pub const CALLS: usize = 200;
+
+/// The numbers that a run must see: done, and all that calls with a good file
+/// can get.
+pub const WANTED: [u64; 13] = [0, 7, 21, 22, 23, 24, 25, 26, 27, 28, 29, 30, 31];
+
+/// How often each number was seen.
+#[derive(Default)]
+pub struct Tally {
+    pub numbers: BTreeMap<(Kind, u64), u64>,
+    pub lists: u64,
+    /// Calls made to look at a state from outside, not counted above.
+    pub surveyed: u64,
+}
+
+impl Tally {
+    pub fn add(&mut self, other: Tally) {
+        for (key, count) in other.numbers {
+            *self.numbers.entry(key).or_default() += count;
+        }
+        self.lists += other.lists;
+        self.surveyed += other.surveyed;
+    }
+
+    fn seen(&self, number: u64) -> u64 {
+        Kind::ALL
+            .iter()
+            .filter_map(|&kind| self.numbers.get(&(kind, number)))
+            .sum()
+    }
+
+    /// What was never seen: each number that must be, and each number of each
+    /// call but a load's numbers about the file.
+    pub fn missing(&self) -> Vec<String> {
+        let mut missing: Vec<String> = WANTED
+            .into_iter()
+            .filter(|&number| self.seen(number) == 0)
+            .map(|number| format!("number {number}"))
+            .collect();
+        for kind in Kind::ALL {
+            for &number in kind.numbers() {
+                if WANTED.contains(&number) && !self.numbers.contains_key(&(kind, number)) {
+                    missing.push(format!("{} {number}", kind.name()));
+                }
+            }
+        }
+        missing
+    }
+
+    /// The counts, a row for each number and a column for each call.
+    pub fn table(&self) -> String {
+        let mut table = format!(
+            "library: {}\n{} lists, {} calls, {} more to survey states\nnumber    calls",
+            library::UNDER_TEST,
+            self.lists,
+            self.numbers.values().sum::<u64>(),
+            self.surveyed
+        );
+        for kind in Kind::ALL {
+            table.push_str(&format!("{:>9}", kind.name()));
+        }
+        for number in 0..=31 {
+            if self.seen(number) == 0 && !WANTED.contains(&number) {
+                continue;
+            }
+            table.push_str(&format!("\n{number:>6} {:>8}", self.seen(number)));
+            for kind in Kind::ALL {
+                match self.numbers.get(&(kind, number)) {
+                    Some(count) => table.push_str(&format!("{count:>9}")),
+                    None => table.push_str("        ."),
+                }
+            }
+        }
+        table
+    }
+}
+
+/// A list while it is run.
+pub struct List {
+    pub model: Model,
+    /// What the model's store holds.
+    pub cards: Vec<u8>,
+    pub state: Lent,
+    pub store: Lent,
+}
+
+/// Runs list `index` of the run with this seed; what went wrong, if anything.
+/// `trace` gets a line for each call.
+pub fn run(
+    seed: u64,
+    index: u64,
+    tally: &mut Tally,
+    trace: &mut dyn FnMut(&str),
+) -> Result<(), String> {
+    let random = &mut Random::for_file(seed, index);
+    let mut list = List::new(random, trace, tally)
+        .map_err(|problem| format!("seed {seed} list {index} call 1: {problem}"))?;
+    let caller = Caller::new(random);
+    let survey_at = random.below(CALLS);
+    for call_number in 2..=CALLS {
+        let step = list.step(random, &caller, tally, trace).and_then(|()| {
+            if call_number == survey_at || call_number == CALLS {
+                list.survey(random, tally)
+            } else {
+                Ok(())
+            }
+        });
+        if let Err(problem) = step {
+            return Err(format!(
+                "seed {seed} list {index} call {call_number}: {problem}"
+            ));
+        }
+    }
+    tally.lists += 1;
+    Ok(())
+}
+
+impl List {
+    /// Begins with the load of an accepted file into a state of any bytes.
+    pub fn new(
+        random: &mut Random,
+        trace: &mut dyn FnMut(&str),
+        tally: &mut Tally,
+    ) -> Result<List, String> {
+        let file = accepted_file(random);
+        trace(&String::from_utf8_lossy(&file));
+        let mut model = Model::default();
+        let surplus = random.pick(&[0, 0, 0, 1, 7, 64, 1_000, STATE_BYTES]);
+        let mut state = Lent::new(&random_bytes(random, STATE_BYTES + surplus), random);
+        let load = Call::Load { file };
+        let expected = load.on_model(&mut model, STATE_BYTES, &mut []);
+        let answer = load.on_library(state.bytes_mut(), &mut [], random)?;
+        if answer != expected {
+            return Err(format!("load: expected {expected:?}, got {answer:?}"));
+        }
+        *tally.numbers.entry((Kind::Load, 0)).or_default() += 1;
+        let counts = match model.policy() {
+            Some(policy) => policy.counts,
+            None => return Err("the generator's file was refused".to_string()),
+        };
+        let surplus = random.pick(&[0, 0, 1, 63, 64, 300]);
+        let cards = random_bytes(random, CARD_BYTES * counts.cards + surplus);
+        let store = Lent::new(&cards, random);
+        Ok(List {
+            model,
+            cards,
+            state,
+            store,
+        })
+    }
+
+    /// Makes one call on both sides and compares all there is to see.
+    pub fn step(
+        &mut self,
+        random: &mut Random,
+        caller: &Caller,
+        tally: &mut Tally,
+        trace: &mut dyn FnMut(&str),
+    ) -> Result<(), String> {
+        if random.percent(3) {
+            // A state is its bytes alone: it may be moved.
+            self.state = Lent::new(self.state.bytes(), random);
+        }
+        let (call, lending) = caller.next(random, &self.model, self.cards.len());
+        let state_before = self.state.bytes().to_vec();
+        let expected = self.expect(&call, lending);
+        let answer = self.ask(&call, lending, random)?;
+        let number = answer.number();
+        trace(&format!("{call}, lent {lending:?}: {answer:?}"));
+        *tally.numbers.entry((call.kind(), number)).or_default() += 1;
+
+        if answer != expected {
+            return Err(format!(
+                "{call}, lent {lending:?}: expected {expected:?}, got {answer:?}"
+            ));
+        }
+        let fault = |what: &str| Err(format!("{call}, lent {lending:?}: {answer:?}: {what}"));
+        if !self.state.canaries_unchanged() || !self.store.canaries_unchanged() {
+            return fault("bytes around a buffer were changed");
+        }
+        if self.store.bytes() != self.cards {
+            return fault(&format!(
+                "the store differs, first at byte {:?}",
+                first_difference(self.store.bytes(), &self.cards)
+            ));
+        }
+        let state = Change {
+            before: &state_before,
+            after: self.state.bytes(),
+        };
+        if self.changes_nothing(&call, number) && !state.none() {
+            return fault("the state was changed");
+        }
+        if state.before[STATE_BYTES..] != state.after[STATE_BYTES..] {
+            return fault("bytes past 65,536 were changed");
+        }
+        self.apply(&call, lending);
+        if call.kind() == Kind::Load && random.percent(75) {
+            self.lengthen_store(random);
+        }
+        Ok(())
+    }
+
+    /// Makes the store long enough for the cards, as a server would that
+    /// loads another file.
+    fn lengthen_store(&mut self, random: &mut Random) {
+        let cards = self.model.policy().map_or(0, |policy| policy.counts.cards);
+        let short = (CARD_BYTES * cards).saturating_sub(self.cards.len());
+        if short > 0 {
+            self.cards.extend(random_bytes(random, short));
+            self.store = Lent::new(&self.cards, random);
+        }
+    }
+
+    /// What the model answers. Its store takes a write; its sessions are left
+    /// as they are for a comparison with the state before.
+    fn expect(&mut self, call: &Call, lending: Lending) -> Answer {
+        let store = &mut self.cards[..lending.store];
+        match lending.state {
+            LentState::Whole => call.on_model(&mut self.model.clone(), STATE_BYTES, store),
+            LentState::First(length) => call.on_model(&mut self.model.clone(), length, store),
+            LentState::Zeroed => call.on_model(&mut Model::default(), STATE_BYTES, store),
+        }
+    }
+
+    /// The call's effect on the model's policy and sessions.
+    fn apply(&mut self, call: &Call, lending: Lending) {
+        if lending.state == LentState::Whole && call.kind().changes_state() {
+            call.on_model(&mut self.model, STATE_BYTES, &mut []);
+        }
+    }
+
+    fn ask(
+        &mut self,
+        call: &Call,
+        lending: Lending,
+        random: &mut Random,
+    ) -> Result<Answer, String> {
+        let store = &mut self.store.bytes_mut()[..lending.store];
+        match lending.state {
+            LentState::Whole => call.on_library(self.state.bytes_mut(), store, random),
+            LentState::First(length) => {
+                call.on_library(&mut self.state.bytes_mut()[..length], store, random)
+            }
+            LentState::Zeroed => {
+                let mut zeroed = Lent::new(&[0; STATE_BYTES], random);
+                let answer = call.on_library(zeroed.bytes_mut(), store, random)?;
+                if zeroed.bytes() != [0; STATE_BYTES] || !zeroed.canaries_unchanged() {
+                    return Err(format!("{call}: a zeroed state was changed"));
+                }
+                Ok(answer)
+            }
+        }
+    }
+
+    /// Whether the call must leave every byte of the state as it was: a
+    /// refusal, a call that only reads the state, and "Taking a role already
+    /// held, or dropping one not held, is done and changes nothing."
+    fn changes_nothing(&self, call: &Call, number: u64) -> bool {
+        let holds = |place: u64, role: u64| {
+            self.model
+                .session(place as usize)
+                .is_some_and(|session| session.roles.contains(&(role as usize)))
+        };
+        number != 0
+            || match *call {
+                Call::Take { place, role } => holds(place, role),
+                Call::Drop { place, role } => !holds(place, role),
+                _ => !call.kind().changes_state(),
+            }
+    }
+
+    /// Looks at the whole state from outside, on a copy of it: what each
+    /// session may read, write and take, and which places are open.
+    pub fn survey(&self, random: &mut Random, tally: &mut Tally) -> Result<(), String> {
+        let Some(policy) = self.model.policy() else {
+            return Ok(());
+        };
+        let counts = policy.counts;
+        let mut model = self.model.clone();
+        let mut state = Lent::new(self.state.bytes(), random);
+        let mut store = Lent::new(&vec![0; CARD_BYTES * counts.cards], random);
+        let mut calls = Vec::new();
+        for place in 1..=PLACES as u64 {
+            let open = self.model.session(place as usize).is_some();
+            // A place without a session answers 24 whatever the card.
+            let cards = if open {
+                counts.cards
+            } else {
+                counts.cards.min(1)
+            };
+            for card in 1..=cards as u64 {
+                calls.push(Call::Read(Part {
+                    place,
+                    card,
+                    offset: 0,
+                    length: CARD_BYTES as u64,
+                }));
+                calls.push(Call::Write {
+                    place,
+                    card,
+                    offset: CARD_BYTES as u64,
+                    bytes: Vec::new(),
+                });
+            }
+            let roles = if open {
+                counts.roles
+            } else {
+                counts.roles.min(1)
+            };
+            calls.extend((1..=roles as u64).map(|role| Call::Take { place, role }));
+            calls.push(Call::Close { place });
+        }
+        for call in calls {
+            tally.surveyed += 1;
+            let expected = call.on_model(&mut model, STATE_BYTES, store.bytes_mut());
+            let answer = call.on_library(state.bytes_mut(), store.bytes_mut(), random)?;
+            if answer != expected {
+                return Err(format!(
+                    "survey: {call}: expected {expected:?}, got {answer:?}"
+                ));
+            }
+        }
+        Ok(())
+    }
+}
+
+/// The first byte in which two buffers differ.
+pub fn first_difference(one: &[u8], other: &[u8]) -> Option<usize> {
+    one.iter().zip(other).position(|(one, other)| one != other)
+}

@@ -1,0 +1,424 @@
+//! An independent model of the monitor, written from document 01 alone. The
+//! policy of an accepted file comes from the second checker.
+//!
+//! "Other calls check in order of number, each as far as it applies to that
+//! call." So each call below is a row of checks, left at the first that fails.
+
+use crate::library::{Figure, Verdict};
+use second_checker::check::{read, Counts, Level, Meaning, READ, WRITE};
+use second_checker::{check, Outcome};
+use std::collections::BTreeSet;
+use std::ops::Range;
+use std::rc::Rc;
+
+/// "State is 65,536 lent bytes, the first ones where more are lent".
+pub const STATE_BYTES: usize = 65_536;
+/// "There are 64 places, numbered from 1".
+pub const PLACES: usize = 64;
+/// "A card is 64 bytes."
+pub const CARD_BYTES: usize = 64;
+
+/// What an accepted file says. "Labels, clearances and permissions stay fixed
+/// after a load."
+pub struct Policy {
+    pub counts: Counts,
+    pub meaning: Meaning,
+    /// A lines: user, role.
+    pub assigned: BTreeSet<(usize, usize)>,
+    /// Role flow: (from, to).
+    pub flows: BTreeSet<(usize, usize)>,
+    /// "the lowest role on a circle of two or more roles, or 0"
+    pub circle: usize,
+}
+
+impl Policy {
+    /// The policy of an accepted file, or the refusal's number and place.
+    pub fn of(file: &[u8]) -> Result<Policy, Verdict> {
+        let accepted = match check(file) {
+            Outcome::Accepted(accepted) => accepted,
+            Outcome::Refused(refusal) => {
+                return Err(Verdict {
+                    number: refusal.number as u64,
+                    first: refusal.place[0] as u64,
+                    second: refusal.place[1] as u64,
+                })
+            }
+        };
+        let role_file = read(file).expect("an accepted file has its form");
+        Ok(Policy {
+            counts: role_file.counts,
+            meaning: Meaning::of(&role_file),
+            assigned: role_file.assignments.iter().copied().collect(),
+            flows: accepted.flows,
+            circle: accepted.circle.unwrap_or(0),
+        })
+    }
+
+    /// "the user is assigned to it or to a senior of it"
+    pub fn is_member(&self, user: usize, role: usize) -> bool {
+        self.assigned
+            .range((user, 0)..=(user, usize::MAX))
+            .any(|&(_, assigned)| self.meaning.seniority.over(assigned, role))
+    }
+
+    /// "the session's label dominates its r-level, and its w-level dominates
+    /// the session's label. A free level always passes; an undefined one
+    /// never."
+    pub fn levels_allow(&self, role: usize, label: usize) -> bool {
+        let dominance = &self.meaning.dominance;
+        let read_level_passes = match self.meaning.read_level[role] {
+            Level::Free => true,
+            Level::Label(level) => dominance.over(label, level),
+            Level::Undefined => false,
+        };
+        let write_level_passes = match self.meaning.write_level[role] {
+            Level::Free => true,
+            Level::Label(level) => dominance.over(level, label),
+            Level::Undefined => false,
+        };
+        read_level_passes && write_level_passes
+    }
+
+    /// The cards a role may read or write, "inherited ones included".
+    pub fn cards(&self, role: usize, mode: Mode) -> &BTreeSet<usize> {
+        match mode {
+            Mode::Read => &self.meaning.may_read[role],
+            Mode::Write => &self.meaning.may_write[role],
+        }
+    }
+}
+
+/// "role r may read (m = 1) or write (m = 2) card o"
+#[derive(Clone, Copy, Debug, PartialEq, Eq)]
+pub enum Mode {
+    Read = READ as isize,
+    Write = WRITE as isize,
+}
+
+/// "Opening gives it a user and a label that the clearance dominates, and no
+/// roles."
+#[derive(Clone, Debug, PartialEq, Eq)]
+pub struct Session {
+    pub user: usize,
+    pub label: usize,
+    pub roles: BTreeSet<usize>,
+}
+
+/// The place, card, offset and length that a read or a write names.
+#[derive(Clone, Copy, Debug, PartialEq, Eq)]
+pub struct Part {
+    pub place: u64,
+    pub card: u64,
+    pub offset: u64,
+    pub length: u64,
+}
+
+/// What a state holds; `default` is a zeroed one.
+#[derive(Clone, Default)]
+pub struct Model {
+    policy: Option<Rc<Policy>>,
+    /// Empty until a load, then 64 places.
+    places: Vec<Option<Session>>,
+}
+
+impl Model {
+    /// The policy of the last load, where there was one.
+    pub fn policy(&self) -> Option<&Rc<Policy>> {
+        self.policy.as_ref()
+    }
+
+    /// The session at a place from 1 to 64.
+    pub fn session(&self, place: usize) -> Option<&Session> {
+        self.places.get(place - 1)?.as_ref()
+    }
+
+    /// The places with a session.
+    pub fn open_places(&self) -> Vec<usize> {
+        (1..=self.places.len())
+            .filter(|&place| self.session(place).is_some())
+            .collect()
+    }
+
+    // -----------------------------------------------------------------------
+    // The checks, one for each number
+
+    /// "21: another call with such a state, or one holding a number outside
+    /// the limits above (a zeroed state has 0 labels ...)"
+    fn usable(&self, state_length: usize) -> Result<&Policy, u64> {
+        match &self.policy {
+            Some(policy) if state_length >= STATE_BYTES => Ok(policy),
+            _ => Err(21),
+        }
+    }
+
+    /// "24: no session at the place"
+    fn in_session(&self, place: usize) -> Result<&Session, u64> {
+        self.session(place).ok_or(24)
+    }
+
+    // -----------------------------------------------------------------------
+    // What each call comes to, without doing it
+
+    /// 21, 22, 23, 25, 26
+    pub fn opening(
+        &self,
+        state_length: usize,
+        place: u64,
+        user: u64,
+        label: u64,
+    ) -> Result<(usize, Session), u64> {
+        let policy = self.usable(state_length)?;
+        let place = place_in_range(place)?;
+        // "23: opening a place in use"
+        if self.session(place).is_some() {
+            return Err(23);
+        }
+        let user = in_range(user, policy.counts.users)?;
+        let label = in_range(label, policy.counts.labels)?;
+        // "26: clearance doesn't dominate the label asked"
+        let clearance = policy.meaning.clearance[user];
+        if !policy.meaning.dominance.over(clearance, label) {
+            return Err(26);
+        }
+        let session = Session {
+            user,
+            label,
+            roles: BTreeSet::new(),
+        };
+        Ok((place, session))
+    }
+
+    /// 21, 22, 24
+    pub fn closing(&self, state_length: usize, place: u64) -> Result<usize, u64> {
+        self.usable(state_length)?;
+        let place = place_in_range(place)?;
+        self.in_session(place)?;
+        Ok(place)
+    }
+
+    /// 21, 22, 24, 25, 27, 28. "Taking makes its checks first even then", that
+    /// is where the role is held already.
+    pub fn taking(
+        &self,
+        state_length: usize,
+        place: u64,
+        role: u64,
+    ) -> Result<(usize, usize), u64> {
+        let policy = self.usable(state_length)?;
+        let place = place_in_range(place)?;
+        let session = self.in_session(place)?;
+        let role = in_range(role, policy.counts.roles)?;
+        // "27: neither the role nor a senior of it is assigned to the user"
+        if !policy.is_member(session.user, role) {
+            return Err(27);
+        }
+        // "28: a level of the role forbids it at this label"
+        if !policy.levels_allow(role, session.label) {
+            return Err(28);
+        }
+        Ok((place, role))
+    }
+
+    /// 21, 22, 24, 25; "27 and 28 are for taking only".
+    pub fn dropping(
+        &self,
+        state_length: usize,
+        place: u64,
+        role: u64,
+    ) -> Result<(usize, usize), u64> {
+        let policy = self.usable(state_length)?;
+        let place = place_in_range(place)?;
+        self.in_session(place)?;
+        let role = in_range(role, policy.counts.roles)?;
+        Ok((place, role))
+    }
+
+    /// 21, 22, 24, 25, 29, 30, 31: a read or a write, with the bytes of the
+    /// store it is about.
+    pub fn reaching(
+        &self,
+        state_length: usize,
+        store_length: usize,
+        part: Part,
+        mode: Mode,
+    ) -> Result<Range<usize>, u64> {
+        let policy = self.usable(state_length)?;
+        let place = place_in_range(part.place)?;
+        let session = self.in_session(place)?;
+        let card = in_range(part.card, policy.counts.cards)?;
+        // "29: no role held gives this read or write": "A session may use the
+        // permissions of all roles it holds, inherited ones included."
+        let given = session
+            .roles
+            .iter()
+            .any(|&role| policy.cards(role, mode).contains(&card));
+        if !given {
+            return Err(29);
+        }
+        // "30: offset plus length above 64", of any two numbers.
+        if u128::from(part.offset) + u128::from(part.length) > CARD_BYTES as u128 {
+            return Err(30);
+        }
+        // "31: store shorter than 64 × cards"
+        if store_length < CARD_BYTES * policy.counts.cards {
+            return Err(31);
+        }
+        // "Card o fills bytes 64 × (o − 1) to 64 × o − 1 of the store."
+        let start = CARD_BYTES * (card - 1) + part.offset as usize;
+        Ok(start..start + part.length as usize)
+    }
+
+    /// 21, 25
+    pub fn flowing(&self, state_length: usize, from: u64, to: u64) -> Result<bool, u64> {
+        let policy = self.usable(state_length)?;
+        let from = in_range(from, policy.counts.roles)?;
+        let to = in_range(to, policy.counts.roles)?;
+        // "whether the first flows to the second (never to itself)"
+        Ok(policy.flows.contains(&(from, to)))
+    }
+
+    /// 21
+    pub fn circling(&self, state_length: usize) -> Result<usize, u64> {
+        Ok(self.usable(state_length)?.circle)
+    }
+
+    // -----------------------------------------------------------------------
+    // The calls
+
+    /// "Load checks 7, 1, then line by line 2 to 5 ...": 7, then the verdict.
+    /// "A successful load replaces it and closes all sessions."
+    pub fn load(&mut self, file: &[u8], state_length: usize) -> Verdict {
+        // "7: load with a state shorter than 65,536 bytes"; "[0, 0] where no
+        // brackets stand"
+        if state_length < STATE_BYTES {
+            return Verdict {
+                number: 7,
+                first: 0,
+                second: 0,
+            };
+        }
+        match Policy::of(file) {
+            Err(refusal) => refusal,
+            Ok(policy) => {
+                self.policy = Some(Rc::new(policy));
+                self.places = vec![None; PLACES];
+                Verdict::default()
+            }
+        }
+    }
+
+    pub fn open(&mut self, state_length: usize, place: u64, user: u64, label: u64) -> u64 {
+        match self.opening(state_length, place, user, label) {
+            Err(number) => number,
+            Ok((place, session)) => {
+                self.places[place - 1] = Some(session);
+                0
+            }
+        }
+    }
+
+    /// "Closing empties the place, and it can be opened again."
+    pub fn close(&mut self, state_length: usize, place: u64) -> u64 {
+        match self.closing(state_length, place) {
+            Err(number) => number,
+            Ok(place) => {
+                self.places[place - 1] = None;
+                0
+            }
+        }
+    }
+
+    /// "Taking a role already held, or dropping one not held, is done and
+    /// changes nothing."
+    pub fn take(&mut self, state_length: usize, place: u64, role: u64) -> u64 {
+        match self.taking(state_length, place, role) {
+            Err(number) => number,
+            Ok((place, role)) => {
+                if let Some(session) = &mut self.places[place - 1] {
+                    session.roles.insert(role);
+                }
+                0
+            }
+        }
+    }
+
+    pub fn drop(&mut self, state_length: usize, place: u64, role: u64) -> u64 {
+        match self.dropping(state_length, place, role) {
+            Err(number) => number,
+            Ok((place, role)) => {
+                if let Some(session) = &mut self.places[place - 1] {
+                    session.roles.remove(&role);
+                }
+                0
+            }
+        }
+    }
+
+    /// The number and the part. "It hands back that part of the lent store
+    /// itself. On a refusal it is the empty part at the store's start".
+    pub fn read(&self, state_length: usize, store: &[u8], part: Part) -> (u64, Range<usize>) {
+        match self.reaching(state_length, store.len(), part, Mode::Read) {
+            Err(number) => (number, 0..0),
+            Ok(range) => (0, range),
+        }
+    }
+
+    /// "A write puts the given bytes at the offset and changes no other byte."
+    pub fn write(
+        &self,
+        state_length: usize,
+        store: &mut [u8],
+        place: u64,
+        card: u64,
+        offset: u64,
+        bytes: &[u8],
+    ) -> u64 {
+        let part = Part {
+            place,
+            card,
+            offset,
+            length: bytes.len() as u64,
+        };
+        match self.reaching(state_length, store.len(), part, Mode::Write) {
+            Err(number) => number,
+            Ok(range) => {
+                store[range].copy_from_slice(bytes);
+                0
+            }
+        }
+    }
+
+    pub fn flows(&self, state_length: usize, from: u64, to: u64) -> Figure {
+        figure(self.flowing(state_length, from, to).map(u64::from))
+    }
+
+    pub fn circle(&self, state_length: usize) -> Figure {
+        figure(self.circling(state_length).map(|role| role as u64))
+    }
+}
+
+/// "22: place not 1 to 64"
+fn place_in_range(place: u64) -> Result<usize, u64> {
+    if (1..=PLACES as u64).contains(&place) {
+        Ok(place as usize)
+    } else {
+        Err(22)
+    }
+}
+
+/// "25: user, label, role or card number out of range"
+fn in_range(number: u64, count: usize) -> Result<usize, u64> {
+    if (1..=count as u64).contains(&number) {
+        Ok(number as usize)
+    } else {
+        Err(25)
+    }
+}
+
+/// A refusal's figure is 0.
+fn figure(result: Result<u64, u64>) -> Figure {
+    match result {
+        Ok(figure) => Figure { number: 0, figure },
+        Err(number) => Figure { number, figure: 0 },
+    }
+}

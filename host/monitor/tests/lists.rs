@@ -1,0 +1,47 @@
+//! Random lists of calls against the model.
+
+use monitor_tests::generate::Caller;
+use monitor_tests::lists::{run, List, Tally, CALLS};
+use second_checker::random::Random;
+use std::io::Write;
+
+const SEED: u64 = 1;
+const LISTS: u64 = 600;
+
+/// Numbers, store and state are compared after each call; each number of each
+/// call must have been seen.
+#[test]
+fn random_lists_agree_with_the_model() {
+    let mut tally = Tally::default();
+    for index in 0..LISTS {
+        if let Err(problem) = run(SEED, index, &mut tally, &mut |_| ()) {
+            panic!("{problem}");
+        }
+    }
+    // Past the test runner, which would keep it back.
+    writeln!(std::io::stdout(), "\n{}", tally.table()).expect("standard output");
+    assert_eq!(tally.missing(), Vec::<String>::new(), "never seen");
+}
+
+/// The calls of two lists in turn, each on a state of its own: a library that
+/// keeps anything outside the lent state is found out.
+#[test]
+fn two_states_side_by_side() {
+    let mut tally = Tally::default();
+    for index in 0..40 {
+        let random = &mut Random::for_file(SEED + 1, index);
+        let caller = Caller::new(random);
+        let mut lists: Vec<List> = (0..2)
+            .map(|_| List::new(random, &mut |_| (), &mut tally).unwrap())
+            .collect();
+        for call in 0..CALLS {
+            let turn = random.below(2);
+            lists[turn]
+                .step(random, &caller, &mut tally, &mut |_| ())
+                .unwrap_or_else(|problem| panic!("index {index} call {call}: {problem}"));
+        }
+        for list in &lists {
+            list.survey(random, &mut tally).unwrap();
+        }
+    }
+}
