@@ -5,9 +5,9 @@
 ghost use mathlib.Core.Path.{_≡_};
 ghost use mathlib.Core.Bool.{Bool, true, false, _&&_, _||_};
 ghost use Prim.Native.Nat.{ℕ, _+_, _≤_, _<_, min};
-ghost use lib.Dec.{leb, eqb};
+ghost use lib.Dec.{leb, eqb, ltb};
 ghost use Rattle.search.specs.Search.{Among, among, every, implies};
-ghost use Rattle.order.specs.Bound.{upper, least, lub, glb, turned, pair, apart, lonely, FirstApart};
+ghost use Rattle.order.specs.Bound.{upper, least, lub, glb, turned, lonely, FirstApart};
 ghost use Rattle.order.specs.Table.{marks, mark};
 
 // The set of the first n things.
@@ -27,7 +27,7 @@ pub fn first_things(n: usize) -> [bool; 32]
 pub fn common(s: [bool; 32], t: [bool; 32]) -> [bool; 32]
     ensures { λ r. ⌜ ((a : ℕ) → Among 32 a → marks r a ≡ (marks s a && marks t a)) ⌝ }
 {
-    let mut r = s;
+    let mut r = [false; 32];
     let mut i = 0;
     while i < 32 {
         r[i] = s[i] & t[i];
@@ -60,8 +60,8 @@ fn leads(s: [bool; 32], under: [bool; 32], among: bool) -> bool
 }
 
 // The greatest of the set, or 0. Where several are over all of it, the lowest number of them.
-pub fn greatest(t: [[bool; 32]; 32], s: [bool; 32]) -> usize
-    ensures { λ r. ⌜ r ≡ least 32 (turned (mark t)) (marks s) ⌝ }
+pub fn greatest(t: &[[bool; 32]; 32], s: [bool; 32]) -> usize
+    ensures { λ r. ⌜ r ≡ least 32 (turned (mark (now (t .entry)))) (marks s) ⌝ }
 {
     let mut i = 0;
     while i < 32 {
@@ -85,8 +85,8 @@ fn narrowed(s: [bool; 32], under: [bool; 32], on: bool) -> [bool; 32]
 }
 
 // The lower bounds of the set among the first n things.
-pub fn lower_bounds(t: [[bool; 32]; 32], n: usize, s: [bool; 32]) -> [bool; 32]
-    ensures { λ r. ⌜ ((c : ℕ) → Among 32 c → marks r c ≡ (leb c (min n 32) && upper (min n 32) (turned (mark t)) (marks s) c)) ⌝ }
+pub fn lower_bounds(t: &[[bool; 32]; 32], n: usize, s: [bool; 32]) -> [bool; 32]
+    ensures { λ r. ⌜ ((c : ℕ) → Among 32 c → marks r c ≡ (leb c (min n 32) && upper (min n 32) (turned (mark (now (t .entry)))) (marks s) c)) ⌝ }
 {
     let m = super::marks::lesser(n, 32);
     let mut r = first_things(m);
@@ -101,8 +101,8 @@ pub fn lower_bounds(t: [[bool; 32]; 32], n: usize, s: [bool; 32]) -> [bool; 32]
 }
 
 // The greatest lower bound of the set among the first n things, or 0.
-pub fn greatest_lower(t: [[bool; 32]; 32], n: usize, s: [bool; 32]) -> usize
-    ensures { λ r. ⌜ r ≡ glb (min n 32) (mark t) (marks s) ⌝ }
+pub fn greatest_lower(t: &[[bool; 32]; 32], n: usize, s: [bool; 32]) -> usize
+    ensures { λ r. ⌜ r ≡ glb (min n 32) (mark (now (t .entry))) (marks s) ⌝ }
 {
     greatest(t, lower_bounds(t, n, s))
 }
@@ -138,39 +138,41 @@ pub fn turned(t: [[bool; 32]; 32]) -> [[bool; 32]; 32]
 pub fn least_upper(t: [[bool; 32]; 32], n: usize, s: [bool; 32]) -> usize
     ensures { λ r. ⌜ r ≡ lub (min n 32) (mark t) (marks s) ⌝ }
 {
-    greatest_lower(turned(t), n, s)
+    let up = turned(t);
+    greatest_lower(&up, n, s)
 }
 
-// The least upper bound of things i + 1 and j + 1 among the first m, or 0, in the order that was turned round.
-fn bound_of_two(up: [[bool; 32]; 32], m: usize, i: usize, j: usize) -> usize
-    requires { ⌜ (m ≤ 32) × (i < m) × (j < m) ⌝ }
-    ensures { λ r. ⌜ r ≡ lub m (turned (mark up)) (pair (i + 1) (j + 1)) ⌝ }
+// The greatest of what s and the row of thing j + 1 have in common, or 0.
+fn greatest_common(t: &[[bool; 32]; 32], s: [bool; 32], j: usize) -> usize
+    requires { ⌜ j < 32 ⌝ }
+    ensures { λ r. ⌜ r ≡ least 32 (turned (mark (now (t .entry)))) (λ a. marks s a && mark (now (t .entry)) (j + 1) a) ⌝ }
 {
-    let over = up[i];
-    let also = up[j];
-    let bounds = common(first_things(m), over);
-    greatest(up, common(bounds, also))
+    let row = t[j];
+    greatest(t, common(s, row))
 }
 
-// Whether thing j + 1 comes after thing i + 1 and has no least upper bound with it.
-fn separate(up: [[bool; 32]; 32], m: usize, i: usize, j: usize) -> bool
-    requires { ⌜ (m ≤ 32) × (i < m) × (j < m) ⌝ }
-    ensures { λ r. ⌜ r ≡ apart m (turned (mark up)) (i + 1) (j + 1) ⌝ }
+// Whether thing j + 1 comes after thing i + 1, and what its row has in common with s has no greatest.
+fn separate(t: &[[bool; 32]; 32], s: [bool; 32], i: usize, j: usize) -> bool
+    requires { ⌜ (i < 32) × (j < 32) ⌝ }
+    ensures { λ r. ⌜ r ≡ (ltb (i + 1) (j + 1) && eqb (least 32 (turned (mark (now (t .entry)))) (λ a. marks s a && mark (now (t .entry)) (j + 1) a)) 0) ⌝ }
 {
     if j <= i {
         return false;
     }
-    bound_of_two(up, m, i, j) == 0
+    greatest_common(t, s, j) == 0
 }
 
-// The lowest thing that is so, or 0.
-fn partner(up: [[bool; 32]; 32], m: usize, i: usize) -> usize
+// The lowest of the first m things that comes after thing i + 1 and has no least upper bound with it, or 0,
+// in the order that was turned round.
+fn partner(up: &[[bool; 32]; 32], m: usize, i: usize) -> usize
     requires { ⌜ (m ≤ 32) × (i < m) ⌝ }
-    ensures { λ r. ⌜ r ≡ lonely m (turned (mark up)) (i + 1) ⌝ }
+    ensures { λ r. ⌜ r ≡ lonely m (turned (mark (now (up .entry)))) (i + 1) ⌝ }
 {
+    let over = up[i];
+    let bounds = common(first_things(m), over);
     let mut j = 0;
     while j < m {
-        if separate(up, m, i, j) {
+        if separate(up, bounds, i, j) {
             return j + 1;
         }
         j += 1;
@@ -192,7 +194,7 @@ pub fn first_pair(t: [[bool; 32]; 32], n: usize) -> Pair
     let up = turned(t);
     let mut i = 0;
     while i < m {
-        let higher = partner(up, m, i);
+        let higher = partner(&up, m, i);
         if 0 < higher {
             return Pair {
                 lower: i + 1,

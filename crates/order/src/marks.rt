@@ -3,6 +3,7 @@ ghost use mathlib.Core.Path.{_≡_};
 ghost use mathlib.Core.Bool.{_&&_, _||_};
 ghost use Prim.Native.Nat.{ℕ, _+_, _≤_, _<_, min};
 ghost use lib.Dec.{eqb};
+ghost use lib.ListN.{length};
 ghost use Rattle.search.specs.Search.{Among};
 ghost use Rattle.order.specs.Closure.{path, loop};
 ghost use Rattle.order.specs.Table.{marks, mark, Rows, round, reflexive};
@@ -18,7 +19,7 @@ pub fn lesser(n: usize, most: usize) -> usize
 fn stepped(row: [bool; 32], other: [bool; 32], on: bool) -> [bool; 32]
     ensures { λ r. ⌜ ((b : ℕ) → Among 32 b → marks r b ≡ (marks row b || (on && marks other b))) ⌝ }
 {
-    let mut r = row;
+    let mut r = [false; 32];
     let mut j = 0;
     while j < 32 {
         r[j] = row[j] | (on & other[j]);
@@ -28,19 +29,17 @@ fn stepped(row: [bool; 32], other: [bool; 32], on: bool) -> [bool; 32]
 }
 
 // One round of closing: in the first n rows, the paths past thing k + 1 too.
-fn pass(t: [[bool; 32]; 32], k: usize, n: usize) -> [[bool; 32]; 32]
-    requires { ⌜ (k < n) × (n ≤ 32) ⌝ }
-    ensures { λ r. ⌜ Rows 32 n (round (mark t) (k + 1)) (mark t) (mark r) ⌝ }
+fn pass(t: &mut [[bool; 32]; 32], k: usize, n: usize)
+    requires { ⌜ (length (now t) ≡ 32) × (k < n) × (n ≤ 32) ⌝ }
+    ensures { λ _. ⌜ (length (now (t .exit)) ≡ 32) × Rows 32 n (round (mark (now (t .entry))) (k + 1)) (mark (now (t .entry))) (mark (now (t .exit))) ⌝ }
 {
     let other = t[k];
-    let mut r = t;
     let mut i = 0;
     while i < n {
         let row = t[i];
-        r[i] = stepped(row, other, row[k]);
+        t[i] = stepped(row, other, row[k]);
         i += 1;
     }
-    r
 }
 
 // The paths of one step or more among the first n things.
@@ -51,8 +50,7 @@ pub fn paths(t: [[bool; 32]; 32], n: usize) -> [[bool; 32]; 32]
     let mut r = t;
     let mut k = 0;
     while k < m {
-        let next = pass(r, k, m);
-        r = next;
+        pass(&mut r, k, m);
         k += 1;
     }
     r

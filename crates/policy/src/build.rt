@@ -138,9 +138,9 @@ fn grant_all(f: &[u8], s: &mut [u8], q: Parts, h: Line, t: [[bool; 32]; 32])
     let cards = h.d as usize;
     let up = order::bounds::turned(t);
     let read_at = gather::gather(s, 12304, cards);
-    gather::put_levels(s, 1808, read_at, up, n, roles);
+    gather::put_levels(s, 1808, read_at, &up, n, roles);
     let written_at = gather::gather(s, 20496, cards);
-    gather::put_levels(s, 1936, written_at, t, n, roles);
+    gather::put_levels(s, 1936, written_at, &t, n, roles);
 }
 
 // 14 to 16, by the tables in the state.

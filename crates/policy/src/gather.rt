@@ -70,9 +70,9 @@ fn any(s: [bool; 32], n: usize) -> bool
 }
 
 // The level of a set of the first n labels: its bound by the rows of t, as it is kept.
-fn level_of(t: [[bool; 32]; 32], n: usize, s: [bool; 32]) -> u8
+fn level_of(t: &[[bool; 32]; 32], n: usize, s: [bool; 32]) -> u8
     requires { ⌜ n ≤ 32 ⌝ }
-    ensures { λ r. ⌜ r ≡ shown (level n (turned (mark t)) (marks s)) ⌝ }
+    ensures { λ r. ⌜ r ≡ shown (level n (turned (mark (now (t .entry)))) (marks s)) ⌝ }
 {
     if !any(s, n) {
         return 0;
@@ -89,12 +89,12 @@ pub fn put_levels(
     s: &mut [u8],
     at: usize,
     g: [u8; 512],
-    t: [[bool; 32]; 32],
+    t: &[[bool; 32]; 32],
     n: usize,
     roles: usize,
 )
     requires { ⌜ (at + roles ≤ length (now s)) × (n ≤ 32) × (roles ≤ 128) ⌝ }
-    ensures { λ _. ⌜ Bytes at roles (λ r. shown (level n (turned (mark t)) (λ l. member g (rowOf 0 l) r))) (now (s .entry)) (now (s .exit)) ⌝ }
+    ensures { λ _. ⌜ Bytes at roles (λ r. shown (level n (turned (mark (now (t .entry)))) (λ l. member g (rowOf 0 l) r))) (now (s .entry)) (now (s .exit)) ⌝ }
 {
     let mut i = 0;
     while i < roles {

@@ -20,27 +20,26 @@ fn with_mark(row: [bool; 32], b: usize) -> [bool; 32]
     r
 }
 
-// The table with a mark for a over b, if both are labels.
-fn with_pair(t: [[bool; 32]; 32], a: usize, b: usize) -> [[bool; 32]; 32]
-    ensures { λ r. ⌜ ((x y : ℕ) → Among 32 x → Among 32 y → mark r x y ≡ (mark t x y || (eqb a x && eqb b y))) ⌝ }
+// Marks a over b in the table, if both are labels.
+fn add_pair(t: &mut [[bool; 32]; 32], a: usize, b: usize)
+    requires { ⌜ length (now t) ≡ 32 ⌝ }
+    ensures { λ _. ⌜ (length (now (t .exit)) ≡ 32) × ((x y : ℕ) → Among 32 x → Among 32 y → mark (now (t .exit)) x y ≡ (mark (now (t .entry)) x y || (eqb a x && eqb b y))) ⌝ }
 {
     if a < 1 {
-        return t;
+        return;
     }
     if 32 < a {
-        return t;
+        return;
     }
     if b < 1 {
-        return t;
+        return;
     }
     if 32 < b {
-        return t;
+        return;
     }
     let i = a - 1;
     let row = t[i];
-    let mut r = t;
-    r[i] = with_mark(row, b);
-    r
+    t[i] = with_mark(row, b);
 }
 
 // The marks of the first m lines of a part.
@@ -52,8 +51,7 @@ pub fn table_of(p: &[u8], m: usize) -> [[bool; 32]; 32]
     let mut i = 0;
     while i < m {
         let l = read::numbers_of(p, i);
-        let next = with_pair(t, l.a, l.b);
-        t = next;
+        add_pair(&mut t, l.a, l.b);
         i += 1;
     }
     t

@@ -27,15 +27,15 @@ settled m n a b t up e same h =
 
 returns : tie.Need-returns Inv-loop μ-loop
 returns c =
-    let turn = c .before .before .before .before in
+    let turn = c .before .before .before .before .before in
     let a = turn .before .before .args in
-    let w = c .before .before .before .loop in
+    let w = c .before .before .before .before .loop in
     settled _ (a .n) _ _ (a .t) (turn .turned .result) (turn .before .lesser .ensures) (turn .turned .ensures)
     (apart-found _ _ (w .i) _ (search needs) (w .inv .2) (c .before .partner .ensures) (c .if1 .taken))
 
 loop-again : tie.Need-loop-again Inv-loop μ-loop
 loop-again c =
-    let w = c .before .before .before .loop in
+    let w = c .before .before .before .before .loop in
     (search needs, search needs, none-apart-more _ _ (w .i) _ (w .inv .2) (c .before .partner .ensures) (c .if1 .left))
 
 returns-2 : tie.Need-returns-2 Inv-loop μ-loop

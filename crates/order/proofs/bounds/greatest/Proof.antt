@@ -5,6 +5,7 @@ use mathlib.Core.Bool.{Bool}
 use mathlib.Core.List.{List}
 use native.Mathlib.Omega.{arith}
 use borrow.Author.Needs.{needs}
+use denote.Ref.{now}
 use Rattle.search.specs.Search.{first}
 use Rattle.search.proofs.Found.{first-yet, first-found, first-more}
 use Rattle.order.specs.Bound.{turned, isLeast, least}
@@ -27,14 +28,14 @@ unfolding least isLeast
 returns c =
     let a = c .before .before .before .before .before .args in
     let w = c .before .before .before .before .loop in
-    first-found (leader (a .t1) (a .t2)) 32 (w .i) (omega arith) (w .inv .1) (rw (place (w .i)) (sym (c .before .leads .ensures) ∙ c .if1 .taken))
+    first-found (leader (now (a .t)) (a .t2)) 32 (w .i) (omega arith) (w .inv .1) (rw (place (w .i)) (sym (c .before .leads .ensures) ∙ c .if1 .taken))
 
 loop-again : tie.Need-loop-again Inv-loop μ-loop
 unfolding isLeast
 loop-again c =
     let a = c .before .before .before .before .before .args in
     let w = c .before .before .before .before .loop in
-    (search needs, first-more (leader (a .t1) (a .t2)) (w .i) (w .inv .1) (rw (place (w .i)) (sym (c .before .leads .ensures) ∙ c .if1 .left)))
+    (search needs, first-more (leader (now (a .t)) (a .t2)) (w .i) (w .inv .1) (rw (place (w .i)) (sym (c .before .leads .ensures) ∙ c .if1 .left)))
 
 returns-2 : tie.Need-returns-2 Inv-loop μ-loop
 unfolding least

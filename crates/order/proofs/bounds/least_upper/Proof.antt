@@ -11,8 +11,8 @@ use Rattle.order.proofs.bounds.least_upper.Tie as tie
 
 returns : tie.Need-returns
 returns c =
-    let a = c .before .before .args in
-    let round = c .before .turned in
+    let a = c .before .before .before .args in
+    let round = c .before .before .turned in
     c .greatest-lower .ensures
     ∙ lub-agree (min (a .n) 32) (turned (mark (round .result))) (mark (a .t)) (λ x y v w. round .ensures y x (omega arith) (omega arith)) (marks (a .s))
 

@@ -6,6 +6,7 @@ use mathlib.Core.Bool.{Bool, false, _&&_, and-true, and-assoc}
 use mathlib.Core.List.{List, []}
 use native.Mathlib.Omega.{arith}
 use borrow.Author.Needs.{needs}
+use denote.Ref.{now}
 use lib.Dec.{leb}
 use Rattle.search.specs.Search.{every, implies, Among}
 use Rattle.search.proofs.Found.{every-yet, every-more}
@@ -25,10 +26,10 @@ one-more t s m x i now e =
     rw (e, every-more (under t s x) i, place i) (and-assoc (leb x m) (every i (under t s x)) (implies (getD s i false) (marks (getD t i []) x)))
 
 abbrev Inv-loop : tie.InvT-loop
-Inv-loop n t s m r₀ i₀ r i = (m ≤ 32) × (i ≤ m) × ((c : ℕ) → Among 32 c → marks r c ≡ (leb c m && every i (under t s c)))
+Inv-loop t n s m r₀ i₀ r i = (m ≤ 32) × (i ≤ m) × ((c : ℕ) → Among 32 c → marks r c ≡ (leb c m && every i (under t s c)))
 
 abbrev μ-loop : tie.MeasureT-loop
-μ-loop n t s m r₀ i₀ r i = m - i
+μ-loop t n s m r₀ i₀ r i = m - i
 
 loop-holds : tie.Need-loop-holds Inv-loop μ-loop
 loop-holds c = (search needs, search needs, λ x w. c .first-things .ensures x w ∙ rw (← (every-yet _)) (sym (and-true _)))
@@ -39,7 +40,7 @@ loop-again c =
     let w = c .before .before .before .loop in (
       search needs,
       search needs,
-      λ x v. c .narrowed .ensures x v ∙ one-more (a .t1) (a .t3) _ x (w .i) _ (w .inv .2 x v),
+      λ x v. c .narrowed .ensures x v ∙ one-more (now (a .t)) (a .t3) _ x (w .i) _ (w .inv .2 x v),
     )
 
 returns : tie.Need-returns Inv-loop μ-loop

@@ -20,14 +20,19 @@ gather-requires c κs =
 
 put-levels-requires : tie.Need-put-levels-requires
 put-levels-requires c κs =
-    let start = c .before .before .before .before .before .before .before .before .before .before .before .before .before .before .before .before in
+    let grants = c .before .before .before .before .before .before .before in
+    let table = grants .before .before .before .before in
+    let start = table .before .before .before .before .before .before in
+    let length₂ = grants .grant-lines .last .1 in
+    let length₁ = table .put-table .last .1 in
+    let long = start .pre .1 in
     let counts = head-counts _ _ _ (start .pre .0) in
     (omega arith, counts .labels .1, counts .roles)
 
 gather-requires-2 : tie.Need-gather-requires-2
 gather-requires-2 c κs =
     let levels = c .before .before .before in
-    let grants = levels .before .before .before .before .before .before .before in
+    let grants = levels .before .before .before .before .before .before .before .before in
     let table = grants .before .before .before .before in
     let start = table .before .before .before .before .before .before in
     let length₃ = levels .put-levels .last .1 in
@@ -38,8 +43,8 @@ gather-requires-2 c κs =
 
 put-levels-requires-2 : tie.Need-put-levels-requires-2
 put-levels-requires-2 c κs =
-    let levels = c .before .before .before .before .before in
-    let grants = levels .before .before .before .before .before .before .before in
+    let levels = c .before .before .before .before .before .before in
+    let grants = levels .before .before .before .before .before .before .before .before in
     let table = grants .before .before .before .before in
     let start = table .before .before .before .before .before .before in
     let length₃ = levels .put-levels .last .1 in
@@ -52,9 +57,9 @@ put-levels-requires-2 c κs =
 returns : tie.Need-returns
 returns c =
     let write-levels = c .before .before in
-    let writes = write-levels .before .before in
+    let writes = write-levels .before .before .before in
     let read-levels = writes .before .before .before .before in
-    let reads = read-levels .before .before in
+    let reads = read-levels .before .before .before in
     let turns = reads .before .before in
     let grants = turns .before .before .before in
     let table = grants .before .before .before .before in
@@ -62,7 +67,7 @@ returns c =
     let start = part .before .before .before .before in
     let a = start .args in
     let (ready, long, labelled, seniors, closed, no-level, no-role) = start .pre in
-    granting (now (a .f)) (a .q) (a .h) (a .t) (turns .turned .result) (now (a .s)) (table .put-table .last .0) (grants .grant-lines .last .0)
+    granting (now (a .f)) (a .q) (a .h) (a .t5) (turns .turned .result) (now (a .s)) (table .put-table .last .0) (grants .grant-lines .last .0)
     (read-levels .put-levels .last .0) (write-levels .put-levels2 .last .0) (reads .gather .result) (writes .gather2 .result)
     ready labelled seniors closed no-level no-role
     (table .put-table .ensures .0) (table .put-table .ensures .1)

@@ -3,6 +3,7 @@ use Prim.Native.Nat.{ℕ, min, _≤_}
 use mathlib.Core.Path.{_≡_, sym, _∙_}
 use native.Mathlib.Omega.{arith}
 use borrow.Author.Needs.{needs}
+use denote.Ref.{now}
 use Rattle.search.proofs.Truth.{passed, failed}
 use Rattle.order.specs.Bound.{lub, turned}
 use Rattle.order.specs.Table.{marks, mark}
@@ -15,7 +16,7 @@ returns : tie.Need-returns
 returns c = level-empty _ _ _ (failed (c .before .any .ensures) (c .if1 .taken))
 
 -- the bound that was found
-found : (c : tie.After-greatest-lower) → let a = c .before .before .before .args in c .greatest-lower .result ≡ lub (a .n) (turned (mark (a .t))) (marks (a .s))
+found : (c : tie.After-greatest-lower) → let a = c .before .before .before .args in c .greatest-lower .result ≡ lub (a .n) (turned (mark (now (a .t)))) (marks (a .s))
 found c =
     let a = c .before .before .before .args in
     let q : min (a .n) 32 ≡ a .n = omega arith in
@@ -29,7 +30,7 @@ returns-2 c =
 cast-result : tie.Need-cast-result
 cast-result c =
     let a = c .before .before .before .before .args in
-    omega (arith, found (c .before), lub-within (a .n) (turned (mark (a .t))) (marks (a .s)))
+    omega (arith, found (c .before), lub-within (a .n) (turned (mark (now (a .t)))) (marks (a .s)))
 
 returns-3 : tie.Need-returns-3
 returns-3 c =

@@ -3,6 +3,7 @@ use Prim.Native.Nat.{ℕ, _+_, _*_, _≤_, _-_}
 use mathlib.Core.Path.{_≡_, ap, _∙_}
 use native.Mathlib.Omega.{arith}
 use borrow.Author.Needs.{needs}
+use denote.Ref.{now}
 use lib.ListN.{length}
 use Rattle.roleset.specs.Row.{member}
 use Rattle.order.specs.Bound.{turned}
@@ -29,7 +30,7 @@ loop-again c =
       search needs,
       store-more _ _ _ (w .i) _ (w .s) (w .inv .2) (search needs)
           (c .level-of .ensures
-          ∙ ap shown (level-same-set _ (turned (mark t)) _ _ (λ l v. c .before .labels-of .ensures l (omega arith)))),
+          ∙ ap shown (level-same-set _ (turned (mark (now t))) _ _ (λ l v. c .before .labels-of .ensures l (omega arith)))),
     )
 
 returns : tie.Need-returns Inv-loop μ-loop

@@ -1,0 +1,28 @@
+-- The greatest of a set that is given mark by mark.
+use Prim.Native.Nat.{ℕ, _+_}
+use mathlib.Core.Path.{_≡_, _∙_}
+use mathlib.Core.Bool.{_&&_}
+use native.Mathlib.Omega.{arith}
+use borrow.Author.Needs.{needs}
+use borrow.Author.Tests.{le-leb}
+use denote.Ref.{now}
+use Rattle.order.specs.Bound.{turned}
+use Rattle.order.specs.Table.{mark, marks}
+use Rattle.order.proofs.Bound.{least-cut}
+use Rattle.order.proofs.Stored.{place}
+use Rattle.order.proofs.bounds.greatest_common.Statement.{statement}
+use Rattle.order.proofs.bounds.greatest_common.Tie as tie
+
+returns : tie.Need-returns
+returns c =
+    let a = c .before .before .before .args in
+    let t = now (a .t) in
+    let j : ℕ = a .j in
+    c .greatest .ensures
+    ∙ least-cut 32 32 (turned (mark t)) (λ x. marks (a .s) x && mark t (j + 1) x) (marks (c .before .common .result)) (omega arith) (λ x w.
+    c .before .common .ensures x w ∙ rw (le-leb x 32 (w .1), place j))
+
+pub greatest-common-spec : {M : Type 1} → statement M
+greatest-common-spec =
+    tie.close
+    (tie.spec (λ c. search needs) (λ c. search needs) (λ c κs. search needs) (λ c κs. search needs) returns)

@@ -1,0 +1,181 @@
+//! Role files: the largest one, edits of it that are refused, and small ones.
+
+/// The lines of a role file by their letters.
+#[derive(Clone)]
+pub struct RoleFile {
+    pub counts: [usize; 4],
+    pub dominance: Vec<[usize; 2]>,
+    pub seniority: Vec<[usize; 2]>,
+    pub clearances: Vec<[usize; 2]>,
+    pub card_labels: Vec<[usize; 2]>,
+    pub permissions: Vec<[usize; 3]>,
+    pub assignments: Vec<[usize; 2]>,
+}
+
+fn put_line(bytes: &mut Vec<u8>, letter: char, numbers: &[usize]) {
+    let mut line = letter.to_string();
+    for number in numbers {
+        line += &format!("{number:5}");
+    }
+    bytes.extend(format!("{line:21}\n").into_bytes());
+}
+
+impl RoleFile {
+    /// The file's bytes, lines as they stand.
+    pub fn bytes(&self) -> Vec<u8> {
+        let mut bytes = Vec::new();
+        put_line(&mut bytes, 'H', &self.counts);
+        let pairs = [
+            ('D', &self.dominance),
+            ('S', &self.seniority),
+            ('U', &self.clearances),
+            ('O', &self.card_labels),
+        ];
+        for (letter, lines) in pairs {
+            lines
+                .iter()
+                .for_each(|line| put_line(&mut bytes, letter, line));
+        }
+        self.permissions
+            .iter()
+            .for_each(|line| put_line(&mut bytes, 'P', line));
+        self.assignments
+            .iter()
+            .for_each(|line| put_line(&mut bytes, 'A', line));
+        bytes
+    }
+
+    /// The bytes after an edit.
+    fn edited(&self, edit: impl FnOnce(&mut RoleFile)) -> Vec<u8> {
+        let mut file = self.clone();
+        edit(&mut file);
+        file.bytes()
+    }
+}
+
+/// The largest counts and 2,900 lines, accepted.
+///
+/// Labels 1 to 28 are a tree that grows upward, 29 is over its leaves, 31 and 32 over 29, and 30
+/// over both. Roles are a chain with shortcuts. Roles read in the tree and write above it, and
+/// every user is cleared to 29, so each assignment passes.
+pub fn largest() -> RoleFile {
+    let mut dominance: Vec<_> = (2..=28).map(|a| [a, a / 2]).collect();
+    dominance.extend((15..=28).map(|leaf| [29, leaf]));
+    dominance.extend([[30, 31], [30, 32], [31, 29], [32, 29]]);
+
+    let mut seniority: Vec<_> = (2..=128).map(|r| [r, r - 1]).collect();
+    seniority.extend((3..=128).map(|r| [r, r / 2]));
+
+    let mut permissions = Vec::new();
+    for r in 1..=128 {
+        let reads = if r <= 41 { 8 } else { 7 };
+        permissions.extend((0..reads).map(|j| [r, 1 + (37 * r + 56 * j) % 448, 1]));
+        permissions.extend((0..3).map(|j| [r, 449 + (5 * r + 21 * j) % 64, 2]));
+    }
+
+    let mut assignments = Vec::new();
+    for u in 1..=256 {
+        assignments.extend([[u, 1 + 3 * u % 128], [u, 1 + (3 * u + 64) % 128]]);
+    }
+
+    seniority.sort_unstable();
+    permissions.sort_unstable();
+    assignments.sort_unstable();
+    RoleFile {
+        counts: [32, 128, 256, 512],
+        dominance,
+        seniority,
+        clearances: (1..=256).map(|u| [u, 29]).collect(),
+        card_labels: (1..=512)
+            .map(|o| [o, if o <= 448 { 1 + o % 28 } else { 29 + o % 4 }])
+            .collect(),
+        permissions,
+        assignments,
+    }
+}
+
+/// The counts 1 0 0 0 and no other line.
+pub fn smallest() -> Vec<u8> {
+    let mut bytes = Vec::new();
+    put_line(&mut bytes, 'H', &[1, 0, 0, 0]);
+    bytes
+}
+
+/// Puts a line in another's place.
+fn replace(lines: &mut [[usize; 2]], old: [usize; 2], new: [usize; 2]) {
+    *lines
+        .iter_mut()
+        .find(|line| **line == old)
+        .expect("the file has the line") = new;
+}
+
+/// Edits of the largest file, each refused at the end of a stage of the load: what the stage does,
+/// and the number. A load's time up to one of them less the time up to the one before is the stage's.
+pub fn stages() -> Vec<(&'static str, u64, Vec<u8>)> {
+    let file = largest();
+    let last = file.assignments.len() - 1;
+    vec![
+        (
+            "zeroing, and form of lines",
+            5,
+            file.edited(|f| f.assignments.swap(last - 1, last)),
+        ),
+        (
+            "clearances and card labels",
+            6,
+            file.edited(|f| f.card_labels[510] = [510, 32]),
+        ),
+        (
+            "closure of dominance",
+            11,
+            file.edited(|f| replace(&mut f.dominance, [32, 29], [32, 32])),
+        ),
+        (
+            "least upper bounds of pairs",
+            12,
+            file.edited(|f| replace(&mut f.dominance, [30, 31], [30, 29])),
+        ),
+        (
+            "closure of seniority",
+            13,
+            file.edited(|f| replace(&mut f.seniority, [128, 127], [128, 128])),
+        ),
+        (
+            "grants, levels, assignments",
+            16,
+            file.edited(|f| replace(&mut f.clearances, [256, 29], [256, 30])),
+        ),
+    ]
+}
+
+/// Small files and edits that are refused, with the numbers that stages do not have.
+pub fn refused() -> Vec<(u64, Vec<u8>)> {
+    let file = largest();
+    let bytes = file.bytes();
+    let mut malformed = bytes.clone();
+    malformed[22 * 2899 + 5] = b'x';
+    let mut long = bytes.clone();
+    long.extend_from_slice(&bytes[..22]);
+    let no_bound = RoleFile {
+        counts: [3, 1, 1, 2],
+        dominance: vec![[3, 1], [3, 2]],
+        seniority: vec![],
+        clearances: vec![[1, 3]],
+        card_labels: vec![[1, 1], [2, 2]],
+        permissions: vec![[1, 1, 2], [1, 2, 2]],
+        assignments: vec![[1, 1]],
+    };
+    vec![
+        (1, vec![]),
+        (1, bytes[..bytes.len() - 1].to_vec()),
+        (1, long),
+        (2, malformed),
+        (3, file.edited(|f| f.counts[0] = 33)),
+        (4, file.edited(|f| f.permissions[700][2] = 3)),
+        (5, file.edited(|f| f.permissions.swap(0, 1))),
+        (6, file.edited(|f| f.clearances[9] = [9, 32])),
+        (12, file.edited(|f| f.dominance.truncate(1))),
+        (14, no_bound.bytes()),
+        (15, file.edited(|f| f.clearances[0] = [1, 1])),
+    ]
+}

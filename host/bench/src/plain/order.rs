@@ -1,0 +1,94 @@
+//! An order of up to 32 labels as rows of marks: the row of a label has the labels under it.
+
+pub type Set = [bool; 32];
+pub type Table = [Set; 32];
+
+/// Leaves the paths of one step or more among the first n labels.
+pub fn close(table: &mut Table, n: usize) {
+    for k in 0..n {
+        let other = table[k];
+        for row in &mut table[..n] {
+            let on = row[k];
+            for (mark, &also) in row.iter_mut().zip(&other) {
+                *mark |= on & also;
+            }
+        }
+    }
+}
+
+/// The lowest label that has a path to itself, or 0.
+pub fn lowest_loop(table: &Table, n: usize) -> usize {
+    (0..n).find(|&i| table[i][i]).map_or(0, |i| i + 1)
+}
+
+/// Each of the first n labels with itself.
+pub fn reflect(table: &mut Table, n: usize) {
+    for (i, row) in table[..n].iter_mut().enumerate() {
+        row[i] = true;
+    }
+}
+
+/// The order turned round.
+pub fn turned(table: &Table) -> Table {
+    let mut turned = [[false; 32]; 32];
+    for i in 0..32 {
+        for j in 0..32 {
+            turned[j][i] = table[i][j];
+        }
+    }
+    turned
+}
+
+fn first_labels(n: usize) -> Set {
+    let mut set = [false; 32];
+    set[..n].fill(true);
+    set
+}
+
+fn narrow(set: &mut Set, other: &Set) {
+    for (mark, &also) in set.iter_mut().zip(other) {
+        *mark &= also;
+    }
+}
+
+/// Whether all of the set is in the other.
+fn within(set: &Set, other: &Set) -> bool {
+    set.iter()
+        .zip(other)
+        .fold(true, |all, (&mark, &also)| all & (!mark | also))
+}
+
+/// The greatest of the set, or 0.
+fn greatest(table: &Table, set: &Set) -> usize {
+    (0..32)
+        .find(|&i| set[i] && within(set, &table[i]))
+        .map_or(0, |i| i + 1)
+}
+
+/// The greatest lower bound of the set among the first n labels, or 0.
+pub fn greatest_lower(table: &Table, n: usize, set: &Set) -> usize {
+    let mut bounds = first_labels(n);
+    for i in 0..n {
+        if set[i] {
+            narrow(&mut bounds, &table[i]);
+        }
+    }
+    greatest(table, &bounds)
+}
+
+/// The first pair among the first n labels that has no least upper bound.
+pub fn first_pair(table: &Table, n: usize) -> Option<(usize, usize)> {
+    let up = turned(table);
+    for i in 0..n {
+        let mut over = first_labels(n);
+        narrow(&mut over, &up[i]);
+        for j in i + 1..n {
+            let mut bounds = over;
+            narrow(&mut bounds, &up[j]);
+            if greatest(&up, &bounds) == 0 {
+                return Some((i + 1, j + 1));
+            }
+        }
+    }
+    None
+}
