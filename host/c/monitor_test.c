@@ -435,6 +435,39 @@ static void every_number(void)
     free(file);
 }
 
+/* "Other calls check in order of number": what else is wrong comes later. */
+static void order_of_numbers(void)
+{
+    uint8_t *state = bytes_of(STATE_BYTES, 0);
+    about = "order of numbers";
+    verdict(load(example, state), 0, 0, 0, "the example: accepted");
+    number(monitor_open(state, STATE_BYTES, 65, FARTHEST, FARTHEST), 22,
+           "open: 22 before 25");
+    number(monitor_take(state, STATE_BYTES, 1, FARTHEST), 24,
+           "take: 24 before 25");
+    number(monitor_drop(state, STATE_BYTES, 1, 0), 24, "drop: 24 before 25");
+    number(monitor_read_number(state, STATE_BYTES, NULL, 0, 1, FARTHEST,
+                               FARTHEST, FARTHEST),
+           24, "read: 24 before 25, 30 and 31");
+    number(monitor_open(state, STATE_BYTES, 1, 1, 1), 0, "user 1 at label 1");
+    number(monitor_open(state, STATE_BYTES, 1, FARTHEST, FARTHEST), 23,
+           "open: 23 before 25");
+    number(monitor_read_number(state, STATE_BYTES, NULL, 0, 1, FARTHEST,
+                               FARTHEST, FARTHEST),
+           25, "read: 25 before 29, 30 and 31");
+    number(monitor_read_number(state, STATE_BYTES, NULL, 0, 1, 1, FARTHEST,
+                               FARTHEST),
+           29, "read: 29 before 30 and 31");
+    number(monitor_take(state, STATE_BYTES, 1, 1), 0,
+           "takes role 1, a junior of the role assigned");
+    number(monitor_read_number(state, STATE_BYTES, NULL, 0, 1, 1, FARTHEST,
+                               FARTHEST),
+           30, "read: 30 before 31");
+    number(monitor_read_number(state, STATE_BYTES, NULL, 0, 1, 1, 0, 0), 31,
+           "read: 31, also of no bytes");
+    free(state);
+}
+
 /* A circle of role flow: role 2 writes card 1 for 3, role 3 card 2 for 2. */
 static void role_flow(void)
 {
@@ -550,6 +583,7 @@ int main(void)
     offset_and_length();
     opening_and_closing();
     every_number();
+    order_of_numbers();
     role_flow();
     short_buffers();
     printf("%u passed, %u failed\n", passed, failed);
