@@ -17,3 +17,4 @@ pub mod Dominance
 pub mod Flowing
 pub mod Builds
 pub mod Loads
+pub mod Meaning
