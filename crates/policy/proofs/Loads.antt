@@ -31,6 +31,7 @@ load-short f xs v l e = record {
   refused = λ h. refl;
   done = λ z. let n : v .number ≡ 7 = ap (λ (w : Verdict). w .number) e in absurd (omega arith);
   rest = λ i m. refl;
+  long = refl;
 }
   where
     short : refusal 7 0 0 ≡ loadVerdict (length xs) f
@@ -41,12 +42,14 @@ unfolding loadVerdict
 long f xs l = rw (le-leb stateSize (length xs) l)
 
 pub load-refused : (f xs ys : List ℕ) (v : Verdict) → 65536 ≤ length xs → Built f v ys → (v .number ≡ 0 → ⊥) → Loaded f v xs xs
-load-refused f xs ys v l b h = record { answer = b .answer ∙ long f xs l; refused = λ h. refl; done = λ z. absurd (h z); rest = λ i m. refl }
+load-refused f xs ys v l b h = record { answer = b .answer ∙ long f xs l; refused = λ h. refl; done = λ z. absurd (h z); rest = λ i m. refl; long = refl }
 
-pub load-done : (f xs ys zs : List ℕ) (v : Verdict) → 65536 ≤ length xs → Built f v ys → v .number ≡ 0 → Copied 65536 ys xs zs → Loaded f v xs zs
-load-done f xs ys zs v l b z c = record {
+pub load-done : (f xs ys zs : List ℕ) (v : Verdict) → 65536 ≤ length xs → Built f v ys → v .number ≡ 0 → Copied 65536 ys xs zs → length zs ≡ length xs
+    → Loaded f v xs zs
+load-done f xs ys zs v l b z c same = record {
   answer = b .answer ∙ long f xs l;
   refused = λ h. absurd (h z);
   done = λ e. image-copied f xs ys zs c (b .done z);
   rest = λ i m. c .rest i m;
+  long = same;
 }

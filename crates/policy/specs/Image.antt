@@ -74,3 +74,4 @@ pub record Loaded (f : List ℕ) (v : Verdict) (xs ys : List ℕ) : Type 0 where
   pub refused : (v .number ≡ 0 → ⊥) → ys ≡ xs
   pub done : v .number ≡ 0 → Image f ys
   pub rest : (i : ℕ) → stateSize ≤ i → getD ys i 0 ≡ getD xs i 0
+  pub long : length ys ≡ length xs
