@@ -18,3 +18,4 @@ pub mod Flowing
 pub mod Builds
 pub mod Loads
 pub mod Meaning
+pub mod Settled
