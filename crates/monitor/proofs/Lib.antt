@@ -1,2 +1,4 @@
 pub mod Answers
 pub mod Holding
+pub mod Frames
+pub mod Orderly

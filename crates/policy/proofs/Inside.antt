@@ -12,11 +12,11 @@ use Rattle.search.specs.Search.{Among}
 use Rattle.search.proofs.Truth.{or-iff, and-iff, both}
 use Rattle.search.proofs.Found.{some-iff, last-or}
 use Rattle.order.specs.Closure.{Relation, via, path, closure}
-use Rattle.rolefile.specs.Line.{H, D, S, O, lineAt, lines}
+use Rattle.rolefile.specs.Line.{H, D, S, O, A, lineAt, lines}
 use Rattle.rolefile.specs.Form.{header, firstLimit, secondLimit, about}
-use Rattle.rolefile.specs.Said.{labels, roles, is, says, over, above, last, labelBy, cardLabel}
+use Rattle.rolefile.specs.Said.{labels, roles, users, is, says, over, above, assigned, last, labelBy, cardLabel}
 use Rattle.rolefile.specs.WellFormed.{GoodNumbers, One}
-use Rattle.policy.proofs.Readying.{Good, limits-d, limits-s, limits-o}
+use Rattle.policy.proofs.Readying.{Good, limits-d, limits-s, limits-o, limits-a}
 
 -- a relation between the things 1 to n alone
 abbrev pub Between : ℕ → Relation → Type 0
@@ -73,6 +73,9 @@ module _ (f : List ℕ) (good : Good f) where
 
   pub above-between : Between (roles f) (above f)
   above-between r q h = rw (limits-s (header f) .0, limits-s (header f) .1) at (said-known S r q 0 (omega arith) h)
+
+  pub assigned-known : (u r : ℕ) → assigned f u r ≡ true → Among (users f) u × Among (roles f) r
+  assigned-known u r h = rw (limits-a (header f) .0, limits-a (header f) .1) at (said-known A u r 0 (omega arith) h)
 
   -- the label of a thing that has one line of the letter k
   label-known : (k x : ℕ) → H < k → One f k x → Among (secondLimit (header f) k) (labelBy f k x)
