@@ -2,3 +2,5 @@ pub mod Answers
 pub mod Holding
 pub mod Frames
 pub mod Orderly
+pub mod Stands
+pub mod InFile
