@@ -4,3 +4,4 @@ pub mod Frames
 pub mod Orderly
 pub mod Stands
 pub mod InFile
+pub mod Demand2

@@ -89,6 +89,9 @@ taking f r s h =
     let c = unless-done (suits f (s .label) r) 28 _ (omega arith) (b .1) in
     (among-iff (roles f) r .0 (a .0), b .0, c .0)
 
+pub dropping : (f : List ℕ) (r : ℕ) → unless (among (roles f) r) 25 0 ≡ 0 → Among (roles f) r
+dropping f r h = among-iff (roles f) r .0 (unless-done (among (roles f) r) 25 0 (omega arith) h .0)
+
 -- ---- each call keeps it so
 
 pub either-way : {A : Type 0} (P : A → Type 0) (n : ℕ) (new old : A) → (n ≡ 0 → P new) → P old → P (ifDone n new old)
