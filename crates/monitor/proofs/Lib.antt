@@ -5,3 +5,4 @@ pub mod Orderly
 pub mod Stands
 pub mod InFile
 pub mod Demand2
+pub mod History

@@ -2,3 +2,4 @@ pub mod Session
 pub mod Calls
 pub mod Runs
 pub mod Rules
+pub mod Granted
