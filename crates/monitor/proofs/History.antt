@@ -181,3 +181,81 @@ module _ (f : List ℕ) (p : ℕ) (set : ℕ → Bool) (call : Call) (Good : Ses
       (which-way So (dropRule f t q r) (put t q (Option·map (without r) (t q))) t h)
   back-next (reads q o k n) h = inl (h, refl)
   back-next (writes q o k bytes) h = inl (h, refl)
+
+-- ---- along a list
+
+module _ (f : List ℕ) (p : ℕ) (set : ℕ → Bool) (call : Call) (Good : Session → Type 0) (kind : Kind p set call Good)
+    (begins : (t : Sessions) → rule f 0 t call ≡ 0 → Sat Good (next f t call p)) where
+  lasts-on : (cs : List Call) (t : Sessions) → Orderly f t → Sat Good (t p) → NoneEnds p set cs → Sat Good (sessions f t cs p)
+  unfolding sessions
+  lasts-on [] t k h lasting = h
+  lasts-on (c ∷ cs) t k h (e, lasting) = lasts-on cs (next f t c) (orderly-next f t k c) (lasts-next f p set call Good kind t k c h e) lasting
+
+  came : (cs : List Call) (t : Sessions) → Orderly f t → Sat Good (sessions f t cs p) → (Sat Good (t p) × NoneEnds p set cs) ⊎ Since f t p set call cs
+  unfolding sessions
+  came [] t k h = inl (h, tt)
+  came (c ∷ cs) t k h =
+      ⊎-elim
+      (λ (so, lasting).
+      ⊎-elim
+      (λ (before, e). inl (before, (e, lasting)))
+      (λ (e, z). inr (record { earlier = []; later = cs; split = ap (λ (d : Call). d ∷ cs) e; done = rw e at z; lasts = lasting }))
+      (back-next f p set call Good kind t k c so))
+      (λ s.
+      inr (record { earlier = c ∷ s .earlier; later = s .later; split = ap (λ (ds : List Call). c ∷ ds) (s .split); done = s .done; lasts = s .lasts }))
+      (came cs (next f t c) (orderly-next f t k c) h)
+
+  pub since-iff : (cs : List Call) → Sat Good (sessions f nobody cs p) ↔ Since f nobody p set call cs
+  unfolding sessions
+  since-iff cs = (
+    λ h. ⊎-elim (λ (so, lasting). absurd so) (λ s. s) (came cs nobody (nobody-orderly f) h),
+    λ s.
+    let t = sessions f nobody (s .earlier) in
+    let k = orderly-sessions f (s .earlier) nobody (nobody-orderly f) in
+    rw (s .split, sessions-append f (s .earlier) (call ∷ s .later) nobody)
+    (lasts-on (s .later) (next f t call) (orderly-next f t k call) (begins t (s .done)) (s .lasts)),
+  )
+
+-- ---- who sits there, and what is held
+
+module _ (f : List ℕ) (cs : List Call) (p : ℕ) where
+  abbrev pub Opened : ℕ → ℕ → Session → Type 0
+  Opened u l s = (s .user ≡ u) × (s .label ≡ l)
+
+  sits-kind : (u l : ℕ) → Kind p (λ r. false) (opens p u l) (Opened u l)
+  sits-kind u l = record {
+    opened = λ v m (e, g). rw (e, g);
+    taken = λ r s g. inl g;
+    keeps = λ r s g. g;
+    dropped = λ r s g. (g, refl);
+    spares = λ r s g e. g;
+    role = λ f s a g r e. absurd (false≢true e);
+  }
+
+  pub sits-iff : (u l : ℕ) → Sat (Opened u l) (sessions f nobody cs p) ↔ Sits f cs p u l
+  unfolding rule next ifDone
+  sits-iff u l = since-iff f p (λ r. false) (opens p u l) (Opened u l) (sits-kind u l) (λ t z. rw (z, eq-eqb p p refl) (refl, refl)) cs
+
+  abbrev pub Held : ℕ → Session → Type 0
+  Held r s = s .held r ≡ true
+
+  holds-kind : (r : ℕ) → Kind p (λ q. eqb q r) (takes p r) (Held r)
+  holds-kind r = record {
+    opened = λ u l g. absurd (false≢true g);
+    taken = λ q s g. ⊎-elim (λ h. inl h) (λ e. inr (rw (eqb-true r q e))) (or-iff (s .held r) (eqb r q) .0 g);
+    keeps = λ q s g. or-iff (s .held r) (eqb r q) .1 (inl g);
+    dropped = λ q s g.
+        let (h, n) = and-iff (s .held r) (not (eqb r q)) .0 g in
+        (h, untrue (eqb q r) (λ e. both (eq-eqb r q (sym (eqb-true q r e))) (not-true (eqb r q) n)));
+    spares = λ q s g e. rw (g, ne-eqb r q (λ i. both (eq-eqb q r (sym i)) e));
+    role = λ f s a g q e. rw (eqb-true q r e) (a .roles r g .0);
+  }
+
+  pub holds-iff : (r : ℕ) → Sat (Held r) (sessions f nobody cs p) ↔ Holds f cs p r
+  unfolding rule next ifDone takeRule
+  holds-iff r = since-iff f p (λ q. eqb q r) (takes p r) (Held r) (holds-kind r) begun cs
+    where
+      begun : (t : Sessions) → takeRule f t p r ≡ 0 → Sat (Held r) (next f t (takes p r) p)
+      begun t z =
+          let a = seated-done t p (λ s. unless (among (roles f) r) 25 (unless (belongs f (s .user) r) 27 (unless (suits f (s .label) r) 28 0))) z in
+          rw (z, eq-eqb p p refl, a .sits) (or-iff (a .session .held r) (eqb r r) .1 (inr (eq-eqb r r refl)))

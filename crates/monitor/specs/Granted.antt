@@ -12,7 +12,7 @@ use Rattle.rolefile.specs.Said.{labels, roles, users, cards, clearance, assigne
 use Rattle.policy.specs.Policy.{dominates, senior, may, mayAt}
 use Rattle.policy.specs.Accepted.{Passing}
 use Rattle.monitor.specs.Runs.{Call, opens, closes, takes, drops, reads, writes}
-use Rattle.monitor.specs.Rules.{nobody, rule, sessions}
+use Rattle.monitor.specs.Rules.{Sessions, nobody, rule, sessions}
 
 -- ---- what stands since a call
 
@@ -29,21 +29,21 @@ abbrev pub NoneEnds : ℕ → (ℕ → Bool) → List Call → Type 0
 NoneEnds p set [] = Unit {0}
 NoneEnds p set (c ∷ cs) = (ends p set c ≡ false) × NoneEnds p set cs
 
--- among the calls cs is this one, it was done, and none after it ends what it began
-pub record Since (f : List ℕ) (p : ℕ) (set : ℕ → Bool) (call : Call) (cs : List Call) : Type 0 where
+-- among the calls cs, which found the sessions t, is this one, it was done, and none after it ends what it began
+pub record Since (f : List ℕ) (t : Sessions) (p : ℕ) (set : ℕ → Bool) (call : Call) (cs : List Call) : Type 0 where
   pub earlier : List Call
   pub later : List Call
   pub split : cs ≡ earlier ++ (call ∷ later)
-  pub done : rule f 0 (sessions f nobody earlier) call ≡ 0
+  pub done : rule f 0 (sessions f t earlier) call ≡ 0
   pub lasts : NoneEnds p set later
 
 -- place p was opened for user u at label l, and not closed since
 abbrev pub Sits : List ℕ → List Call → ℕ → ℕ → ℕ → Type 0
-Sits f cs p u l = Since f p (λ r. false) (opens p u l) cs
+Sits f cs p u l = Since f nobody p (λ r. false) (opens p u l) cs
 
 -- role r was taken at place p, and neither dropped nor the place closed since
 abbrev pub Holds : List ℕ → List Call → ℕ → ℕ → Type 0
-Holds f cs p r = Since f p (λ q. eqb q r) (takes p r) cs
+Holds f cs p r = Since f nobody p (λ q. eqb q r) (takes p r) cs
 
 -- ---- when each call is done
 
