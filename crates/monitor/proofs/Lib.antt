@@ -6,3 +6,4 @@ pub mod Stands
 pub mod InFile
 pub mod Demand2
 pub mod History
+pub mod Grants
