@@ -202,7 +202,7 @@ module _ (f : List ℕ) (accepted : Accepted f) (xs ys : List ℕ) (v : Verdict)
         let w = left-runs in
         let tables = w .stands .tables in
         let e : n ≡ unless (among (roles f) q) 25 (unless (among (roles f) r) 25 0) =
-            h .number ∙ test-passed 21 (sound-file f form (sessions f nobody cs) (w .known) (left .state) (w .stands)) ∙ rw (tables .counted .roles) in
+        h .number ∙ test-passed 21 (sound-file f form (sessions f nobody cs) (w .known) (left .state) (w .stands)) ∙ rw (tables .counted .roles) in
         (e, h .answer ∙ rw (← (h .number)) (by n e))
       where
         by : (n : ℕ) → n ≡ unless (among (roles f) q) 25 (unless (among (roles f) r) 25 0)

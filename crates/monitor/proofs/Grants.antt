@@ -65,16 +65,16 @@ module _ (f : List ℕ) (cs : List Call) where
   unfolding openRule unless
   open-iff p u l = (
     λ h.
-    let o = opening f now p u l h in
-    record { place = o .place; free = free-iff p .0 (o .free); user = o .user; label = o .label; cleared = o .cleared },
+        let o = opening f now p u l h in
+        record { place = o .place; free = free-iff p .0 (o .free); user = o .user; label = o .label; cleared = o .cleared },
     λ g.
-    rw (
-      among-iff 64 p .1 (g .place),
-      free-iff p .1 (g .free),
-      among-iff (users f) u .1 (g .user),
-      among-iff (labels f) l .1 (g .label),
-      g .cleared,
-    ),
+        rw (
+          among-iff 64 p .1 (g .place),
+          free-iff p .1 (g .free),
+          among-iff (users f) u .1 (g .user),
+          among-iff (labels f) l .1 (g .label),
+          g .cleared,
+        ),
   )
 
   close-iff : (p : ℕ) → (closeRule now p ≡ 0) ↔ Seated f cs p
@@ -90,11 +90,11 @@ module _ (f : List ℕ) (cs : List Call) where
   unfolding dropRule unless
   drop-iff p r = (
     λ h.
-    let a = seated-done now p (λ s. unless (among (roles f) r) 25 0) h in
-    record { session = there p (a .session) (a .sits); role = dropping f r (a .done) },
+        let a = seated-done now p (λ s. unless (among (roles f) r) 25 0) h in
+        record { session = there p (a .session) (a .sits); role = dropping f r (a .done) },
     λ g.
-    let (s, e, k) = session-of p (g .session) in
-    seated-of p s (λ s. unless (among (roles f) r) 25 0) e (rw (among-iff (roles f) r .1 (g .role))),
+        let (s, e, k) = session-of p (g .session) in
+        seated-of p s (λ s. unless (among (roles f) r) 25 0) e (rw (among-iff (roles f) r .1 (g .role))),
   )
 
   belongs-iff : (u r : ℕ) → (belongs f u r ≡ true) ↔ ((q : ℕ) × Among (roles f) q × (assigned f u q ≡ true) × (senior f q r ≡ true))
@@ -122,16 +122,16 @@ module _ (f : List ℕ) (cs : List Call) where
     unfolding takeRule unless
     take-iff p r = (
       λ h.
-      let a = seated-done now p rest h in
-      let s = a .session in
-      let (w, b, c) = taking f r s (a .done) in
-      let (i, j) = suits-iff (s .label) r .0 c in
-      record { session = there p s (a .sits); role = w; member = belongs-iff (s .user) r .0 b; reads = i; writes = j },
+          let a = seated-done now p rest h in
+          let s = a .session in
+          let (w, b, c) = taking f r s (a .done) in
+          let (i, j) = suits-iff (s .label) r .0 c in
+          record { session = there p s (a .sits); role = w; member = belongs-iff (s .user) r .0 b; reads = i; writes = j },
       λ g.
-      let (s, e, (u, l)) = session-of p (g .session) in
-      let b = belongs-iff (g .session .user) r .1 (g .member) in
-      let c = suits-iff (g .session .label) r .1 (g .reads, g .writes) in
-      seated-of p s rest e (rw (among-iff (roles f) r .1 (g .role), u, l, b, c)),
+          let (s, e, (u, l)) = session-of p (g .session) in
+          let b = belongs-iff (g .session .user) r .1 (g .member) in
+          let c = suits-iff (g .session .label) r .1 (g .reads, g .writes) in
+          seated-of p s rest e (rw (among-iff (roles f) r .1 (g .role), u, l, b, c)),
     )
       where
         rest : Session → ℕ
@@ -143,13 +143,13 @@ module _ (f : List ℕ) (cs : List Call) where
   unfolding uses
   uses-iff m p o s e = (
     λ h.
-    let (r, w, k) = some-iff test (roles f) .0 h in
-    let (a, b) = and-iff (s .held r) (may f m r o) .0 k in
-    (r, holds-iff f cs p r .0 (rw e a), b),
+        let (r, w, k) = some-iff test (roles f) .0 h in
+        let (a, b) = and-iff (s .held r) (may f m r o) .0 k in
+        (r, holds-iff f cs p r .0 (rw e a), b),
     λ (r, k, b).
-    let a : s .held r ≡ true = rw e at (holds-iff f cs p r .1 k) in
-    let adm : Admitted f p s = rw e at (known p) in
-    some-iff test (roles f) .1 (r, adm .roles r a .0, and-iff (s .held r) (may f m r o) .1 (a, b)),
+        let a : s .held r ≡ true = rw e at (holds-iff f cs p r .1 k) in
+        let adm : Admitted f p s = rw e at (known p) in
+        some-iff test (roles f) .1 (r, adm .roles r a .0, and-iff (s .held r) (may f m r o) .1 (a, b)),
   )
     where
       test : ℕ → Bool
@@ -159,28 +159,28 @@ module _ (f : List ℕ) (cs : List Call) where
   unfolding partRule unless
   part-iff m size p o k n = (
     λ h.
-    let a = seated-done now p rest h in
-    let s = a .session in
-    let (i, b) = unless-done (among (cards f) o) 25 _ (omega arith) (a .done) in
-    let (j, c) = unless-done (uses f m s o) 29 _ (omega arith) b in
-    let (x, d) = unless-done (leb (k + n) 64) 30 _ (omega arith) c in
-    let (y, z) = unless-done (leb (64 * cards f) size) 31 _ (omega arith) d in
-    record {
-      session = there p s (a .sits);
-      card = among-iff (cards f) o .0 i;
-      role = uses-iff m p o s (a .sits) .0 j;
-      inCard = leb-true (k + n) 64 x;
-      inStore = leb-true (64 * cards f) size y;
-    },
+        let a = seated-done now p rest h in
+        let s = a .session in
+        let (i, b) = unless-done (among (cards f) o) 25 _ (omega arith) (a .done) in
+        let (j, c) = unless-done (uses f m s o) 29 _ (omega arith) b in
+        let (x, d) = unless-done (leb (k + n) 64) 30 _ (omega arith) c in
+        let (y, z) = unless-done (leb (64 * cards f) size) 31 _ (omega arith) d in
+        record {
+          session = there p s (a .sits);
+          card = among-iff (cards f) o .0 i;
+          role = uses-iff m p o s (a .sits) .0 j;
+          inCard = leb-true (k + n) 64 x;
+          inStore = leb-true (64 * cards f) size y;
+        },
     λ g.
-    let (s, e, same) = session-of p (g .session) in
-    seated-of p s rest e
-    (rw (
-      among-iff (cards f) o .1 (g .card),
-      uses-iff m p o s e .1 (g .role),
-      le-leb (k + n) 64 (g .inCard),
-      le-leb (64 * cards f) size (g .inStore),
-    )),
+        let (s, e, same) = session-of p (g .session) in
+        seated-of p s rest e
+        (rw (
+          among-iff (cards f) o .1 (g .card),
+          uses-iff m p o s e .1 (g .role),
+          le-leb (k + n) 64 (g .inCard),
+          le-leb (64 * cards f) size (g .inStore),
+        )),
   )
     where
       rest : Session → ℕ

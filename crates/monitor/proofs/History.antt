@@ -175,9 +175,12 @@ module _ (f : List ℕ) (p : ℕ) (set : ℕ → Bool) (call : Call) (Good : Ses
       ])
       (λ (z, g).
       let (s, sits, good) = sat-some Good (t p) g in
-      inl (g, untrue (eqb q p && set r) (λ e.
-      let (i, j) = and-iff (eqb q p) (set r) .0 e in
-      z (rw (eqb-true q p i) (drop-done f t known p s sits r (kind .role f s (rw sits at (known p)) good r j))))))
+      inl (
+        g,
+        untrue (eqb q p && set r) (λ e.
+            let (i, j) = and-iff (eqb q p) (set r) .0 e in
+            z (rw (eqb-true q p i) (drop-done f t known p s sits r (kind .role f s (rw sits at (known p)) good r j)))),
+      ))
       (which-way So (dropRule f t q r) (put t q (Option·map (without r) (t q))) t h)
   back-next (reads q o k n) h = inl (h, refl)
   back-next (writes q o k bytes) h = inl (h, refl)
@@ -210,10 +213,10 @@ module _ (f : List ℕ) (p : ℕ) (set : ℕ → Bool) (call : Call) (Good : Ses
   since-iff cs = (
     λ h. ⊎-elim (λ (so, lasting). absurd so) (λ s. s) (came cs nobody (nobody-orderly f) h),
     λ s.
-    let t = sessions f nobody (s .earlier) in
-    let k = orderly-sessions f (s .earlier) nobody (nobody-orderly f) in
-    rw (s .split, sessions-append f (s .earlier) (call ∷ s .later) nobody)
-    (lasts-on (s .later) (next f t call) (orderly-next f t k call) (begins t (s .done)) (s .lasts)),
+        let t = sessions f nobody (s .earlier) in
+        let k = orderly-sessions f (s .earlier) nobody (nobody-orderly f) in
+        rw (s .split, sessions-append f (s .earlier) (call ∷ s .later) nobody)
+        (lasts-on (s .later) (next f t call) (orderly-next f t k call) (begins t (s .done)) (s .lasts)),
   )
 
 -- ---- who sits there, and what is held

@@ -7,3 +7,4 @@ pub mod InFile
 pub mod Demand2
 pub mod History
 pub mod Grants
+pub mod Cases

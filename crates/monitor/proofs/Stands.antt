@@ -113,7 +113,7 @@ module _ (xs : List ℕ) (p : ℕ) (long : 65536 ≤ length xs) (w : Among 64 p)
       byte k m = written-in xs (placeAt p) (seat u l) (omega arith) k m
 
       no-role : (k : ℕ) → k < 16 → getD ys (heldAt p + k) 0 ≡ 0
-      no-role k m = 
+      no-role k m =
           let z : heldAt p + k ≡ placeAt p + (4 + k) = omega arith in
           let n : 4 + k ≡ suc (suc (suc (suc k))) = omega arith in
           ap (λ (i : ℕ). getD ys i 0) z ∙ byte (4 + k) (omega arith) ∙ ap (λ (i : ℕ). getD (seat u l) i 0) n ∙ getD-replicate 17 (suc k) 0 0 (omega arith)

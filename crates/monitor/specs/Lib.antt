@@ -3,3 +3,4 @@ pub mod Calls
 pub mod Runs
 pub mod Rules
 pub mod Granted
+pub mod Cases

@@ -1,4 +1,3 @@
-pub mod Cases
 pub mod Levels
 pub mod Checks
 pub mod Outcomes
