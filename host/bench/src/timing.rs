@@ -14,6 +14,13 @@ pub struct Times {
     pub least: f64,
 }
 
+impl Times {
+    pub const NONE: Times = Times {
+        median: 0.0,
+        least: 0.0,
+    };
+}
+
 /// Each file's times by each load. A round has every file once with every load, so that a busy
 /// machine slows all alike.
 pub fn measure(loads: [Load; 2], files: &[&[u8]], rounds: usize) -> Vec<[Times; 2]> {
