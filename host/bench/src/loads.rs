@@ -3,18 +3,20 @@
 use crate::plain::{self, STATE};
 use crate::timing::{measure, Load, Times};
 use crate::verdict::Verdict;
-use crate::{files, proved};
+use crate::{files, proved, simple};
 
 const EXAMPLE: &[u8] = include_bytes!("../../../examples/two-makers.role");
 
-/// Both loads give this number, the same place and the same bytes.
+/// The loads give this number and the same place, and proved and plain the same bytes.
 fn agree(file: &[u8], number: u64) {
     let answer = |load: Load| -> (Verdict, Vec<u8>) {
         let mut state = vec![0xa5; STATE + 64];
         (load(file, &mut state), state)
     };
     let (proved, plain) = (answer(proved::load), answer(plain::load));
+    let simple = simple::load(file).err().unwrap_or(Verdict::ACCEPTED);
     assert_eq!(proved.0, plain.0, "the verdicts differ");
+    assert_eq!(proved.0, simple, "the simple verdict differs");
     assert_eq!(
         proved.0.number, number,
         "not the number that the file was made for"

@@ -1,9 +1,16 @@
-//! Times of the proved monitor beside plain Rust.
+//! Times of the proved monitor beside plain Rust and a simple version.
 
+mod calls;
+mod cases;
+mod draw;
 mod files;
 mod loads;
+mod monitor;
 mod plain;
 mod proved;
+mod seats;
+mod sessions;
+mod simple;
 mod timing;
 mod verdict;
 
@@ -12,4 +19,6 @@ fn main() {
         .nth(1)
         .map_or(2000, |text| text.parse().expect("a count of rounds"));
     loads::report(rounds);
+    println!();
+    sessions::report(rounds);
 }
