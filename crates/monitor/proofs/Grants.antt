@@ -5,10 +5,9 @@ use mathlib.Core.Logic.{_↔_, inl, inr}
 use mathlib.Core.List.{List}
 use mathlib.Core.Bool.{Bool, true, false, _&&_, false≢true}
 use mathlib.Core.Option.{Option, none, some}
-use native.Mathlib.Omega.{arith}
 use lib.Dec.{leb, eqb}
 use lib.ListN.{length}
-use borrow.Author.Tests.{leb-true, le-leb}
+use borrow.Author.Tests.{le-leb}
 use Rattle.search.specs.Search.{among, Among}
 use Rattle.search.proofs.Truth.{and-iff, among-iff}
 use Rattle.search.proofs.Found.{some-iff}
@@ -24,8 +23,7 @@ use Rattle.monitor.specs.Calls.{unless}
 use Rattle.monitor.specs.Runs.{Call, opens, closes, takes, drops, reads, writes, number, run}
 use Rattle.monitor.specs.Rules.{Session, Sessions, nobody, isFree, seated, belongs, suits, uses, openRule, closeRule, takeRule, dropRule, partRule, rule, sessions}
 use Rattle.monitor.specs.Granted.{Since, Sits, Holds, MayOpen, Seated, MayTake, MayDrop, MayUse, Granted}
-use Rattle.monitor.proofs.Answers.{unless-done}
-use Rattle.monitor.proofs.Orderly.{Admitted, Orderly, nobody-orderly, opening, seated-done, taking, dropping}
+use Rattle.monitor.proofs.Orderly.{Admitted, Orderly, nobody-orderly, opening, seated-done, taking, dropping, part-done}
 use Rattle.monitor.proofs.History.{orderly-sessions, Sat, sat-some, Opened, sits-iff, Held, holds-iff}
 use Rattle.monitor.proofs.Demand2.{answers}
 
@@ -159,18 +157,13 @@ module _ (f : List ℕ) (cs : List Call) where
   unfolding partRule unless
   part-iff m size p o k n = (
     λ h.
-        let a = seated-done now p rest h in
-        let s = a .session in
-        let (i, b) = unless-done (among (cards f) o) 25 _ (omega arith) (a .done) in
-        let (j, c) = unless-done (uses f m s o) 29 _ (omega arith) b in
-        let (x, d) = unless-done (leb (k + n) 64) 30 _ (omega arith) c in
-        let (y, z) = unless-done (leb (64 * cards f) size) 31 _ (omega arith) d in
+        let a = part-done f m now size p o k n h in
         record {
-          session = there p s (a .sits);
-          card = among-iff (cards f) o .0 i;
-          role = uses-iff m p o s (a .sits) .0 j;
-          inCard = leb-true (k + n) 64 x;
-          inStore = leb-true (64 * cards f) size y;
+          session = there p (a .session) (a .sits);
+          card = a .card;
+          role = uses-iff m p o (a .session) (a .sits) .0 (a .used);
+          inCard = a .inCard;
+          inStore = a .inStore;
         },
     λ g.
         let (s, e, same) = session-of p (g .session) in

@@ -49,10 +49,10 @@ which-way P zero new old h = inl (refl, h)
 which-way P (suc n) new old h = inr (λ e. omega arith, h)
 
 module _ (t : Sessions) (q : ℕ) (s : Option Session) (p : ℕ) where
-  put-at : q ≡ p → put t q s p ≡ s
+  pub put-at : q ≡ p → put t q s p ≡ s
   put-at e = rw (eq-eqb p q (sym e))
 
-  put-other : (q ≡ p → ⊥) → put t q s p ≡ t p
+  pub put-other : (q ≡ p → ⊥) → put t q s p ≡ t p
   put-other n = rw (ne-eqb p q (λ e. n (sym e)))
 
 -- a closing of a place where a session sits is done, and so is a dropping of a role of the file
@@ -60,7 +60,7 @@ module _ (f : List ℕ) (t : Sessions) (known : Orderly f t) (p : ℕ) (s : Sess
   admitted : Admitted f p s
   admitted = rw sits at (known p)
 
-  close-done : closeRule t p ≡ 0
+  pub close-done : closeRule t p ≡ 0
   unfolding closeRule unless
   close-done = rw (among-iff 64 p .1 (admitted .place), sits)
 

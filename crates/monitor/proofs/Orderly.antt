@@ -1,5 +1,5 @@
 -- What the rules have seen to wherever a session sits: its place, user, label and roles are the file's, and each role held suits its label. Assumes nothing.
-use Prim.Native.Nat.{ℕ, zero, suc, _≤_, _<_}
+use Prim.Native.Nat.{ℕ, zero, suc, _+_, _*_, _≤_, _<_}
 use mathlib.Core.Path.{_≡_, refl, sym, _∙_}
 use mathlib.Core.Logic.{⊎-elim}
 use mathlib.Core.List.{List, [], _∷_}
@@ -7,15 +7,15 @@ use mathlib.Core.Bool.{Bool, true, false, not, _&&_, _||_, cond, false≢true}
 use mathlib.Core.Option.{Option, none, some, Option·map}
 use native.Mathlib.Omega.{arith}
 use native.Mathlib.Decide.{ℕ-discrete}
-use lib.Dec.{eqb}
-use borrow.Author.Tests.{eqb-true, eq-eqb, ne-eqb}
+use lib.Dec.{leb, eqb}
+use borrow.Author.Tests.{eqb-true, eq-eqb, ne-eqb, leb-true}
 use Rattle.search.specs.Search.{among, Among}
 use Rattle.search.proofs.Truth.{or-iff, and-iff, among-iff}
-use Rattle.rolefile.specs.Said.{labels, roles, users, clearance}
+use Rattle.rolefile.specs.Said.{labels, roles, users, cards, clearance}
 use Rattle.policy.specs.Policy.{dominates}
 use Rattle.monitor.specs.Calls.{unless, ifDone}
 use Rattle.monitor.specs.Runs.{Call, opens, closes, takes, drops, reads, writes}
-use Rattle.monitor.specs.Rules.{Session, Sessions, nobody, isFree, seated, belongs, suits, openRule, closeRule, takeRule, dropRule, put, newcomer, holding, without, next}
+use Rattle.monitor.specs.Rules.{Session, Sessions, nobody, isFree, seated, belongs, suits, uses, openRule, closeRule, takeRule, dropRule, partRule, put, newcomer, holding, without, next}
 use Rattle.monitor.proofs.Answers.{unless-done}
 
 pub record Admitted (f : List ℕ) (p : ℕ) (s : Session) : Type 0 where
@@ -91,6 +91,34 @@ taking f r s h =
 
 pub dropping : (f : List ℕ) (r : ℕ) → unless (among (roles f) r) 25 0 ≡ 0 → Among (roles f) r
 dropping f r h = among-iff (roles f) r .0 (unless-done (among (roles f) r) 25 0 (omega arith) h .0)
+
+-- a read or a write that is done
+pub record Using (f : List ℕ) (m : ℕ) (t : Sessions) (size p o k n : ℕ) : Type 0 where
+  pub place : Among 64 p
+  pub session : Session
+  pub sits : t p ≡ some session
+  pub card : Among (cards f) o
+  pub used : uses f m session o ≡ true
+  pub inCard : k + n ≤ 64
+  pub inStore : 64 * cards f ≤ size
+
+pub part-done : (f : List ℕ) (m : ℕ) (t : Sessions) (size p o k n : ℕ) → partRule f m t size p o k n ≡ 0 → Using f m t size p o k n
+unfolding partRule
+part-done f m t size p o k n h =
+    let a = seated-done t p (λ s. unless (among (cards f) o) 25 (unless (uses f m s o) 29 (unless (leb (k + n) 64) 30 (unless (leb (64 * cards f) size) 31 0)))) h in
+    let (i, b) = unless-done (among (cards f) o) 25 _ (omega arith) (a .done) in
+    let (j, c) = unless-done (uses f m (a .session) o) 29 _ (omega arith) b in
+    let (x, d) = unless-done (leb (k + n) 64) 30 _ (omega arith) c in
+    let (y, z) = unless-done (leb (64 * cards f) size) 31 _ (omega arith) d in
+    record {
+      place = a .place;
+      session = a .session;
+      sits = a .sits;
+      card = among-iff (cards f) o .0 i;
+      used = j;
+      inCard = leb-true (k + n) 64 x;
+      inStore = leb-true (64 * cards f) size y;
+    }
 
 -- ---- each call keeps it so
 
