@@ -1,3 +1,4 @@
 pub mod Levels
 pub mod Tracking
 pub mod Low
+pub mod Isolation

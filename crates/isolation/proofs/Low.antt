@@ -19,7 +19,7 @@ use Rattle.policy.specs.Tables.{readersAt, writersAt}
 use Rattle.policy.specs.Accepted.{Accepted}
 use Rattle.monitor.specs.Calls.{unless, ifDone, written, partAt, readNumber, writeNumber}
 use Rattle.monitor.specs.Runs.{Call, opens, closes, takes, drops, reads, writes, Memory, number, part, storeAfter}
-use Rattle.monitor.specs.Rules.{Session, Sessions, isFree, seated, uses, openRule, closeRule, takeRule, dropRule, partRule, rule, put, newcomer, holding, without, next}
+use Rattle.monitor.specs.Rules.{Session, Sessions, isFree, seated, suits, uses, openRule, closeRule, takeRule, dropRule, partRule, rule, put, newcomer, holding, without, next}
 use Rattle.monitor.proofs.Answers.{part-fits}
 use Rattle.monitor.proofs.Frames.{written-in, written-out}
 use Rattle.monitor.proofs.Orderly.{Admitted, Orderly, Using, part-done, either-way}
@@ -123,3 +123,52 @@ cards-after f L m₁ m₂ (writes p o k bytes) e h = rw e (by (writeNumber (m₂
         written-same (m₁ .store) (m₂ .store) bytes (partAt o k) (omega (arith, x .card, x .inCard, x .inStore)) (omega (arith, y .card, y .inCard, y .inStore))
         (64 * (d - 1) + i) (h d i w u l)
     by (suc n) z = h
+
+-- ---- what a read hands back, and what another call writes
+
+pub bytes-same : (a b : List ℕ) (at n : ℕ) → at + n ≤ length a → at + n ≤ length b → ((i : ℕ) → i < n → getD a (at + i) 0 ≡ getD b (at + i) 0)
+    → take n (drop at a) ≡ take n (drop at b)
+bytes-same a b at n fits-a fits-b h = ext-getD 0 (take n (drop at a)) (take n (drop at b)) (long a fits-a ∙ sym (long b fits-b))
+    (λ i l. let m = rw (long a fits-a) at l in byte a i m ∙ h i m ∙ sym (byte b i m))
+  where
+    long : (c : List ℕ) → at + n ≤ length c → length (take n (drop at c)) ≡ n
+    long c fits = length-take-le n (drop at c) (rw (length-drop at c) (omega arith))
+
+    byte : (c : List ℕ) (i : ℕ) → i < n → getD (take n (drop at c)) i 0 ≡ getD c (at + i) 0
+    byte c i l = getD-take n (drop at c) i 0 l ∙ getD-drop at c i 0
+
+module _ (f : List ℕ) (accepted : Accepted f) (L : ℕ) (label : Among (labels f) L) (t : Open) (s : Sessions) (known : Orderly f s) (fits : Fits t s) where
+  -- a use of card o at place p, by a role that suits the session's label there
+  pub record Use (mode p o : ℕ) : Type 0 where
+    pub card : Among (cards f) o
+    pub level : ℕ
+    pub inside : Among (labels f) level
+    pub tracked : t p ≡ some level
+    pub role : (r : ℕ) × (may f mode r o ≡ true) × (suits f level r ≡ true)
+
+  use-of : (mode size p o k n : ℕ) → partRule f mode s size p o k n ≡ 0 → Use mode p o
+  unfolding uses
+  use-of mode size p o k n z =
+      let u = part-done f mode s size p o k n z in
+      let x = u .session in
+      let adm : Admitted f p x = rw (u .sits) at (known p) in
+      let (r, w, e) = some-iff (λ r. x .held r && may f mode r o) (roles f) .0 (u .used) in
+      let (holds, gives) = and-iff (x .held r) (may f mode r o) .0 e in
+      record { card = u .card; level = x .label; inside = adm .label; tracked = fits p ∙ ap labelOf (u .sits); role = (r, gives, adm .roles r holds .1) }
+
+  pub read-under : (size p o k n : ℕ) → partRule f 1 s size p o k n ≡ 0 → under f L (t p) ≡ true → dominates f L (cardLabel f o) ≡ true
+  read-under size p o k n z h =
+      let u = use-of 1 size p o k n z in
+      let (r, gives, suited) = u .role in
+      accepted .ordered .dominance .order .transitive L (u .level) (cardLabel f o) label (u .inside) (label-of-card f accepted o (u .card))
+      (rw (u .tracked) at h) (reads-below f accepted (u .level) r o (u .inside) (u .card) suited gives)
+
+  pub write-over : (size p o k n : ℕ) → partRule f 2 s size p o k n ≡ 0 → under f L (t p) ≡ false → dominates f L (cardLabel f o) ≡ false
+  write-over size p o k n z h =
+      let u = use-of 2 size p o k n z in
+      let (r, gives, suited) = u .role in
+      untrue (dominates f L (cardLabel f o)) (λ d.
+      both
+      (accepted .ordered .dominance .order .transitive L (cardLabel f o) (u .level) label (label-of-card f accepted o (u .card)) (u .inside)
+      d (writes-above f accepted (u .level) r o (u .inside) (u .card) suited gives))
+      (rw (u .tracked) at h))

@@ -120,15 +120,21 @@ pub record Runs (f : List ℕ) (t : Sessions) (size : ℕ) (m : Memory) : Type 0
   pub stands : Stands f t (m .state)
   pub stored : length (m .store) ≡ size
 
-pub runs-after : (f : List ℕ) → WellFormed f → (cs : List Call) (t : Sessions) (size : ℕ) (m : Memory) → Runs f t size m
-    → Runs f (sessions f t cs) size (run m cs)
-unfolding sessions run
-runs-after f form [] t size m r = r
-runs-after f form (c ∷ cs) t size m r = runs-after f form cs (next f t c) size (after m c) (record {
+pub runs-next : (f : List ℕ) → WellFormed f → (t : Sessions) (size : ℕ) (m : Memory) → Runs f t size m → (c : Call) → Runs f (next f t c) size (after m c)
+runs-next f form t size m r c = record {
   known = orderly-next f t (r .known) c;
   stands = stands-after f form t (r .known) m (r .stands) c;
   stored = store-length m c ∙ r .stored;
-})
+}
+
+pub runs-number : (f : List ℕ) → WellFormed f → (t : Sessions) (size : ℕ) (m : Memory) → Runs f t size m → (c : Call) → number m c ≡ rule f size t c
+runs-number f form t size m r c = number-file f form t (r .known) m (r .stands) c ∙ rw (r .stored)
+
+runs-after : (f : List ℕ) → WellFormed f → (cs : List Call) (t : Sessions) (size : ℕ) (m : Memory) → Runs f t size m
+    → Runs f (sessions f t cs) size (run m cs)
+unfolding sessions run
+runs-after f form [] t size m r = r
+runs-after f form (c ∷ cs) t size m r = runs-after f form cs (next f t c) size (after m c) (runs-next f form t size m r c)
 
 -- ---- 21 is none of the rules' numbers
 
@@ -178,17 +184,19 @@ module _ (f : List ℕ) (accepted : Accepted f) (xs ys : List ℕ) (v : Verdict)
   loaded-stands : Stands f nobody ys
   loaded-stands = image-stands f ys (rw (load .long) enough) (load .done load-done)
 
+  pub loaded-runs : (store : List ℕ) → Runs f nobody (length store) (record { state = ys; store = store })
+  loaded-runs store = record { known = nobody-orderly f; stands = loaded-stands; stored = refl }
+
   module _ (store : List ℕ) (cs : List Call) where
     abbrev left : Memory
     left = run (record { state = ys; store = store }) cs
 
-    pub left-runs : Runs f (sessions f nobody cs) (length store) left
-    left-runs = runs-after f form cs nobody (length store) (record { state = ys; store = store })
-        (record { known = nobody-orderly f; stands = loaded-stands; stored = refl })
+    left-runs : Runs f (sessions f nobody cs) (length store) left
+    left-runs = runs-after f form cs nobody (length store) (record { state = ys; store = store }) (loaded-runs store)
 
     -- what each call is answered, by the file and the calls so far
     pub answers : (c : Call) → number left c ≡ rule f (length store) (sessions f nobody cs) c
-    answers c = let r = left-runs in number-file f form (sessions f nobody cs) (r .known) left (r .stands) c ∙ rw (r .stored)
+    answers c = runs-number f form (sessions f nobody cs) (length store) left left-runs c
 
     -- "never for a state that a load and calls left"
     pub never-21 : (c : Call) → number left c ≡ 21 → ⊥
