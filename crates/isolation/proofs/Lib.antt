@@ -2,3 +2,4 @@ pub mod Levels
 pub mod Tracking
 pub mod Low
 pub mod Isolation
+pub mod Exported

@@ -1,1 +1,2 @@
 pub mod TwoRuns
+pub mod Exported
