@@ -54,6 +54,6 @@ module _ (f : List ℕ) (accepted : Accepted f) where
     writes-above h =
         let passing = passes-iff (labels f) (turned (dominates f)) (mayAt f 2 r) (turned-order order) (λ a. dominates f a l) .0 (both .1) in
         let (c, w, over, q) =
-            passing-bound (labels f) (turned (dominates f)) (mayAt f 2 r) (λ a. dominates f a l) passing (cardLabel f o) (label-of-card o card) (may-at 2 r o card h)
+        passing-bound (labels f) (turned (dominates f)) (mayAt f 2 r) (λ a. dominates f a l) passing (cardLabel f o) (label-of-card o card) (may-at 2 r o card h)
         in
         order .transitive (cardLabel f o) c l (label-of-card o card) w label over q

@@ -3,3 +3,5 @@ pub mod Tracking
 pub mod Low
 pub mod Isolation
 pub mod Exported
+pub mod ByFile
+pub mod Worked

@@ -82,14 +82,14 @@ module _ (f : List ℕ) (t : Open) (s : Sessions) (known : Orderly f s) (fits : 
   unfolding grants openRule unless
   grants-iff p u l = (
     λ h.
-    let (a, b) = and-iff (among 64 p) (isClosed (t p) && (among (users f) u && (among (labels f) l && dominates f (clearance f u) l))) .0 h in
-    let (c, d) = and-iff (isClosed (t p)) (among (users f) u && (among (labels f) l && dominates f (clearance f u) l)) .0 b in
-    let (e, g) = and-iff (among (users f) u) (among (labels f) l && dominates f (clearance f u) l) .0 d in
-    let (i, j) = and-iff (among (labels f) l) (dominates f (clearance f u) l) .0 g in
-    rw (a, sym (free p) ∙ c, e, i, j),
+        let (a, b) = and-iff (among 64 p) (isClosed (t p) && (among (users f) u && (among (labels f) l && dominates f (clearance f u) l))) .0 h in
+        let (c, d) = and-iff (isClosed (t p)) (among (users f) u && (among (labels f) l && dominates f (clearance f u) l)) .0 b in
+        let (e, g) = and-iff (among (users f) u) (among (labels f) l && dominates f (clearance f u) l) .0 d in
+        let (i, j) = and-iff (among (labels f) l) (dominates f (clearance f u) l) .0 g in
+        rw (a, sym (free p) ∙ c, e, i, j),
     λ z.
-    let o = opening f s p u l z in
-    rw (among-iff 64 p .1 (o .place), free p ∙ o .free, among-iff (users f) u .1 (o .user), among-iff (labels f) l .1 (o .label), o .cleared),
+        let o = opening f s p u l z in
+        rw (among-iff 64 p .1 (o .place), free p ∙ o .free, among-iff (users f) u .1 (o .user), among-iff (labels f) l .1 (o .label), o .cleared),
   )
 
   put-fits : (p : ℕ) (v : Option Session) → Fits (mark t p (labelOf v)) (put s p v)

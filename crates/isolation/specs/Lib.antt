@@ -1,2 +1,3 @@
 pub mod TwoRuns
 pub mod Exported
+pub mod Worked
