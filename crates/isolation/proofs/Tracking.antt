@@ -65,7 +65,7 @@ module _ (f : List ℕ) (t : Open) where
       by : (b : Bool) → cond b (mark t p (some l)) t q ≡ t q
       by true = mark-other p (some l) q n
       by false = refl
-  track-other (closes p) q n = mark-other p none q n
+  track-other (closes p) q n = mark-other p _ q n
   track-other (takes p r) q n = refl
   track-other (drops p r) q n = refl
   track-other (reads p o k m) q n = refl
