@@ -32,8 +32,3 @@ pub record Leads (p : List ℕ) (b m : ℕ) : Type 0 where
   pub fits : m ≤ lines p
   pub front : (i : ℕ) → Among m i → letterAt p i ≡ b
   pub next : m < lines p → letterAt p (m + 1) ≡ b → ⊥
-
--- what a reader of line i + 1 of a part gets: its numbers, or zeros where the part has no such line
-pub record Reads (p : List ℕ) (i a b c : ℕ) : Type 0 where
-  pub inside : i < lines p → (a ≡ one p (i + 1)) × (b ≡ two p (i + 1)) × (c ≡ three p (i + 1))
-  pub outside : lines p ≤ i → (a ≡ 0) × (b ≡ 0) × (c ≡ 0)

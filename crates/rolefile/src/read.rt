@@ -7,8 +7,8 @@ ghost use Prim.Native.Nat.{ℕ, _+_, _*_, _-_, _%_, _≤_, _<_};
 ghost use lib.Dec.{leb};
 ghost use lib.ListN.{length, drop};
 ghost use Rattle.rolefile.specs.Field.{isDigit, column, fieldAt};
-ghost use Rattle.rolefile.specs.Section.{figure, Leads, Reads};
-ghost use Rattle.rolefile.specs.Line.{letterOf, fields, taken, noLine, lineOf, lineFrom, lineAt};
+ghost use Rattle.rolefile.specs.Section.{figure, one, two, three, Leads};
+ghost use Rattle.rolefile.specs.Line.{letterOf, fields, taken, noLine, lineOf, lineFrom, lineAt, lines};
 
 // The number n with the digit b after it, unless n is 0 or has five digits.
 fn next_digit(n: u64, b: u8) -> Field
@@ -179,13 +179,6 @@ pub fn line(f: &[u8], k: usize) -> Line
     line_from(f, 22 * i)
 }
 
-// The numbers of a line.
-pub struct Numbers {
-    pub a: usize,
-    pub b: usize,
-    pub c: usize,
-}
-
 fn wide(x: u8) -> usize
     ensures { λ r. ⌜ (r ≡ x) × (r < 256) ⌝ }
 {
@@ -202,19 +195,28 @@ fn figure(s: &[u8], at: usize) -> usize
     high + (100 * (wide(s[at + 2]) % 16) + low)
 }
 
-// The numbers of line i + 1 of a part whose lines are known to be well formed.
-pub fn numbers_of(p: &[u8], i: usize) -> Numbers
-    ensures { λ r. ⌜ Reads (now (p .entry)) i (r .a) (r .b) (r .c) ⌝ }
+// The first number of line i + 1 of a part whose lines are known to be well formed.
+pub fn first_number(p: &[u8], i: usize) -> usize
+    requires { ⌜ i < lines (now p) ⌝ }
+    ensures { λ r. ⌜ r ≡ one (now (p .entry)) (i + 1) ⌝ }
 {
-    if p.len() / 22 <= i {
-        return Numbers { a: 0, b: 0, c: 0 };
-    }
-    let at = 22 * i;
-    Numbers {
-        a: figure(p, at + 1),
-        b: figure(p, at + 6),
-        c: figure(p, at + 11),
-    }
+    figure(p, 22 * i + 1)
+}
+
+// The second.
+pub fn second_number(p: &[u8], i: usize) -> usize
+    requires { ⌜ i < lines (now p) ⌝ }
+    ensures { λ r. ⌜ r ≡ two (now (p .entry)) (i + 1) ⌝ }
+{
+    figure(p, 22 * i + 6)
+}
+
+// The third.
+pub fn third_number(p: &[u8], i: usize) -> usize
+    requires { ⌜ i < lines (now p) ⌝ }
+    ensures { λ r. ⌜ r ≡ three (now (p .entry)) (i + 1) ⌝ }
+{
+    figure(p, 22 * i + 11)
 }
 
 // How many lines at the front of a part have the letter.
