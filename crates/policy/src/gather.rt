@@ -23,8 +23,8 @@ fn gather_one(g: &mut [u8; 512], s: &[u8], at: usize, o: usize)
     if 32 < label {
         return;
     }
-    let row = roleset::row(s, at + 16 * o);
-    roleset::unite(g, 16 * (label - 1), row);
+    let row = roleset::inner::row(s, at + 16 * o);
+    roleset::inner::unite(g, 16 * (label - 1), row);
 }
 
 // For each label, the roles that the table at `at` has for one of the first n cards of that label.
@@ -43,21 +43,22 @@ pub fn gather(s: &[u8], at: usize, n: usize) -> [u8; 512]
 
 // The labels whose row of `g` has the role.
 fn labels_of(g: &[u8; 512], role: usize) -> [bool; 32]
+    requires { ⌜ Among 128 role ⌝ }
     ensures { λ r. ⌜ ((l : ℕ) → Among 32 l → marks r l ≡ member (now (g .entry)) (rowOf 0 l) role) ⌝ }
 {
     let mut r = [false; 32];
     let mut i = 0;
     while i < 32 {
-        r[i] = roleset::has(g, 16 * i, role);
+        r[i] = roleset::inner::has(g, 16 * i, role);
         i += 1;
     }
     r
 }
 
 // Whether one of the first n things is in the set.
-fn any(s: [bool; 32], n: usize) -> bool
+fn any(s: &[bool; 32], n: usize) -> bool
     requires { ⌜ n ≤ 32 ⌝ }
-    ensures { λ r. ⌜ r ≡ some n (marks s) ⌝ }
+    ensures { λ r. ⌜ r ≡ some n (marks (now (s .entry))) ⌝ }
 {
     let mut i = 0;
     while i < n {
@@ -70,14 +71,14 @@ fn any(s: [bool; 32], n: usize) -> bool
 }
 
 // The level of a set of the first n labels: its bound by the rows of t, as it is kept.
-fn level_of(t: &[[bool; 32]; 32], n: usize, s: [bool; 32]) -> u8
+fn level_of(t: &[[bool; 32]; 32], n: usize, s: &[bool; 32]) -> u8
     requires { ⌜ n ≤ 32 ⌝ }
-    ensures { λ r. ⌜ r ≡ shown (level n (turned (mark (now (t .entry)))) (marks s)) ⌝ }
+    ensures { λ r. ⌜ r ≡ shown (level n (turned (mark (now (t .entry)))) (marks (now (s .entry)))) ⌝ }
 {
     if !any(s, n) {
         return 0;
     }
-    let bound = order::bounds::greatest_lower(t, n, s);
+    let bound = order::bounds::greatest_lower(t, n, *s);
     if bound == 0 {
         return 99;
     }
@@ -99,7 +100,7 @@ pub fn put_levels(
     let mut i = 0;
     while i < roles {
         let set = labels_of(&g, i + 1);
-        s[at + i] = level_of(t, n, set);
+        s[at + i] = level_of(t, n, &set);
         i += 1;
     }
 }
