@@ -45,9 +45,9 @@ pub fn relate_back(s: &mut [u8], at: usize, size: usize, p: &[u8], m: usize)
 {
     let mut i = 0;
     while i < m {
-        let role = read::first_number(p, i);
-        let x = read::second_number(p, i);
-        relate(s, at, size, x, role);
+        let senior = read::first_number(p, i);
+        let junior = read::second_number(p, i);
+        relate(s, at, size, junior, senior);
         i += 1;
     }
 }
