@@ -25,8 +25,8 @@ shifted k l = shl-exact {a = 1} 1 k 8 (omega arith) (omega arith) ∙ one-mul (2
 shifted-byte : (k : ℕ) → k < 8 → 2 ^ k < 256
 shifted-byte k l = rw (← shifted k l) (omega arith)
 
-module _ (xs ys : List ℕ) (at r : ℕ) (fits : at + 16 ≤ length xs) (w : Among 128 r) (long : length ys ≡ length xs)
-    (xs-bytes : (i : ℕ) → getD xs i 0 < 256) (ys-bytes : (i : ℕ) → getD ys i 0 < 256) where
+-- the row with the byte of role r written
+module _ (xs : List ℕ) (at r : ℕ) (fits : at + 16 ≤ length xs) (w : Among 128 r) where
   abbrev i : ℕ
   i = at + (r - 1) / 8
 
@@ -36,31 +36,21 @@ module _ (xs ys : List ℕ) (at r : ℕ) (fits : at + 16 ≤ length xs) (w : Amo
   small : k < 8
   small = omega arith
 
-  -- a byte more is written
-  bytes : (b : ℕ) → b < 256 → (j : ℕ) → getD (set xs i b) j 0 < 256
-  bytes b l j = elim (ℕ-discrete j i) [
-    | yes e ↦ rw (e, getD-set-same xs i b 0 (omega arith)) l
-    | no n ↦ rw (getD-set-other xs i j b 0 n) (xs-bytes j)
-  ]
-
-  only : {s : ℕ → Bool} (b : ℕ) → b < 256 → Placed at s xs (set xs i b) → Placed at s xs ys → ys ≡ set xs i b
-  only {s} b l q p = placed-once at s xs ys (set xs i b) p q long (length-set xs i b) ys-bytes (bytes b l)
-
-  pub added-is : Placed at (added xs at r) xs ys → ys ≡ set xs i (bitOr (getD xs i 0) (2 ^ k))
-  added-is = only (bitOr (getD xs i 0) (2 ^ k)) (or-lt 8 _ _ (xs-bytes i) (shifted-byte k small))
-      (one-written xs at r _ true fits w
+  pub added-placed : Placed at (added xs at r) xs (set xs i (bitOr (getD xs i 0) (2 ^ k)))
+  added-placed =
+      one-written xs at r _ true fits w
       (λ j. ap (λ (y : ℕ). bit (bitOr (getD xs i 0) y) j) (sym (shifted k small)) ∙ bit-on (getD xs i 0) k small j)
       (rw (among-iff 128 r .1 w, eq-eqb r r refl) (sym (or-true (member xs at r))))
-      (λ q n. rw (among-iff 128 r .1 w, ne-eqb q r n) (sym (or-false (member xs at q)))))
+      (λ q n. rw (among-iff 128 r .1 w, ne-eqb q r n) (sym (or-false (member xs at q))))
 
-  removed-held : member xs at r ≡ true → Placed at (removed xs at r) xs ys → ys ≡ set xs i (bitXor (getD xs i 0) (2 ^ k))
+  held-placed : member xs at r ≡ true → Placed at (removed xs at r) xs (set xs i (bitXor (getD xs i 0) (2 ^ k)))
   unfolding member
-  removed-held h = only (bitXor (getD xs i 0) (2 ^ k)) (xor-lt 8 _ _ (xs-bytes i) (shifted-byte k small))
-      (one-written xs at r _ false fits w
+  held-placed h =
+      one-written xs at r _ false fits w
       (λ j. ap (λ (y : ℕ). bit (bitXor (getD xs i 0) y) j) (sym (shifted k small))
       ∙ bit-off (getD xs i 0) k small (and-iff (among 128 r) (bit (getD xs i 0) k) .0 h .1) j)
       (rw (eq-eqb r r refl) (sym (and-false (member xs at r))))
-      (λ q n. rw (ne-eqb q r n) (sym (and-true (member xs at q)))))
+      (λ q n. rw (ne-eqb q r n) (sym (and-true (member xs at q))))
 
   -- without the role, which the row does not hold
   none-less : member xs at r ≡ false → (q : ℕ) → member xs at q ≡ removed xs at r q
@@ -69,13 +59,38 @@ module _ (xs ys : List ℕ) (at r : ℕ) (fits : at + 16 ≤ length xs) (w : Amo
     | no n ↦ rw (ne-eqb q r n) (sym (and-true (member xs at q)))
   ]
 
-  removed-free : member xs at r ≡ false → Placed at (removed xs at r) xs ys → ys ≡ xs
-  removed-free h p = placed-once at (removed xs at r) xs ys xs p (unwritten (λ l. none-less h)) long refl ys-bytes xs-bytes
+  abbrev less : Bool → List ℕ
+  less held = cond held (set xs i (bitXor (getD xs i 0) (2 ^ k))) xs
 
-  pub removed-is : Placed at (removed xs at r) xs ys
-      → ys ≡ cond (member xs at r) (set xs i (bitXor (getD xs i 0) (2 ^ k))) xs
-  removed-is p = by (member xs at r) refl
+  pub removed-placed : Placed at (removed xs at r) xs (less (member xs at r))
+  removed-placed = by (member xs at r) refl
     where
-      by : (b : Bool) → member xs at r ≡ b → ys ≡ cond b (set xs i (bitXor (getD xs i 0) (2 ^ k))) xs
-      by true h = removed-held h p
-      by false h = removed-free h p
+      by : (b : Bool) → member xs at r ≡ b → Placed at (removed xs at r) xs (less b)
+      by true h = held-placed h
+      by false h = unwritten (λ l. none-less h)
+
+  -- one byte at most is written
+  pub length-less : (b : Bool) → length (less b) ≡ length xs
+  length-less true = length-set xs i _
+  length-less false = refl
+
+  module _ (xs-bytes : (j : ℕ) → getD xs j 0 < 256) where
+    byte-set : (b : ℕ) → b < 256 → (j : ℕ) → getD (set xs i b) j 0 < 256
+    byte-set b l j = elim (ℕ-discrete j i) [
+      | yes e ↦ rw (e, getD-set-same xs i b 0 (omega arith)) l
+      | no n ↦ rw (getD-set-other xs i j b 0 n) (xs-bytes j)
+    ]
+
+    byte-less : (b : Bool) (j : ℕ) → getD (less b) j 0 < 256
+    byte-less true = byte-set (bitXor (getD xs i 0) (2 ^ k)) (xor-lt 8 _ _ (xs-bytes i) (shifted-byte k small))
+    byte-less false = xs-bytes
+
+    module _ (ys : List ℕ) (long : length ys ≡ length xs) (ys-bytes : (j : ℕ) → getD ys j 0 < 256) where
+      pub added-is : Placed at (added xs at r) xs ys → ys ≡ set xs i (bitOr (getD xs i 0) (2 ^ k))
+      added-is p =
+          placed-once at (added xs at r) xs ys _ p added-placed long (length-set xs i _) ys-bytes
+          (byte-set (bitOr (getD xs i 0) (2 ^ k)) (or-lt 8 _ _ (xs-bytes i) (shifted-byte k small)))
+
+      pub removed-is : Placed at (removed xs at r) xs ys → ys ≡ less (member xs at r)
+      removed-is p =
+          placed-once at (removed xs at r) xs ys _ p removed-placed long (length-less (member xs at r)) ys-bytes (byte-less (member xs at r))

@@ -1,2 +1,6 @@
 pub mod Session
 pub mod Calls
+pub mod Runs
+pub mod Rules
+pub mod Granted
+pub mod Cases

@@ -75,7 +75,7 @@ module _ (f ys : List ℕ) (counts : GoodCounts (header f)) (between : Between (
       go false = refl
 
   -- dominance by the bytes, where one of the two is a label
-  marked-is : (a b : ℕ) → Among (labels f) a ⊎ Among (labels f) b → marked ys a b ≡ dominates f a b
+  pub marked-is : (a b : ℕ) → Among (labels f) a ⊎ Among (labels f) b → marked ys a b ≡ dominates f a b
   unfolding dominates
   marked-is a b one = same (marked ys a b) (dominates f a b) to of
     where

@@ -17,8 +17,8 @@ use Rattle.rolefile.specs.Said.{labels, roles, over, above}
 use Rattle.rolefile.proofs.Verdicts.{Refuses, then-next, then-stop}
 use Rattle.policy.specs.Policy.{dominates}
 use Rattle.policy.specs.Verdict.{assignmentVerdict, policyVerdict, verdict}
-use Rattle.policy.specs.Tables.{dominanceAt, clearancesAt, cardLabelsAt, rLevelsAt, wLevelsAt, seniorsAt, readersAt, writersAt, rowOf, Kept}
-use Rattle.policy.specs.Image.{Labelled, Dominating, Seniors, Permitting, Levelled, Image}
+use Rattle.policy.specs.Tables.{dominanceAt, clearancesAt, cardLabelsAt, rLevelsAt, wLevelsAt, seniorsAt, assignedAt, readersAt, writersAt, word, rowOf, Kept}
+use Rattle.policy.specs.Image.{Labelled, Dominating, Seniors, Permitting, Levelled, Describes, Image}
 use Rattle.policy.specs.Stages.{Zeros, Noting, roleVerdict, Ranking, Granting, Finishing, Built}
 
 -- ---- the verdict, stage by stage
@@ -124,6 +124,26 @@ module _ (f xs ys : List ℕ) where
     writes = λ r w. s (wLevelsAt + (r - 1)) (omega arith) (omega arith) ∙ t .writes r w;
   }
 
+  word-stays : (at : ℕ) → Same 0 8 xs ys → at + 1 < 8 → word ys at ≡ word xs at
+  word-stays at s l = rw (s at (omega arith) (omega arith), s (at + 1) (omega arith) (omega arith))
+
+  -- the tables end at byte 28,688
+  pub describes-stays : Same 0 28688 xs ys → Describes f xs → Describes f ys
+  describes-stays s t = record {
+    counted = record {
+      labels = word-stays 0 (λ i l m. s i l (omega arith)) (omega arith) ∙ t .counted .labels;
+      roles = word-stays 2 (λ i l m. s i l (omega arith)) (omega arith) ∙ t .counted .roles;
+      users = word-stays 4 (λ i l m. s i l (omega arith)) (omega arith) ∙ t .counted .users;
+      cards = word-stays 6 (λ i l m. s i l (omega arith)) (omega arith) ∙ t .counted .cards;
+    };
+    labelled = labelled-stays (λ i l m. s i (omega arith) (omega arith)) (t .labelled);
+    dominating = dominating-stays (λ i l m. s i (omega arith) (omega arith)) (t .dominating);
+    seniors = seniors-stay (λ i l m. s i (omega arith) (omega arith)) (t .seniors);
+    permitting = permitting-stays (λ i l m. s i (omega arith) m) (t .permitting);
+    levelled = levelled-stays (λ i l m. s i (omega arith) (omega arith)) (t .levelled);
+    assigning = λ u r v w. row-stays 0 28688 (rowOf assignedAt u) s (omega arith) (omega arith) r ∙ t .assigning u r v w;
+  }
+
 -- from zeros to the image, stage by stage
 module _ (f : List ℕ) (xs s₁ s₂ s₃ s₄ : List ℕ) (zeros : Zeros 0 65536 xs) (v w : Verdict) (noting : Noting f v xs s₁) (clean : v .number ≡ 0)
     (ranking : Ranking f w s₁ s₂) (ranked : w .number ≡ 0) where
@@ -152,13 +172,15 @@ module _ (f : List ℕ) (xs s₁ s₂ s₃ s₄ : List ℕ) (zeros : Zeros 0 655
 
       pub image : Image f s₄
       image = record {
-        counted = finishing .counted;
-        labelled = labelled-stays f s₃ s₄ (stays 1040 1808 (omega arith) (omega arith)) third-labelled;
-        dominating = dominating-stays f s₃ s₄ (stays 16 1040 (omega arith) (omega arith)) (granting .dominating);
-        seniors = seniors-stay f s₂ s₄ (λ i l m. finishing .rest i (omega arith) (λ n. omega arith) ∙ granting .rest i (λ k. omega arith) (λ k. omega arith) (λ k. omega arith)) (ranking .done ranked);
-        permitting = permitting-stays f s₃ s₄ (λ i l m. finishing .rest i (omega arith) (λ n. omega arith)) (granting .permitting);
-        levelled = levelled-stays f s₃ s₄ (stays 1808 2064 (omega arith) (omega arith)) (granting .levelled);
-        assigning = finishing .assigning;
+        tables = record {
+          counted = finishing .counted;
+          labelled = labelled-stays f s₃ s₄ (stays 1040 1808 (omega arith) (omega arith)) third-labelled;
+          dominating = dominating-stays f s₃ s₄ (stays 16 1040 (omega arith) (omega arith)) (granting .dominating);
+          seniors = seniors-stay f s₂ s₄ (λ i l m. finishing .rest i (omega arith) (λ n. omega arith) ∙ granting .rest i (λ k. omega arith) (λ k. omega arith) (λ k. omega arith)) (ranking .done ranked);
+          permitting = permitting-stays f s₃ s₄ (λ i l m. finishing .rest i (omega arith) (λ n. omega arith)) (granting .permitting);
+          levelled = levelled-stays f s₃ s₄ (stays 1808 2064 (omega arith) (omega arith)) (granting .levelled);
+          assigning = finishing .assigning;
+        };
         unused = λ i out l.
             let (a, b, c) = out in
             finishing .rest i a (λ n. b (omega arith))

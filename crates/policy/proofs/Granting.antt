@@ -194,7 +194,7 @@ module _ (f : List ℕ) (q : Parts) (h : Line) (t up : List (List Bool)) (x₀ x
   counts = counts-of f (ready .lines)
 
   between : Between (roles f) (above f)
-  between = above-between f good (section-s f q (ready .lines) (ready .laid))
+  between = above-between f good
 
   -- what each store leaves alone
   kept₃ : Kept 1808 1936 x₂ x₃

@@ -1,22 +1,22 @@
--- What D and S lines say stands between labels and roles that the file counts, and so does what follows from it. Assumes nothing.
+-- What the lines of a file say is about labels, roles and cards that the file counts, and so is what follows from it. Assumes nothing.
 use Prim.Native.Nat.{ℕ, zero, suc, _<_}
-use mathlib.Core.Path.{_≡_, refl, sym, _∙_}
+use mathlib.Core.Path.{_≡_, refl}
 use mathlib.Core.Logic.{_⊎_, inl, inr, ⊎-elim}
 use mathlib.Core.List.{List}
-use mathlib.Core.Bool.{true, _&&_}
+use mathlib.Core.Bool.{Bool, true, false, _&&_, cond}
 use native.Mathlib.Omega.{arith}
+use native.Mathlib.Decide.{ℕ-discrete}
 use lib.Dec.{eqb}
 use borrow.Author.Tests.{eqb-true}
 use Rattle.search.specs.Search.{Among}
-use Rattle.search.proofs.Truth.{or-iff, and-iff}
-use Rattle.search.proofs.Found.{some-iff}
+use Rattle.search.proofs.Truth.{or-iff, and-iff, both}
+use Rattle.search.proofs.Found.{some-iff, last-or}
 use Rattle.order.specs.Closure.{Relation, via, path, closure}
-use Rattle.rolefile.specs.Line.{H, D, S, fields}
-use Rattle.rolefile.specs.Form.{header, firstLimit, secondLimit}
-use Rattle.rolefile.specs.Said.{labels, roles, says, over, above}
-use Rattle.rolefile.specs.Section.{one, two}
-use Rattle.rolefile.proofs.Sections.{part, Section, says-two}
-use Rattle.policy.proofs.Readying.{Good, one-within, two-within, limits-d, limits-s}
+use Rattle.rolefile.specs.Line.{H, D, S, O, A, lineAt, lines}
+use Rattle.rolefile.specs.Form.{header, firstLimit, secondLimit, about}
+use Rattle.rolefile.specs.Said.{labels, roles, users, is, says, over, above, assigned, last, labelBy, cardLabel}
+use Rattle.rolefile.specs.WellFormed.{GoodNumbers, One}
+use Rattle.policy.proofs.Readying.{Good, limits-d, limits-s, limits-o, limits-a}
 
 -- a relation between the things 1 to n alone
 abbrev pub Between : ℕ → Relation → Type 0
@@ -38,19 +38,52 @@ module _ (n : ℕ) (e : Relation) (between : Between n e) where
   pub closure-between : (a b : ℕ) → closure n e a b ≡ true → (a ≡ b) ⊎ (Among n a × Among n b)
   closure-between a b h = ⊎-elim (λ q. inl (eqb-true a b q)) (λ q. inr (path-between n a b q)) (or-iff (eqb a b) (path n e a b) .0 h)
 
+-- what holds of the value at each that is so holds of the last one's
+last-of : (n : ℕ) (p : ℕ → Bool) (v : ℕ → ℕ) (Q : ℕ → Type 0) → ((i : ℕ) → Among n i → p i ≡ true → Q (v i))
+    → (i : ℕ) → Among n i → p i ≡ true → Q (last n p v)
+unfolding last
+last-of zero p v Q h i w e = absurd (omega arith)
+last-of (suc n) p v Q h i w e = by (p (suc n)) refl (λ u. last-of n p v Q (λ j x. h j (omega arith)) i u e)
+  where
+    by : (b : Bool) → p (suc n) ≡ b → (Among n i → Q (last n p v)) → Q (cond b (v (suc n)) (last n p v))
+    by true k earlier = h (suc n) (omega arith) k
+    by false k earlier = earlier (⊎-elim (λ same. absurd (both e (rw same k))) (λ u. u) (last-or n i w))
+
 module _ (f : List ℕ) (good : Good f) where
-  said-within : {k j m : ℕ} → Section f k j m → H < k → fields k ≡ 2 → (x y : ℕ) → says f k x y 0 ≡ true
-      → Among (firstLimit (header f) k) x × Among (secondLimit (header f) k) y
-  said-within {k} {j} {m} s after two-fields x y h =
-      let p = part f j in
-      let (i, w, e) = some-iff (λ i. eqb (one p i) x && eqb (two p i) y) m .0 (sym (says-two f good s two-fields x y) ∙ h) in
-      let (u, v) = and-iff (eqb (one p i) x) (eqb (two p i) y) .0 e in
-      (rw (eqb-true (one p i) x u) at (one-within f good s after i w), rw (eqb-true (two p i) y v) at (two-within f good s after i w))
+  -- a line of a letter after H is not the first
+  numbers-known : (k : ℕ) → H < k → (i : ℕ) → Among (lines f) i → lineAt f i .letter ≡ k → GoodNumbers (header f) (lineAt f i)
+  numbers-known k after i w e = elim (ℕ-discrete i 1) [
+    | yes one ↦ let h = good i w .head one .letter in let l = rw one at e in absurd (omega arith)
+    | no more ↦ good i w .body more .numbers
+  ]
 
-  pub over-between : {j m : ℕ} → Section f D j m → Between (labels f) (over f)
-  unfolding fields
-  over-between s a b h = rw (limits-d (header f) .0, limits-d (header f) .1) at (said-within s (omega arith) refl a b h)
+  said-known : (k x y z : ℕ) → H < k → says f k x y z ≡ true → Among (firstLimit (header f) k) x × Among (secondLimit (header f) k) y
+  unfolding says
+  said-known k x y z after h =
+      let (i, w, e) = some-iff (λ i. is (lineAt f i) k x y z) (lines f) .0 h in
+      let (l, q) = and-iff (eqb (lineAt f i .letter) k) (eqb (lineAt f i .a) x && (eqb (lineAt f i .b) y && eqb (lineAt f i .c) z)) .0 e in
+      let (a, r) = and-iff (eqb (lineAt f i .a) x) (eqb (lineAt f i .b) y && eqb (lineAt f i .c) z) .0 q in
+      let (b, c) = and-iff (eqb (lineAt f i .b) y) (eqb (lineAt f i .c) z) .0 r in
+      let letter = eqb-true (lineAt f i .letter) k l in
+      let g = numbers-known k after i w letter in
+      (rw (letter, eqb-true (lineAt f i .a) x a) at (g .one), rw (letter, eqb-true (lineAt f i .b) y b) at (g .two))
 
-  pub above-between : {j m : ℕ} → Section f S j m → Between (roles f) (above f)
-  unfolding fields
-  above-between s r q h = rw (limits-s (header f) .0, limits-s (header f) .1) at (said-within s (omega arith) refl r q h)
+  pub over-between : Between (labels f) (over f)
+  over-between a b h = rw (limits-d (header f) .0, limits-d (header f) .1) at (said-known D a b 0 (omega arith) h)
+
+  pub above-between : Between (roles f) (above f)
+  above-between r q h = rw (limits-s (header f) .0, limits-s (header f) .1) at (said-known S r q 0 (omega arith) h)
+
+  pub assigned-known : (u r : ℕ) → assigned f u r ≡ true → Among (users f) u × Among (roles f) r
+  assigned-known u r h = rw (limits-a (header f) .0, limits-a (header f) .1) at (said-known A u r 0 (omega arith) h)
+
+  -- the label of a thing that has one line of the letter k
+  label-known : (k x : ℕ) → H < k → One f k x → Among (secondLimit (header f) k) (labelBy f k x)
+  unfolding labelBy
+  label-known k x after one = last-of (lines f) (about f k x) (λ i. lineAt f i .b) (Among (secondLimit (header f) k))
+      (λ i w e. let l = eqb-true (lineAt f i .letter) k (and-iff (eqb (lineAt f i .letter) k) (eqb (lineAt f i .a) x) .0 e .0) in
+      rw l at (numbers-known k after i w l .two))
+      (one .line) (one .inside) (one .tells)
+
+  pub card-label-known : (o : ℕ) → One f O o → Among (labels f) (cardLabel f o)
+  card-label-known o one = rw (limits-o (header f) .1) at (label-known O o (omega arith) one)

@@ -1,4 +1,3 @@
-pub mod Cases
 pub mod Levels
 pub mod Checks
 pub mod Outcomes
@@ -17,3 +16,5 @@ pub mod Dominance
 pub mod Flowing
 pub mod Builds
 pub mod Loads
+pub mod Meaning
+pub mod Settled

@@ -49,7 +49,8 @@ Assigning f ys = (u r : ℕ) → Among 256 u → Among 128 r → member ys (rowO
 abbrev pub Unused : ℕ → Type 0
 Unused i = (8 ≤ i) × (16 ≤ i → 8208 ≤ i) × (12304 ≤ i → 28688 ≤ i)
 
-pub record Image (f ys : List ℕ) : Type 0 where
+-- each table of ys says what the file f says
+pub record Describes (f ys : List ℕ) : Type 0 where
   pub counted : Counted f ys
   pub labelled : Labelled f ys
   pub dominating : Dominating f ys
@@ -57,6 +58,9 @@ pub record Image (f ys : List ℕ) : Type 0 where
   pub permitting : Permitting f ys
   pub levelled : Levelled f ys
   pub assigning : Assigning f ys
+
+pub record Image (f ys : List ℕ) : Type 0 where
+  pub tables : Describes f ys
   pub unused : (i : ℕ) → Unused i → i < stateSize → getD ys i 0 ≡ 0
 
 -- ---- a load: "7: load with a state shorter than 65,536 bytes", then the verdict
@@ -70,3 +74,4 @@ pub record Loaded (f : List ℕ) (v : Verdict) (xs ys : List ℕ) : Type 0 where
   pub refused : (v .number ≡ 0 → ⊥) → ys ≡ xs
   pub done : v .number ≡ 0 → Image f ys
   pub rest : (i : ℕ) → stateSize ≤ i → getD ys i 0 ≡ getD xs i 0
+  pub long : length ys ≡ length xs

@@ -5,4 +5,3 @@ pub mod Accepted
 pub mod Tables
 pub mod Image
 pub mod Stages
-pub mod Cases

@@ -94,6 +94,19 @@ pub fn largest() -> RoleFile {
     }
 }
 
+/// The largest file, but role 1 reads the last card: so do its seniors, which is all roles, and each
+/// role that writes the card flows to all others.
+pub fn flowing() -> RoleFile {
+    let mut file = largest();
+    let last = file
+        .permissions
+        .iter()
+        .rposition(|line| line[0] == 1 && line[2] == 1);
+    file.permissions[last.expect("role 1 reads")] = [1, 512, 1];
+    file.permissions.sort_unstable();
+    file
+}
+
 /// The counts 1 0 0 0 and no other line.
 pub fn smallest() -> Vec<u8> {
     let mut bytes = Vec::new();

@@ -7,14 +7,21 @@ use std::time::Instant;
 
 pub type Load = fn(&[u8], &mut [u8]) -> Verdict;
 
-/// The median and the least of the samples, in microseconds.
+/// The median and the least of samples.
 #[derive(Clone, Copy)]
 pub struct Times {
     pub median: f64,
     pub least: f64,
 }
 
-/// Each file's times by each load. A round has every file once with every load, so that a busy
+impl Times {
+    pub const NONE: Times = Times {
+        median: 0.0,
+        least: 0.0,
+    };
+}
+
+/// Each file's times by each load, in microseconds. A round has every file once with every load, so that a busy
 /// machine slows all alike.
 pub fn measure(loads: [Load; 2], files: &[&[u8]], rounds: usize) -> Vec<[Times; 2]> {
     let mut state = vec![0u8; STATE];
@@ -31,7 +38,8 @@ pub fn measure(loads: [Load; 2], files: &[&[u8]], rounds: usize) -> Vec<[Times; 
     samples.into_iter().map(|pair| pair.map(times)).collect()
 }
 
-fn times(mut samples: Vec<f64>) -> Times {
+/// The median and the least.
+pub fn times(mut samples: Vec<f64>) -> Times {
     samples.sort_unstable_by(f64::total_cmp);
     Times {
         median: samples[samples.len() / 2],

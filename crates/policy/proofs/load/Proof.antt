@@ -21,7 +21,7 @@ returns-3 : tie.Need-returns-3
 returns-3 c =
     let a = c .before .before .before .before .before .before .before .before .before .before .before .before .before .args in
     load-done (now (a .f)) (now (a .state)) (c .before .before .before .before .before .before .before .before .build .last .1 .0) (c .before .before .copy-state .last .0) _ (c .before .before .before .before .before .before .before .before .before .before .if1 .left) (c .before .before .before .before .before .before .before .before .build .ensures) (c .before .before .before .before .before .if2 .left)
-    (c .before .before .copy-state .ensures)
+    (c .before .before .copy-state .ensures) (c .before .before .copy-state .kept .0)
 
 pub load-spec : {M : Type 1} → statement M
 load-spec =

@@ -1,15 +1,21 @@
-//! The same load in plain safe Rust: the same steps over the same tables, with ordinary bounds
+//! The same monitor in plain safe Rust: the same steps over the same tables, with ordinary bounds
 //! checks and no proofs.
 
 mod build;
+mod cards;
 mod check;
+mod flow;
 mod levels;
 mod order;
 mod read;
 mod roleset;
+mod session;
+mod state;
 mod tables;
 
+use crate::monitor::{Figure, Lent, Monitor};
 use crate::verdict::{refused, Verdict};
+use std::hint::black_box;
 
 /// The bytes of a state.
 pub const STATE: usize = 65536;
@@ -24,6 +30,7 @@ const SENIORS: usize = 2064;
 const ASSIGNED: usize = 4112;
 const READERS: usize = 12304;
 const WRITERS: usize = 20496;
+const PLACES: usize = 61456;
 
 /// The byte of a level that is undefined.
 const UNDEFINED: u8 = 99;
@@ -40,5 +47,60 @@ pub fn load(file: &[u8], state: &mut [u8]) -> Verdict {
             Verdict::ACCEPTED
         }
         Err(verdict) => verdict,
+    }
+}
+
+/// The plain monitor over what it is lent.
+pub struct Plain<'b>(pub Lent<'b>);
+
+impl Plain<'_> {
+    /// Takes the addresses of the calls, so that the compiler leaves their parameters as they are:
+    /// it cannot fit an archive's to their callers either.
+    pub fn over(lent: Lent<'_>) -> Plain<'_> {
+        black_box([
+            session::open as *const (),
+            session::close as *const (),
+            session::take as *const (),
+            session::drop as *const (),
+            cards::read_number as *const (),
+            cards::write as *const (),
+            flow::flows as *const (),
+            flow::circle as *const (),
+        ]);
+        Plain(lent)
+    }
+}
+
+impl Monitor for Plain<'_> {
+    fn open(&mut self, place: u64, user: u64, label: u64) -> u64 {
+        session::open(self.0.state, place, user, label)
+    }
+
+    fn close(&mut self, place: u64) -> u64 {
+        session::close(self.0.state, place)
+    }
+
+    fn take(&mut self, place: u64, role: u64) -> u64 {
+        session::take(self.0.state, place, role)
+    }
+
+    fn drop(&mut self, place: u64, role: u64) -> u64 {
+        session::drop(self.0.state, place, role)
+    }
+
+    fn read_number(&self, place: u64, card: u64, offset: u64, length: u64) -> u64 {
+        cards::read_number(self.0.state, self.0.store, place, card, offset, length)
+    }
+
+    fn write(&mut self, place: u64, card: u64, offset: u64, bytes: &[u8]) -> u64 {
+        cards::write(self.0.state, self.0.store, place, card, offset, bytes)
+    }
+
+    fn flows(&self, from: u64, to: u64) -> Figure {
+        flow::flows(self.0.state, from, to)
+    }
+
+    fn circle(&self) -> Figure {
+        flow::circle(self.0.state)
     }
 }

@@ -10,6 +10,10 @@ pub fn add(row: &mut [u8], role: usize) {
     row[(role - 1) / 8] |= 1 << ((role - 1) % 8);
 }
 
+pub fn remove(row: &mut [u8], role: usize) {
+    row[(role - 1) / 8] &= !(1 << ((role - 1) % 8));
+}
+
 pub fn unite(row: &mut [u8], other: &[u8; ROW]) {
     for (byte, &also) in row.iter_mut().zip(other) {
         *byte |= also;

@@ -18,9 +18,10 @@ returns c =
     let t = c .before .before in
     let start = t .before .before .before in
     let q = room start in
-    added-is (start .args .s .now) (t .add .last .0) (heldAt (start .args .place)) (start .args .role) (omega arith) (q .1)
-    (t .add .kept .0)
+    added-is (start .args .s .now) (heldAt (start .args .place)) (start .args .role) (omega arith) (q .1)
     (λ i. omega (arith, t .before .before .slice-known .given i))
+    (t .add .last .0)
+    (t .add .kept .0)
     (λ i. omega (arith, c .slice-known2 .given i))
     (t .add .ensures)
 

@@ -35,7 +35,7 @@ returns c =
     let counts = counts-of f l in
     rw (c .before .part .ensures) at (c .assign-lines .ensures)
     ∙ scan-assignments f good counts (section-a f q l (ready .laid)) (assignByTables ys)
-    (tables-verdict f ys counts (over-between f good (section-d f q l (ready .laid))) dominating labelled levelled)
+    (tables-verdict f ys counts (over-between f good) dominating labelled levelled)
 
 pub judge-assignments-spec : {M : Type 1} → statement M
 judge-assignments-spec = tie.close (tie.spec (λ c κs. search needs) assign-lines-requires returns)

@@ -1,15 +1,18 @@
--- The cases of "Example files" that are about files, those with a star and the two on an H line alone: each file with the answer that the document
--- gives for it. Where the document tells of a file without showing it, the file is a small one of that kind. Assumes nothing.
-use Prim.Native.Nat.{ℕ}
+-- The cases of "Example files", those with a star and the others too: each file with the answer that the document gives for it, and session calls after its load with their
+-- numbers. Where the document tells of a file without showing it, the file is a small one of that kind. Assumes nothing.
+use Prim.Native.Nat.{ℕ, _*_}
 use Prim.Native.Char.{code}
 use Prim.Native.String.{String, [] as end, _∷_ as _▸_}
 use mathlib.Core.List.{List, [], _∷_, map}
 use mathlib.Core.Option.{Option, none, some, Option·map}
 use Rattle.rolefile.specs.declared.Verdict.{Verdict}
 use Rattle.rolefile.specs.Form.{fine, refusal}
 use Rattle.policy.specs.Policy.{rLevel, wLevel, shown}
 use Rattle.policy.specs.Verdict.{verdict}
 use Rattle.policy.specs.Flow.{flowCircle}
+use Rattle.rolefile.specs.Said.{cards}
+use Rattle.monitor.specs.Runs.{Call, opens, takes, reads, writes}
+use Rattle.monitor.specs.Rules.{Sessions, nobody, rule, next}
 
 -- a line's text and byte 10, and then the rest of the file
 unfoldable pub line : String → List ℕ → List ℕ
@@ -27,11 +30,21 @@ Row = ℕ × ℕ × ℕ
 abbrev pub row : List ℕ → ℕ → Row
 row f r = (r, shown (rLevel f r), shown (wLevel f r))
 
--- the verdict on a file; and, as far as the document gives them, the rows of its roles and the role on a circle of flow
+-- a session call and its number
+abbrev pub Answered : Type 0
+Answered = Call × ℕ
+
+-- the rules' number of each call in turn, for a store as long as the file's cards
+unfoldable pub numbered : List ℕ → Sessions → List Answered → List Answered
+numbered f t [] = []
+numbered f t (x ∷ xs) = (x .0, rule f (64 * cards f) t (x .0)) ∷ numbered f (next f t (x .0)) xs
+
+-- the verdict on a file; and, as far as the document gives them, the rows of its roles, the role on a circle of flow, and session calls
 pub record Answer : Type 0 where
   pub verdict : Verdict
   pub rows : List Row
   pub circle : Option ℕ
+  pub calls : List Answered
 
 -- the definitions' answer for the file f, about the roles that the document's answer is about
 unfoldable pub answer : List ℕ → Answer → Answer
@@ -39,6 +52,7 @@ answer f a = record {
   verdict = verdict f;
   rows = map (λ x. row f (x .0)) (a .rows);
   circle = Option·map (λ r. flowCircle f) (a .circle);
+  calls = numbered f nobody (a .calls);
 }
 
 pub record Case : Type 0 where
@@ -60,7 +74,7 @@ cases =
           ∷ "P    2    2    2     "
           ∷ "A    1    2          "
           ∷ [];
-      expected = record { verdict = fine; rows = (1, 1, 0) ∷ (2, 1, 2) ∷ []; circle = some 0 };
+      expected = record { verdict = fine; rows = (1, 1, 0) ∷ (2, 1, 2) ∷ []; circle = some 0; calls = [] };
     }
     ∷ record {
       -- "without its D line: 12 at [1, 2]"
@@ -74,7 +88,7 @@ cases =
           ∷ "P    2    2    2     "
           ∷ "A    1    2          "
           ∷ [];
-      expected = record { verdict = refusal 12 1 2; rows = []; circle = none };
+      expected = record { verdict = refusal 12 1 2; rows = []; circle = none; calls = [] };
     }
     ∷ record {
       -- "user 1 cleared to 1 instead: accepted"
@@ -89,7 +103,7 @@ cases =
           ∷ "P    2    2    2     "
           ∷ "A    1    2          "
           ∷ [];
-      expected = record { verdict = fine; rows = []; circle = none };
+      expected = record { verdict = fine; rows = []; circle = none; calls = [] };
     }
     ∷ record {
       -- "and role 1 reading card 2 as well: 15 at [1, 2]"
@@ -105,7 +119,7 @@ cases =
           ∷ "P    2    2    2     "
           ∷ "A    1    2          "
           ∷ [];
-      expected = record { verdict = refusal 15 1 2; rows = []; circle = none };
+      expected = record { verdict = refusal 15 1 2; rows = []; circle = none; calls = [] };
     }
     ∷ record {
       -- "role 2 writing card 1 too: w-level 1, 16 at [1, 2]"
@@ -121,7 +135,7 @@ cases =
           ∷ "P    2    2    2     "
           ∷ "A    1    2          "
           ∷ [];
-      expected = record { verdict = refusal 16 1 2; rows = (2, 1, 1) ∷ []; circle = none };
+      expected = record { verdict = refusal 16 1 2; rows = (2, 1, 1) ∷ []; circle = none; calls = [] };
     }
     ∷ record {
       -- "D 1 1 in front: 11 at [1, 0]"
@@ -137,7 +151,7 @@ cases =
           ∷ "P    2    2    2     "
           ∷ "A    1    2          "
           ∷ [];
-      expected = record { verdict = refusal 11 1 0; rows = []; circle = none };
+      expected = record { verdict = refusal 11 1 0; rows = []; circle = none; calls = [] };
     }
     ∷ record {
       -- "labels 1, 2, 3 with D 3 1 and D 3 2: an assigned role that writes at 1 and 2 gets 14"
@@ -152,7 +166,7 @@ cases =
           ∷ "P    1    2    2     "
           ∷ "A    1    1          "
           ∷ [];
-      expected = record { verdict = refusal 14 1 1; rows = (1, 0, 99) ∷ []; circle = none };
+      expected = record { verdict = refusal 14 1 1; rows = (1, 0, 99) ∷ []; circle = none; calls = [] };
     }
     ∷ record {
       -- "one that reads there has r-level 3"
@@ -167,7 +181,7 @@ cases =
           ∷ "P    1    2    1     "
           ∷ "A    1    1          "
           ∷ [];
-      expected = record { verdict = fine; rows = (1, 3, 0) ∷ []; circle = none };
+      expected = record { verdict = fine; rows = (1, 3, 0) ∷ []; circle = none; calls = [] };
     }
     ∷ record {
       -- "four labels, 2 and 3 above 1 and below 4: writing at 2 and 3 gives w-level 1"
@@ -184,16 +198,45 @@ cases =
           ∷ "P    1    2    2     "
           ∷ "A    1    1          "
           ∷ [];
-      expected = record { verdict = fine; rows = (1, 0, 1) ∷ []; circle = none };
+      expected = record { verdict = fine; rows = (1, 0, 1) ∷ []; circle = none; calls = [] };
+    }
+    ∷ record {
+      -- "user 1 at label 1 takes role 2, writes card 2: 0, reads card 2: 29", of the file above
+      file =
+          "H    2    2    1    2"
+          ∷ "D    2    1          "
+          ∷ "S    2    1          "
+          ∷ "U    1    2          "
+          ∷ "O    1    1          "
+          ∷ "O    2    2          "
+          ∷ "P    1    1    1     "
+          ∷ "P    2    2    2     "
+          ∷ "A    1    2          "
+          ∷ [];
+      expected = record {
+        verdict = fine;
+        rows = [];
+        circle = none;
+        calls =
+            (opens 1 1 1, 0)
+            ∷ (takes 1 2, 0)
+            ∷ (writes 1 2 0 (65 ∷ []), 0)
+            ∷ (reads 1 2 0 1, 29)
+            -- "offset 60, length 4: 0; length 5: 30; offset 64, length 0: 0", of card 1
+            ∷ (reads 1 1 60 4, 0)
+            ∷ (reads 1 1 60 5, 30)
+            ∷ (reads 1 1 64 0, 0)
+            ∷ [];
+      };
     }
     ∷ record {
       -- "only H with counts 1 0 0 0: accepted"
       file = "H    1    0    0    0" ∷ [];
-      expected = record { verdict = fine; rows = []; circle = none };
+      expected = record { verdict = fine; rows = []; circle = none; calls = [] };
     }
     ∷ record {
       -- "with 33 labels: 3 at [1, 0]"
       file = "H   33    0    0    0" ∷ [];
-      expected = record { verdict = refusal 3 1 0; rows = []; circle = none };
+      expected = record { verdict = refusal 3 1 0; rows = []; circle = none; calls = [] };
     }
     ∷ []

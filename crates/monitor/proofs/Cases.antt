@@ -9,10 +9,12 @@ use Rattle.rolefile.specs.Line.{letterOf, fields, formed, lineOf, lineAt}
 use Rattle.rolefile.specs.Form.{scan, sized, counted, firstLimit, secondLimit, ranged, rises, headVerdict, bodyVerdict, lineVerdict}
 use Rattle.rolefile.specs.Form.{count, unlabelled, unlabelledVerdict, formVerdict}
 use Rattle.rolefile.specs.Said.{says, last, labelBy}
 use Rattle.policy.specs.Policy.{dominates, senior, may, mayAt, level, rLevel, wLevel}
 use Rattle.policy.specs.Verdict.{assignVerdict, assignmentVerdict, policyVerdict, verdict}
 use Rattle.policy.specs.Flow.{flows, flowCircle}
-use Rattle.policy.specs.Cases.{line, bytes, Answer, answer, Case, cases}
+use Rattle.monitor.specs.Calls.{unless, ifDone}
+use Rattle.monitor.specs.Rules.{belongs, suits, uses, openRule, takeRule, partRule, rule, next}
+use Rattle.monitor.specs.Cases.{line, bytes, numbered, Answer, answer, Case, cases}
 
 -- the definitions' answer for a case's file
 abbrev given : Case → Answer
@@ -24,6 +26,7 @@ unfolding cases answer line bytes
     sized counted firstLimit secondLimit ranged rises headVerdict bodyVerdict lineVerdict scan count unlabelled unlabelledVerdict formVerdict
     says last labelBy some every first via upper isLeast least lub apart lonely unjoined
     dominates senior may mayAt level rLevel wLevel assignVerdict assignmentVerdict policyVerdict verdict flows flowCircle
+    unless ifDone belongs suits uses openRule takeRule partRule rule next numbered
 computed = refl
 
 of-each : (cs : List Case) → map given cs ≡ map (λ c. c .expected) cs → (c : Case) → List·Memᴰ c cs → given c ≡ c .expected

@@ -1,0 +1,38 @@
+-- A contract leaves its function one answer and one outcome, so a run of the exported functions is the run of the definitions. Assumes nothing.
+use Prim.Native.Nat.{ℕ}
+use mathlib.Core.Path.{_≡_, refl, sym, ap, _∙_}
+use mathlib.Core.List.{List, [], _∷_}
+use Rattle.policy.specs.Accepted.{Accepted}
+use Rattle.monitor.specs.Runs.{Call, opens, closes, takes, drops, reads, writes, Memory, number, part, stateAfter, storeAfter, after, run}
+use Rattle.isolation.specs.TwoRuns.{Answer, answer, Open, noneOpen, track, shared, keep, Shown, shown, SameCards, Alike}
+use Rattle.isolation.specs.Exported.{Made, Makes, IsolatedExports}
+use Rattle.isolation.proofs.Isolation.{isolation}
+
+-- an answer and a memory, by their parts
+answered : (m n : Memory) (c : Call) (a : Answer) → a .number ≡ number m c → a .bytes ≡ part m c → n .state ≡ stateAfter m c → n .store ≡ storeAfter m c
+    → (a ≡ answer m c) × (n ≡ after m c)
+answered m n c a e b s t = (λ i. record { number = e i; bytes = b i }, λ i. record { state = s i; store = t i })
+
+made-once : (m : Memory) (c : Call) (a : Answer) (n : Memory) → Made m c a n → (a ≡ answer m c) × (n ≡ after m c)
+unfolding number part stateAfter storeAfter
+made-once m (opens p u l) a n (h, s, b) = answered m n (opens p u l) a (h .number) b (h .state) s
+made-once m (closes p) a n (h, s, b) = answered m n (closes p) a (h .number) b (h .state) s
+made-once m (takes p r) a n (h, s, b) = answered m n (takes p r) a (h .number) b (h .state) s
+made-once m (drops p r) a n (h, s, b) = answered m n (drops p r) a (h .number) b (h .state) s
+made-once m (reads p o k x) a n (h, s, b) = answered m n (reads p o k x) a h b (ap (λ (y : Memory). y .state) s) (ap (λ (y : Memory). y .store) s)
+made-once m (writes p o k bytes) a n (h, s, b) = answered m n (writes p o k bytes) a (h .number) b s (h .store)
+
+makes-run : (f : List ℕ) (L : ℕ) (cs : List Call) (t : Open) (m e : Memory) (xs : List Shown) → Makes f L t m cs xs e → (xs ≡ shown f L t m cs) × (e ≡ run m cs)
+unfolding shown run
+makes-run f L [] t m e xs h = h
+makes-run f L (c ∷ cs) t m e xs (a, n, ys, made, rest, shows) =
+    let (x, y) = made-once m c a n made in
+    let (z, w) = makes-run f L cs (track f t c) n e ys rest in
+    (shows ∙ rw (z, x, y), w ∙ rw y)
+
+pub exported : (f : List ℕ) → Accepted f → IsolatedExports f
+exported f accepted a b L label s₁ s₂ long same cs₁ cs₂ struck-alike xs₁ xs₂ e₁ e₂ makes₁ makes₂ =
+    let claim = isolation f accepted a b L label s₁ s₂ long same cs₁ cs₂ struck-alike in
+    let (x₁, y₁) = makes-run f L cs₁ noneOpen _ e₁ xs₁ makes₁ in
+    let (x₂, y₂) = makes-run f L cs₂ noneOpen _ e₂ xs₂ makes₂ in
+    rw (x₁, x₂, y₁, y₂) (claim .answers, claim .cards)

@@ -1,0 +1,209 @@
+-- Demand 3: a run is like the run of its own struck list, by induction along the list; so two runs with one struck list are alike. Assumes nothing.
+use Prim.Native.Nat.{ℕ, zero, suc, _+_, _*_, _-_, _≤_, _<_}
+use mathlib.Core.Path.{_≡_, refl, sym, ap, _∙_}
+use mathlib.Core.List.{List, [], _∷_}
+use mathlib.Core.Bool.{Bool, true, false, true≢false}
+use native.Mathlib.Omega.{arith}
+use native.Mathlib.Decide.{decLt}
+use lib.ListN.{length, getD, take, drop}
+use Rattle.search.specs.Search.{Among}
+use Rattle.search.proofs.Truth.{both}
+use Rattle.rolefile.specs.Said.{labels, cards, cardLabel}
+use Rattle.rolefile.specs.WellFormed.{WellFormed}
+use Rattle.policy.specs.Policy.{dominates}
+use Rattle.policy.specs.Accepted.{Accepted}
+use Rattle.policy.specs.Tables.{writersAt}
+use Rattle.monitor.specs.Calls.{ifDone, written, partAt, readNumber, writeNumber}
+use Rattle.monitor.specs.Runs.{Call, opens, closes, takes, drops, reads, writes, Memory, number, part, storeAfter, after, run}
+use Rattle.monitor.specs.Rules.{Sessions, nobody, rule, next}
+use Rattle.monitor.proofs.Answers.{part-fits}
+use Rattle.monitor.proofs.Frames.{written-out}
+use Rattle.monitor.proofs.Orderly.{Using, part-done}
+use Rattle.monitor.proofs.Demand2.{Runs, runs-next, runs-number, loaded-runs}
+use Rattle.isolation.specs.TwoRuns.{Answer, answer, Open, noneOpen, track, under, shared, keep, struck, Shown, shown, SameCards, Alike, Start, Claim, Isolated}
+use Rattle.isolation.proofs.Tracking.{Fits, none-fits, placeOf, next-other, fits-track}
+use Rattle.isolation.proofs.Low.{SameSessions, same-number, next-same, cards-after, bytes-same, read-under, write-over}
+
+module _ (f : List ℕ) (accepted : Accepted f) (L : ℕ) (label : Among (labels f) L) (size : ℕ) where
+  form : WellFormed f
+  form = accepted .ordered .form
+
+  -- two runs at one moment, alike as far as L can tell
+  pub record Pair (t : Open) (s₁ s₂ : Sessions) (m₁ m₂ : Memory) : Type 0 where
+    pub runs₁ : Runs f s₁ size m₁
+    pub runs₂ : Runs f s₂ size m₂
+    pub fits₁ : Fits t s₁
+    pub fits₂ : Fits t s₂
+    pub sessions : SameSessions f L t s₁ s₂
+    pub cards : SameCards f L (m₁ .store) (m₂ .store)
+
+  -- ---- a shared call
+
+  module _ (t : Open) (s₁ s₂ : Sessions) (m₁ m₂ : Memory) (pair : Pair t s₁ s₂ m₁ m₂) (c : Call) (h : shared f L t c ≡ true) where
+    numbers : number m₁ c ≡ number m₂ c
+    numbers =
+        runs-number f form s₁ size m₁ (pair .runs₁) c
+        ∙ same-number f L t s₁ s₂ (pair .fits₁) (pair .fits₂) (pair .sessions) size c h
+        ∙ sym (runs-number f form s₂ size m₂ (pair .runs₂) c)
+
+    read-bytes : (p o k n : ℕ) → c ≡ reads p o k n → part m₁ (reads p o k n) ≡ part m₂ (reads p o k n)
+    unfolding number part ifDone rule shared
+    read-bytes p o k n e = rw (rw e at numbers) (by (readNumber (m₂ .state) (m₂ .store) p o k n) refl)
+      where
+        by : (x : ℕ) → readNumber (m₂ .state) (m₂ .store) p o k n ≡ x
+            → ifDone x (take n (drop (partAt o k) (m₁ .store))) [] ≡ ifDone x (take n (drop (partAt o k) (m₂ .store))) []
+        by zero z =
+            let y = sym (runs-number f form s₂ size m₂ (pair .runs₂) (reads p o k n)) ∙ z in
+            let u = part-done f 1 s₂ size p o k n y in
+            let d = read-under f accepted L label t s₂ (pair .runs₂ .known) (pair .fits₂) size p o k n y (rw e at h) in
+            let same₁ = pair .runs₁ .stored in
+            let same₂ = pair .runs₂ .stored in
+            bytes-same (m₁ .store) (m₂ .store) (partAt o k) n
+            (omega (arith, u .card, u .inCard, u .inStore)) (omega (arith, u .card, u .inCard, u .inStore))
+            (λ i l.
+            let w = u .inCard in
+            let j : partAt o k + i ≡ 64 * (o - 1) + (k + i) = omega arith in
+            rw j (pair .cards o (k + i) (u .card) d (omega arith)))
+        by (suc x) z = refl
+
+    parts : part m₁ c ≡ part m₂ c
+    unfolding part
+    parts = by c refl
+      where
+        by : (d : Call) → c ≡ d → part m₁ d ≡ part m₂ d
+        by (opens p u l) e = refl
+        by (closes p) e = refl
+        by (takes p r) e = refl
+        by (drops p r) e = refl
+        by (reads p o k n) e = read-bytes p o k n e
+        by (writes p o k bytes) e = refl
+
+    same-answer : answer m₁ c ≡ answer m₂ c
+    same-answer = λ i. record { number = numbers i; bytes = parts i }
+
+    shared-pair : Pair (track f t c) (next f s₁ c) (next f s₂ c) (after m₁ c) (after m₂ c)
+    shared-pair = record {
+      runs₁ = runs-next f form s₁ size m₁ (pair .runs₁) c;
+      runs₂ = runs-next f form s₂ size m₂ (pair .runs₂) c;
+      fits₁ = fits-track f t s₁ (pair .runs₁ .known) (pair .fits₁) c;
+      fits₂ = fits-track f t s₂ (pair .runs₂ .known) (pair .fits₂) c;
+      sessions = next-same f L t s₁ s₂ (pair .fits₁) (pair .fits₂) (pair .sessions) (pair .runs₁ .known) c h;
+      cards = cards-after f L m₁ m₂ c numbers (pair .cards);
+    }
+
+  -- ---- any other call
+
+  module _ (t : Open) (s : Sessions) (m : Memory) (runs : Runs f s size m) (fits : Fits t s) where
+    -- it is none of openings and closings, and its place is not under L
+    other-call : (c : Call) → shared f L t c ≡ false → (track f t c ≡ t) × (under f L (t (placeOf c)) ≡ false)
+    unfolding shared track
+    other-call (opens p u l) h = absurd (true≢false h)
+    other-call (closes p) h = absurd (true≢false h)
+    other-call (takes p r) h = (refl, h)
+    other-call (drops p r) h = (refl, h)
+    other-call (reads p o k n) h = (refl, h)
+    other-call (writes p o k bytes) h = (refl, h)
+
+    other-sessions : (c : Call) → under f L (t (placeOf c)) ≡ false → SameSessions f L t (next f s c) s
+    other-sessions c h q k = next-other f s c q (λ e. both k (rw e at h))
+
+    other-cards : (c : Call) → under f L (t (placeOf c)) ≡ false → SameCards f L (storeAfter m c) (m .store)
+    unfolding storeAfter number ifDone rule
+    other-cards (opens p u l) h = λ o i w d l. refl
+    other-cards (closes p) h = λ o i w d l. refl
+    other-cards (takes p r) h = λ o i w d l. refl
+    other-cards (drops p r) h = λ o i w d l. refl
+    other-cards (reads p o k n) h = λ o i w d l. refl
+    other-cards (writes p o k bytes) h = by (writeNumber (m .state) (m .store) p o k bytes) refl
+      where
+        by : (n : ℕ) → writeNumber (m .state) (m .store) p o k bytes ≡ n → SameCards f L (ifDone n (written (m .store) (partAt o k) bytes) (m .store)) (m .store)
+        by zero z =
+            let y = sym (runs-number f form s size m runs (writes p o k bytes)) ∙ z in
+            let high = write-over f accepted L label t s (runs .known) fits size p o k (length bytes) y h in
+            let x = part-fits writersAt (m .state) (length (m .store)) p o k (length bytes) z in
+            λ d i w low l.
+            written-out (m .store) (partAt o k) bytes (omega (arith, x .card, x .inCard, x .inStore)) (64 * (d - 1) + i)
+            (λ a. elim (decLt d o) [
+              | yes j ↦ absurd (omega (arith, x .card))
+              | no j ↦ elim (decLt o d) [
+                | yes g ↦ omega (arith, x .card, x .inCard)
+                | no g ↦ let e : d ≡ o = omega arith in absurd (both low (rw e high))
+              ]
+            ])
+        by (suc n) z = λ o i w d l. refl
+
+  other-pair : (t : Open) (s₁ s₂ : Sessions) (m₁ m₂ : Memory) → Pair t s₁ s₂ m₁ m₂ → (c : Call) → shared f L t c ≡ false
+      → Pair t (next f s₁ c) s₂ (after m₁ c) m₂
+  other-pair t s₁ s₂ m₁ m₂ pair c h =
+      let (same, high) = other-call t s₁ m₁ (pair .runs₁) (pair .fits₁) c h in
+      record {
+        runs₁ = runs-next f form s₁ size m₁ (pair .runs₁) c;
+        runs₂ = pair .runs₂;
+        fits₁ = rw same at (fits-track f t s₁ (pair .runs₁ .known) (pair .fits₁) c);
+        fits₂ = pair .fits₂;
+        sessions = λ p k. other-sessions t s₁ m₁ (pair .runs₁) (pair .fits₁) c high p k ∙ pair .sessions p k;
+        cards = λ o i w d l. other-cards t s₁ m₁ (pair .runs₁) (pair .fits₁) c high o i w d l ∙ pair .cards o i w d l;
+      }
+
+  -- ---- a run, and the run of its struck list
+
+  abbrev Like : Open → Memory → Memory → List Call → List Call → Type 0
+  Like t m₁ m₂ cs ds = Alike f L (shown f L t m₁ cs) (shown f L t m₂ ds) × SameCards f L (run m₁ cs .store) (run m₂ ds .store)
+
+  turn : (b : Bool) (t : Open) (s₁ s₂ : Sessions) (m₁ m₂ : Memory) (c : Call) (cs : List Call) → shared f L t c ≡ b → Pair t s₁ s₂ m₁ m₂
+      → ((u : Open) (r₁ r₂ : Sessions) (n₁ n₂ : Memory) → Pair u r₁ r₂ n₁ n₂ → Like u n₁ n₂ cs (struck f L u cs))
+      → Like t m₁ m₂ (c ∷ cs) (struck f L t (c ∷ cs))
+  unfolding shown struck run
+  turn true t s₁ s₂ m₁ m₂ c cs h pair rest =
+      let next-pair = shared-pair t s₁ s₂ m₁ m₂ pair c h in
+      let (alike, end) = rest (track f t c) (next f s₁ c) (next f s₂ c) (after m₁ c) (after m₂ c) next-pair in
+      rw (h, h) ((same-answer t s₁ s₂ m₁ m₂ pair c h, next-pair .cards, alike), end)
+  turn false t s₁ s₂ m₁ m₂ c cs h pair rest =
+      let (same, high) = other-call t s₁ m₁ (pair .runs₁) (pair .fits₁) c h in
+      rw (h, same) (rest t (next f s₁ c) s₂ (after m₁ c) m₂ (other-pair t s₁ s₂ m₁ m₂ pair c h))
+
+  pub like-struck : (cs : List Call) (t : Open) (s₁ s₂ : Sessions) (m₁ m₂ : Memory) → Pair t s₁ s₂ m₁ m₂ → Like t m₁ m₂ cs (struck f L t cs)
+  unfolding shown struck run
+  like-struck [] t s₁ s₂ m₁ m₂ pair = (tt, pair .cards)
+  like-struck (c ∷ cs) t s₁ s₂ m₁ m₂ pair = turn (shared f L t c) t s₁ s₂ m₁ m₂ c cs refl pair (like-struck cs)
+
+-- two lists like a third are alike
+alike-both : (f : List ℕ) (L : ℕ) (xs ys zs : List Shown) → Alike f L xs zs → Alike f L ys zs → Alike f L xs ys
+alike-both f L [] [] zs h k = tt
+alike-both f L [] (y ∷ ys) [] h k = k
+alike-both f L [] (y ∷ ys) (z ∷ zs) h k = h
+alike-both f L (x ∷ xs) [] [] h k = h
+alike-both f L (x ∷ xs) [] (z ∷ zs) h k = k
+alike-both f L (x ∷ xs) (y ∷ ys) [] h k = absurd h
+alike-both f L (x ∷ xs) (y ∷ ys) (z ∷ zs) (a, c, h) (b, d, k) =
+    (a ∙ sym b, λ o i w u l. c o i w u l ∙ sym (d o i w u l), alike-both f L xs ys zs h k)
+
+-- demand 3
+pub isolation : (f : List ℕ) → Accepted f → Isolated f
+isolation f accepted a b L label s₁ s₂ long same cs₁ cs₂ struck-alike =
+    let m₁ : Memory = record { state = a .state; store = s₁ } in
+    let m₂ : Memory = record { state = b .state; store = s₂ } in
+    let r₁ = loaded-runs f accepted (a .before) (a .state) (a .verdict) (a .enough) (a .load) s₁ in
+    let r₂ : Runs f nobody (length s₁) m₂ = rw (← long) at (loaded-runs f accepted (b .before) (b .state) (b .verdict) (b .enough) (b .load) s₂) in
+    let itself : Pair f accepted L label (length s₁) noneOpen nobody nobody m₁ m₁ = record {
+      runs₁ = r₁;
+      runs₂ = r₁;
+      fits₁ = none-fits;
+      fits₂ = none-fits;
+      sessions = λ p k. refl;
+      cards = λ o i w d l. refl;
+    } in
+    let other : Pair f accepted L label (length s₁) noneOpen nobody nobody m₂ m₁ = record {
+      runs₁ = r₂;
+      runs₂ = r₁;
+      fits₁ = none-fits;
+      fits₂ = none-fits;
+      sessions = λ p k. refl;
+      cards = λ o i w d l. sym (same o i w d l);
+    } in
+    let (x, end₁) = like-struck f accepted L label (length s₁) cs₁ noneOpen nobody nobody m₁ m₁ itself in
+    let (y, end₂) = rw (sym struck-alike) at (like-struck f accepted L label (length s₁) cs₂ noneOpen nobody nobody m₂ m₁ other) in
+    record {
+      answers = alike-both f L (shown f L noneOpen m₁ cs₁) (shown f L noneOpen m₂ cs₂) (shown f L noneOpen m₁ (struck f L noneOpen cs₁)) x y;
+      cards = λ o i w d l. end₁ o i w d l ∙ sym (end₂ o i w d l);
+    }

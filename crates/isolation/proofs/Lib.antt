@@ -1,0 +1,7 @@
+pub mod Levels
+pub mod Tracking
+pub mod Low
+pub mod Isolation
+pub mod Exported
+pub mod ByFile
+pub mod Worked

@@ -1,0 +1,174 @@
+-- What the label L can tell of two runs at one moment: the sessions at places under L, and the cards under L. A shared call leaves that alike and is answered alike; any other
+-- call leaves it as it was. Assumes nothing.
+use Prim.Native.Nat.{ℕ, zero, suc, _+_, _*_, _-_, _≤_, _<_}
+use mathlib.Core.Path.{_≡_, refl, sym, ap, _∙_}
+use mathlib.Core.List.{List, []}
+use mathlib.Core.Bool.{Bool, true, false, _&&_, cond, true≢false, false≢true}
+use mathlib.Core.Option.{Option, none, some, Option·map}
+use native.Mathlib.Omega.{arith}
+use native.Mathlib.Decide.{ℕ-discrete, decLt}
+use borrow.Author.Tests.{eq-eqb}
+use lib.ListN.{length, getD, take, drop, length-drop}
+use lib.Seq.{length-take-le, getD-take, getD-drop, ext-getD}
+use Rattle.search.specs.Search.{among, Among}
+use Rattle.search.proofs.Truth.{and-iff, untrue, both}
+use Rattle.search.proofs.Found.{some-iff}
+use Rattle.rolefile.specs.Said.{labels, roles, cards, cardLabel}
+use Rattle.policy.specs.Policy.{dominates, may}
+use Rattle.policy.specs.Tables.{readersAt, writersAt}
+use Rattle.policy.specs.Accepted.{Accepted}
+use Rattle.monitor.specs.Calls.{unless, ifDone, written, partAt, readNumber, writeNumber}
+use Rattle.monitor.specs.Runs.{Call, opens, closes, takes, drops, reads, writes, Memory, number, part, storeAfter}
+use Rattle.monitor.specs.Rules.{Session, Sessions, isFree, seated, suits, uses, openRule, closeRule, takeRule, dropRule, partRule, rule, put, newcomer, holding, without, next}
+use Rattle.monitor.proofs.Answers.{part-fits}
+use Rattle.monitor.proofs.Frames.{written-in, written-out}
+use Rattle.monitor.proofs.Orderly.{Admitted, Orderly, Using, part-done, either-way}
+use Rattle.monitor.proofs.History.{put-at}
+use Rattle.monitor.proofs.Demand2.{number-file, Runs}
+use Rattle.isolation.specs.TwoRuns.{Open, isClosed, grants, mark, track, under, shared, SameCards}
+use Rattle.isolation.proofs.Levels.{label-of-card, reads-below, writes-above}
+use Rattle.isolation.proofs.Tracking.{labelOf, Fits, closed-free, placeOf, next-other, track-other, grants-iff}
+
+-- ---- numbers
+
+seated-const : (o : Option Session) → seated o (λ s. 0) ≡ cond (isFree o) 24 0
+seated-const none = refl
+seated-const (some s) = refl
+
+-- the session at each place under L is the same
+abbrev pub SameSessions : List ℕ → ℕ → Open → Sessions → Sessions → Type 0
+SameSessions f L t s₁ s₂ = (p : ℕ) → under f L (t p) ≡ true → s₁ p ≡ s₂ p
+
+module _ (f : List ℕ) (L : ℕ) (t : Open) (s₁ s₂ : Sessions) (fits₁ : Fits t s₁) (fits₂ : Fits t s₂) (same : SameSessions f L t s₁ s₂) where
+  free-same : (p : ℕ) → isFree (s₁ p) ≡ isFree (s₂ p)
+  free-same p = sym (closed-free (s₁ p)) ∙ ap isClosed (sym (fits₁ p) ∙ fits₂ p) ∙ closed-free (s₂ p)
+
+  pub same-number : (size : ℕ) (c : Call) → shared f L t c ≡ true → rule f size s₁ c ≡ rule f size s₂ c
+  unfolding rule shared openRule closeRule takeRule dropRule partRule
+  same-number size (opens p u l) h = rw (free-same p)
+  same-number size (closes p) h = rw (seated-const (s₁ p), seated-const (s₂ p), free-same p)
+  same-number size (takes p r) h = rw (same p h)
+  same-number size (drops p r) h = rw (same p h)
+  same-number size (reads p o k n) h = rw (same p h)
+  same-number size (writes p o k bytes) h = rw (same p h)
+
+  -- ---- sessions after a shared call
+
+  -- a change at the call's place
+  changed-here : (p n : ℕ) (change : Session → Session) → s₁ p ≡ s₂ p
+      → ifDone n (put s₁ p (Option·map change (s₁ p))) s₁ p ≡ ifDone n (put s₂ p (Option·map change (s₂ p))) s₂ p
+  unfolding ifDone
+  changed-here p zero change e = put-at s₁ p _ p refl ∙ ap (Option·map change) e ∙ sym (put-at s₂ p _ p refl)
+  changed-here p (suc n) change e = e
+
+  here : Orderly f s₁ → (c : Call) → shared f L t c ≡ true → under f L (track f t c (placeOf c)) ≡ true → next f s₁ c (placeOf c) ≡ next f s₂ c (placeOf c)
+  unfolding shared track next ifDone rule
+  here known (opens p u l) h k = rw (same-number 0 (opens p u l) refl) (by (openRule f s₂ p u l) refl)
+    where
+      by : (n : ℕ) → openRule f s₂ p u l ≡ n → ifDone n (put s₁ p (some (newcomer u l))) s₁ p ≡ ifDone n (put s₂ p (some (newcomer u l))) s₂ p
+      by zero e = put-at s₁ p _ p refl ∙ sym (put-at s₂ p _ p refl)
+      by (suc n) e =
+          let z = same-number 0 (opens p u l) refl in
+          let refused = untrue (grants f t p u l) (λ g. let w = grants-iff f t s₁ known fits₁ p u l .0 g in omega arith) in
+          same p (rw refused at k)
+  here known (closes p) h k = absurd (false≢true (rw (mark-here p) at k))
+    where
+      mark-here : (p : ℕ) → mark t p none p ≡ none
+      mark-here p = rw (eq-eqb p p refl)
+  here known (takes p r) h k = rw (same-number 0 (takes p r) h) (changed-here p (takeRule f s₂ p r) (holding r) (same p h))
+  here known (drops p r) h k = rw (same-number 0 (drops p r) h) (changed-here p (dropRule f s₂ p r) (without r) (same p h))
+  here known (reads p o i n) h k = same p h
+  here known (writes p o i bytes) h k = same p h
+
+  pub next-same : Orderly f s₁ → (c : Call) → shared f L t c ≡ true → SameSessions f L (track f t c) (next f s₁ c) (next f s₂ c)
+  next-same known c h q k = elim (ℕ-discrete (placeOf c) q) [
+    | yes e ↦ rw (← e) (here known c h (rw (← e) at k))
+    | no n ↦ next-other f s₁ c q n ∙ same q (rw (track-other f t c q n) at k) ∙ sym (next-other f s₂ c q n)
+  ]
+
+-- ---- stores
+
+module _ (s t bytes : List ℕ) (at : ℕ) (fits-s : at + length bytes ≤ length s) (fits-t : at + length bytes ≤ length t) where
+  written-same : (j : ℕ) → getD s j 0 ≡ getD t j 0 → getD (written s at bytes) j 0 ≡ getD (written t at bytes) j 0
+  written-same j e = elim (decLt j at) [
+    | yes l ↦ outside (λ m. absurd (omega arith))
+    | no l ↦ elim (decLt j (at + length bytes)) [
+      | yes m ↦
+          let i : j ≡ at + (j - at) = omega arith in
+          rw i (written-in s at bytes fits-s (j - at) (omega arith) ∙ sym (written-in t at bytes fits-t (j - at) (omega arith)))
+      | no m ↦ outside (λ n. omega arith)
+    ]
+  ]
+    where
+      outside : (at ≤ j → at + length bytes ≤ j) → getD (written s at bytes) j 0 ≡ getD (written t at bytes) j 0
+      outside out = written-out s at bytes fits-s j out ∙ e ∙ sym (written-out t at bytes fits-t j out)
+
+-- the same call with the same number
+pub cards-after : (f : List ℕ) (L : ℕ) (m₁ m₂ : Memory) (c : Call) → number m₁ c ≡ number m₂ c → SameCards f L (m₁ .store) (m₂ .store)
+    → SameCards f L (storeAfter m₁ c) (storeAfter m₂ c)
+unfolding number storeAfter ifDone
+cards-after f L m₁ m₂ (opens p u l) e h = h
+cards-after f L m₁ m₂ (closes p) e h = h
+cards-after f L m₁ m₂ (takes p r) e h = h
+cards-after f L m₁ m₂ (drops p r) e h = h
+cards-after f L m₁ m₂ (reads p o k n) e h = h
+cards-after f L m₁ m₂ (writes p o k bytes) e h = rw e (by (writeNumber (m₂ .state) (m₂ .store) p o k bytes) refl)
+  where
+    by : (n : ℕ) → writeNumber (m₂ .state) (m₂ .store) p o k bytes ≡ n
+        → SameCards f L (ifDone n (written (m₁ .store) (partAt o k) bytes) (m₁ .store)) (ifDone n (written (m₂ .store) (partAt o k) bytes) (m₂ .store))
+    by zero z =
+        let x = part-fits writersAt (m₁ .state) (length (m₁ .store)) p o k (length bytes) (e ∙ z) in
+        let y = part-fits writersAt (m₂ .state) (length (m₂ .store)) p o k (length bytes) z in
+        λ d i w u l.
+        written-same (m₁ .store) (m₂ .store) bytes (partAt o k) (omega (arith, x .card, x .inCard, x .inStore)) (omega (arith, y .card, y .inCard, y .inStore))
+        (64 * (d - 1) + i) (h d i w u l)
+    by (suc n) z = h
+
+-- ---- what a read hands back, and what another call writes
+
+pub bytes-same : (a b : List ℕ) (at n : ℕ) → at + n ≤ length a → at + n ≤ length b → ((i : ℕ) → i < n → getD a (at + i) 0 ≡ getD b (at + i) 0)
+    → take n (drop at a) ≡ take n (drop at b)
+bytes-same a b at n fits-a fits-b h = ext-getD 0 (take n (drop at a)) (take n (drop at b)) (long a fits-a ∙ sym (long b fits-b))
+    (λ i l. let m = rw (long a fits-a) at l in byte a i m ∙ h i m ∙ sym (byte b i m))
+  where
+    long : (c : List ℕ) → at + n ≤ length c → length (take n (drop at c)) ≡ n
+    long c fits = length-take-le n (drop at c) (rw (length-drop at c) (omega arith))
+
+    byte : (c : List ℕ) (i : ℕ) → i < n → getD (take n (drop at c)) i 0 ≡ getD c (at + i) 0
+    byte c i l = getD-take n (drop at c) i 0 l ∙ getD-drop at c i 0
+
+module _ (f : List ℕ) (accepted : Accepted f) (L : ℕ) (label : Among (labels f) L) (t : Open) (s : Sessions) (known : Orderly f s) (fits : Fits t s) where
+  -- a use of card o at place p, by a role that suits the session's label there
+  pub record Use (mode p o : ℕ) : Type 0 where
+    pub card : Among (cards f) o
+    pub level : ℕ
+    pub inside : Among (labels f) level
+    pub tracked : t p ≡ some level
+    pub role : (r : ℕ) × (may f mode r o ≡ true) × (suits f level r ≡ true)
+
+  use-of : (mode size p o k n : ℕ) → partRule f mode s size p o k n ≡ 0 → Use mode p o
+  unfolding uses
+  use-of mode size p o k n z =
+      let u = part-done f mode s size p o k n z in
+      let x = u .session in
+      let adm : Admitted f p x = rw (u .sits) at (known p) in
+      let (r, w, e) = some-iff (λ r. x .held r && may f mode r o) (roles f) .0 (u .used) in
+      let (holds, gives) = and-iff (x .held r) (may f mode r o) .0 e in
+      record { card = u .card; level = x .label; inside = adm .label; tracked = fits p ∙ ap labelOf (u .sits); role = (r, gives, adm .roles r holds .1) }
+
+  pub read-under : (size p o k n : ℕ) → partRule f 1 s size p o k n ≡ 0 → under f L (t p) ≡ true → dominates f L (cardLabel f o) ≡ true
+  read-under size p o k n z h =
+      let u = use-of 1 size p o k n z in
+      let (r, gives, suited) = u .role in
+      accepted .ordered .dominance .order .transitive L (u .level) (cardLabel f o) label (u .inside) (label-of-card f accepted o (u .card))
+      (rw (u .tracked) at h) (reads-below f accepted (u .level) r o (u .inside) (u .card) suited gives)
+
+  pub write-over : (size p o k n : ℕ) → partRule f 2 s size p o k n ≡ 0 → under f L (t p) ≡ false → dominates f L (cardLabel f o) ≡ false
+  write-over size p o k n z h =
+      let u = use-of 2 size p o k n z in
+      let (r, gives, suited) = u .role in
+      untrue (dominates f L (cardLabel f o)) (λ d.
+      both
+      (accepted .ordered .dominance .order .transitive L (cardLabel f o) (u .level) label (label-of-card f accepted o (u .card)) (u .inside)
+      d (writes-above f accepted (u .level) r o (u .inside) (u .card) suited gives))
+      (rw (u .tracked) at h))

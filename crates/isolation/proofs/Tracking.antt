@@ -1,0 +1,140 @@
+-- The tracker of "Two runs side by side" fits the sessions: it has a label at a place exactly where a session sits, and it is that session's. Assumes nothing.
+use Prim.Native.Nat.{ℕ, zero, suc}
+use mathlib.Core.Path.{_≡_, refl, sym, ap, _∙_}
+use mathlib.Core.Logic.{_↔_}
+use mathlib.Core.List.{List}
+use mathlib.Core.Bool.{Bool, true, false, _&&_, cond}
+use mathlib.Core.Option.{Option, none, some, Option·map}
+use native.Mathlib.Omega.{arith}
+use native.Mathlib.Decide.{ℕ-discrete}
+use borrow.Author.Tests.{eq-eqb, ne-eqb}
+use Rattle.search.specs.Search.{among, Among}
+use Rattle.search.proofs.Truth.{and-iff, among-iff, untrue}
+use Rattle.rolefile.specs.Said.{labels, users, clearance}
+use Rattle.policy.specs.Policy.{dominates}
+use Rattle.monitor.specs.Calls.{unless, ifDone}
+use Rattle.monitor.specs.Runs.{Call, opens, closes, takes, drops, reads, writes}
+use Rattle.monitor.specs.Rules.{Session, Sessions, nobody, isFree, openRule, closeRule, takeRule, dropRule, put, newcomer, holding, without, next}
+use Rattle.monitor.proofs.Orderly.{Orderly, opening, either-way}
+use Rattle.monitor.proofs.History.{put-at, put-other, close-done}
+use Rattle.isolation.specs.TwoRuns.{Open, noneOpen, isClosed, grants, mark, track}
+
+abbrev pub labelOf : Option Session → Option ℕ
+labelOf o = Option·map (λ s. s .label) o
+
+abbrev pub Fits : Open → Sessions → Type 0
+Fits t s = (p : ℕ) → t p ≡ labelOf (s p)
+
+pub none-fits : Fits noneOpen nobody
+none-fits p = refl
+
+pub closed-free : (o : Option Session) → isClosed (labelOf o) ≡ isFree o
+closed-free none = refl
+closed-free (some s) = refl
+
+-- the place of a call
+abbrev pub placeOf : Call → ℕ
+placeOf (opens p u l) = p
+placeOf (closes p) = p
+placeOf (takes p r) = p
+placeOf (drops p r) = p
+placeOf (reads p o k n) = p
+placeOf (writes p o k bytes) = p
+
+-- ---- a call changes nothing at other places
+
+pub next-other : (f : List ℕ) (s : Sessions) (c : Call) (q : ℕ) → (placeOf c ≡ q → ⊥) → next f s c q ≡ s q
+unfolding next
+next-other f s (opens p u l) q n = either-way (λ x. x q ≡ s q) (openRule f s p u l) (put s p (some (newcomer u l))) s (λ z. put-other s p (some (newcomer u l)) q n) refl
+next-other f s (closes p) q n = either-way (λ x. x q ≡ s q) (closeRule s p) (put s p none) s (λ z. put-other s p none q n) refl
+next-other f s (takes p r) q n =
+    either-way (λ x. x q ≡ s q) (takeRule f s p r) (put s p (Option·map (holding r) (s p))) s (λ z. put-other s p (Option·map (holding r) (s p)) q n) refl
+next-other f s (drops p r) q n =
+    either-way (λ x. x q ≡ s q) (dropRule f s p r) (put s p (Option·map (without r) (s p))) s (λ z. put-other s p (Option·map (without r) (s p)) q n) refl
+next-other f s (reads p o k m) q n = refl
+next-other f s (writes p o k bytes) q n = refl
+
+module _ (f : List ℕ) (t : Open) where
+  mark-other : (p : ℕ) (v : Option ℕ) (q : ℕ) → (p ≡ q → ⊥) → mark t p v q ≡ t q
+  mark-other p v q n = rw (ne-eqb q p (λ e. n (sym e)))
+
+  pub track-other : (c : Call) (q : ℕ) → (placeOf c ≡ q → ⊥) → track f t c q ≡ t q
+  unfolding track
+  track-other (opens p u l) q n = by (grants f t p u l)
+    where
+      by : (b : Bool) → cond b (mark t p (some l)) t q ≡ t q
+      by true = mark-other p (some l) q n
+      by false = refl
+  track-other (closes p) q n = mark-other p none q n
+  track-other (takes p r) q n = refl
+  track-other (drops p r) q n = refl
+  track-other (reads p o k m) q n = refl
+  track-other (writes p o k bytes) q n = refl
+
+-- ---- the tracker goes along with the sessions
+
+module _ (f : List ℕ) (t : Open) (s : Sessions) (known : Orderly f s) (fits : Fits t s) where
+  free : (p : ℕ) → isClosed (t p) ≡ isFree (s p)
+  free p = ap isClosed (fits p) ∙ closed-free (s p)
+
+  -- the openings that the tracker grants are those that are done
+  pub grants-iff : (p u l : ℕ) → (grants f t p u l ≡ true) ↔ (openRule f s p u l ≡ 0)
+  unfolding grants openRule unless
+  grants-iff p u l = (
+    λ h.
+        let (a, b) = and-iff (among 64 p) (isClosed (t p) && (among (users f) u && (among (labels f) l && dominates f (clearance f u) l))) .0 h in
+        let (c, d) = and-iff (isClosed (t p)) (among (users f) u && (among (labels f) l && dominates f (clearance f u) l)) .0 b in
+        let (e, g) = and-iff (among (users f) u) (among (labels f) l && dominates f (clearance f u) l) .0 d in
+        let (i, j) = and-iff (among (labels f) l) (dominates f (clearance f u) l) .0 g in
+        rw (a, sym (free p) ∙ c, e, i, j),
+    λ z.
+        let o = opening f s p u l z in
+        rw (among-iff 64 p .1 (o .place), free p ∙ o .free, among-iff (users f) u .1 (o .user), among-iff (labels f) l .1 (o .label), o .cleared),
+  )
+
+  put-fits : (p : ℕ) (v : Option Session) → Fits (mark t p (labelOf v)) (put s p v)
+  put-fits p v q = elim (ℕ-discrete q p) [
+    | yes e ↦ rw (eq-eqb q p e)
+    | no n ↦ rw (ne-eqb q p n) (fits q)
+  ]
+
+  same-label : (change : Session → Session) → ((x : Session) → change x .label ≡ x .label) → (o : Option Session) → labelOf (Option·map change o) ≡ labelOf o
+  same-label change h none = refl
+  same-label change h (some x) = ap some (h x)
+
+  -- a change at a place that leaves its label
+  change-fits : (p : ℕ) (change : Session → Session) → ((x : Session) → change x .label ≡ x .label) → Fits t (put s p (Option·map change (s p)))
+  change-fits p change h q = elim (ℕ-discrete q p) [
+    | yes e ↦ rw (eq-eqb q p e) (fits q ∙ ap (λ (i : ℕ). labelOf (s i)) e ∙ sym (same-label change h (s p)))
+    | no n ↦ rw (ne-eqb q p n) (fits q)
+  ]
+
+  -- a closing that is refused is of a place where nobody sits
+  refused-free : (p : ℕ) → (closeRule s p ≡ 0 → ⊥) → s p ≡ none
+  refused-free p h = by (s p) refl
+    where
+      by : (o : Option Session) → s p ≡ o → o ≡ none
+      by none e = refl
+      by (some x) e = absurd (h (close-done f s known p x e))
+
+  pub fits-track : (c : Call) → Fits (track f t c) (next f s c)
+  unfolding track next ifDone
+  fits-track (opens p u l) = by (openRule f s p u l) refl
+    where
+      by : (n : ℕ) → openRule f s p u l ≡ n → Fits (cond (grants f t p u l) (mark t p (some l)) t) (ifDone n (put s p (some (newcomer u l))) s)
+      by zero e = rw (grants-iff p u l .1 e) (put-fits p (some (newcomer u l)))
+      by (suc n) e = rw (untrue (grants f t p u l) (λ g. let z = grants-iff p u l .0 g in omega arith)) fits
+  fits-track (closes p) = by (closeRule s p) refl
+    where
+      by : (n : ℕ) → closeRule s p ≡ n → Fits (mark t p none) (ifDone n (put s p none) s)
+      by zero e = put-fits p none
+      by (suc n) e = λ q. elim (ℕ-discrete q p) [
+        | yes i ↦ rw (eq-eqb q p i) (ap labelOf (sym (refused-free p (λ z. omega arith)) ∙ ap s (sym i)))
+        | no n ↦ rw (ne-eqb q p n) (fits q)
+      ]
+  fits-track (takes p r) =
+      either-way (Fits t) (takeRule f s p r) (put s p (Option·map (holding r) (s p))) s (λ z. change-fits p (holding r) (λ x. refl)) fits
+  fits-track (drops p r) =
+      either-way (Fits t) (dropRule f s p r) (put s p (Option·map (without r) (s p))) s (λ z. change-fits p (without r) (λ x. refl)) fits
+  fits-track (reads p o k n) = fits
+  fits-track (writes p o k bytes) = fits

@@ -1,0 +1,113 @@
+-- The two days of `Worked`, computed: they fall under demand 3 for label 2, which is shown the same on both; label 4 is not. Assumes nothing.
+use Prim.Native.Nat.{ℕ, _+_, _*_, _-_, _≤_, _<_}
+use mathlib.Core.Path.{_≡_, refl, sym, ap, _∙_}
+use mathlib.Core.Logic.{_⊎_, inl, inr}
+use mathlib.Core.List.{List, [], _∷_, map}
+use mathlib.Core.Bool.{true, false}
+use native.Mathlib.Omega.{arith}
+use native.Mathlib.Decide.{ℕ-discrete}
+use lib.ListN.{length, getD, replicate, getD-replicate, List·getD-append, length-replicate}
+use Rattle.search.specs.Search.{Among, some, every, first}
+use Rattle.search.proofs.Truth.{both}
+use Rattle.order.specs.Closure.{via}
+use Rattle.order.specs.Bound.{upper, isLeast, least, lub, apart, lonely, unjoined}
+use Rattle.rolefile.specs.Field.{column, columns}
+use Rattle.rolefile.specs.Line.{letterOf, fields, formed, lineOf, lineAt}
+use Rattle.rolefile.specs.Form.{fine, scan, sized, counted, firstLimit, secondLimit, ranged, rises, headVerdict, bodyVerdict, lineVerdict}
+use Rattle.rolefile.specs.Form.{count, unlabelled, unlabelledVerdict, formVerdict}
+use Rattle.rolefile.specs.Said.{cards, says, last, labelBy, cardLabel}
+use Rattle.policy.specs.Policy.{dominates, senior, may, mayAt, level, rLevel, wLevel}
+use Rattle.policy.specs.Verdict.{assignVerdict, assignmentVerdict, policyVerdict, verdict}
+use Rattle.policy.specs.Accepted.{Accepted}
+use Rattle.policy.proofs.Outcomes.{accepted-fine}
+use Rattle.monitor.specs.Calls.{unless, ifDone}
+use Rattle.monitor.specs.Runs.{Call, Memory}
+use Rattle.monitor.specs.Rules.{nobody, belongs, suits, uses, openRule, closeRule, takeRule, dropRule, partRule, rule, next}
+use Rattle.monitor.specs.Cases.{line, bytes}
+use Rattle.monitor.proofs.Demand2.{loaded-runs}
+use Rattle.isolation.specs.TwoRuns.{Answer, noneOpen, grants, track, shared, struck, Shown, shown, SameCards, Start}
+use Rattle.isolation.specs.Worked.{file, firstStore, secondStore, firstDay, secondDay, low, highFirst, highSecond}
+use Rattle.isolation.proofs.ByFile.{partBy, storeBy, shownBy, shown-by}
+
+abbrev answersBy : ℕ → List ℕ → List Call → List Answer
+answersBy L store cs = map (λ x. x .answer) (shownBy file L 192 noneOpen nobody store cs)
+
+accepted-file : verdict file ≡ fine
+unfolding file line bytes
+    column columns letterOf fields formed lineOf lineAt
+    sized counted firstLimit secondLimit ranged rises headVerdict bodyVerdict lineVerdict scan count unlabelled unlabelledVerdict formVerdict
+    says last labelBy some every first via upper isLeast least lub apart lonely unjoined
+    dominates senior may mayAt level rLevel wLevel assignVerdict assignmentVerdict policyVerdict verdict
+accepted-file = refl
+
+pub accepted : Accepted file
+accepted = accepted-fine file .0 accepted-file
+
+-- the four lists, computed
+computed : (answersBy 2 firstStore firstDay ≡ low) × (answersBy 2 secondStore secondDay ≡ low)
+    × (answersBy 4 firstStore firstDay ≡ highFirst) × (answersBy 4 secondStore secondDay ≡ highSecond)
+unfolding file line bytes firstStore secondStore firstDay secondDay low highFirst highSecond
+    column columns letterOf fields formed lineOf lineAt says last labelBy some every first via upper isLeast least lub
+    dominates senior may mayAt level rLevel wLevel
+    unless ifDone belongs suits uses openRule closeRule takeRule dropRule partRule rule next
+    grants track shared partBy storeBy shownBy
+computed = (refl, refl, refl, refl)
+
+-- ---- the pair falls under demand 3 for label 2
+
+one-list : struck file 2 noneOpen firstDay ≡ struck file 2 noneOpen secondDay
+unfolding file line bytes firstDay secondDay column columns letterOf fields formed lineOf lineAt says last labelBy some via dominates grants track shared struck
+one-list = refl
+
+one-length : (length firstStore ≡ 192) × (length secondStore ≡ 192)
+unfolding firstStore secondStore
+one-length = (refl, refl)
+
+three-cards : (cards file ≡ 3) × (dominates file 2 (cardLabel file 3) ≡ false)
+unfolding file line bytes column columns letterOf fields formed lineOf lineAt says last labelBy some via dominates
+three-cards = (refl, refl)
+
+same-cards : SameCards file 2 firstStore secondStore
+unfolding firstStore secondStore
+same-cards o i w d l =
+    let n = three-cards .0 in
+    elim (ℕ-discrete o 3) [
+      | yes e ↦ absurd (both d (rw e (three-cards .1)))
+      | no e ↦
+          getD-replicate 192 (64 * (o - 1) + i) 46 0 (omega arith)
+          ∙ sym (List·getD-append (replicate 128 46) (replicate 64 47) 0 (64 * (o - 1) + i) (rw (length-replicate {A = ℕ} 128 46) (omega arith))
+          ∙ getD-replicate 128 (64 * (o - 1) + i) 46 0 (omega arith))
+    ]
+
+-- ---- what each label is shown, from the state that any load of the file left
+
+abbrev answersOf : Start file → ℕ → List ℕ → List Call → List Answer
+answersOf a L store cs = map (λ x. x .answer) (shown file L noneOpen (record { state = a .state; store = store }) cs)
+
+shows : (a : Start file) (L : ℕ) (store : List ℕ) (cs : List Call) → length store ≡ 192 → answersOf a L store cs ≡ answersBy L store cs
+shows a L store cs long =
+    ap (map (λ x. x .answer))
+    (shown-by file (accepted .ordered .form) 192 L cs noneOpen nobody (record { state = a .state; store = store })
+    (rw long at (loaded-runs file accepted (a .before) (a .state) (a .verdict) (a .enough) (a .load) store)))
+
+-- label 2 is shown the same, and not refusals alone; label 4, one step higher, is shown more, and not the same
+pub record Separated (a b : Start file) : Type 0 where
+  pub struck : struck file 2 noneOpen firstDay ≡ struck file 2 noneOpen secondDay
+  pub stores : (length firstStore ≡ length secondStore) × SameCards file 2 firstStore secondStore
+  pub low : (answersOf a 2 firstStore firstDay ≡ low) × (answersOf b 2 secondStore secondDay ≡ low)
+  pub high : (answersOf a 4 firstStore firstDay ≡ highFirst) × (answersOf b 4 secondStore secondDay ≡ highSecond)
+  pub differ : highFirst ≡ highSecond → ⊥
+
+-- the bytes that the seventh call shown handed back
+abbrev seventh : List Answer → ℕ
+seventh xs = getD (getD xs 6 (record { number = 0; bytes = [] }) .bytes) 0 0
+
+pub separated : (a b : Start file) → Separated a b
+unfolding highFirst highSecond
+separated a b = record {
+  struck = one-list;
+  stores = (one-length .0 ∙ sym (one-length .1), same-cards);
+  low = (shows a 2 firstStore firstDay (one-length .0) ∙ computed .0, shows b 2 secondStore secondDay (one-length .1) ∙ computed .1);
+  high = (shows a 4 firstStore firstDay (one-length .0) ∙ computed .2, shows b 4 secondStore secondDay (one-length .1) ∙ computed .3);
+  differ = λ e. let z : _≡_ {A = ℕ} 66 67 = ap seventh e in omega arith;
+}

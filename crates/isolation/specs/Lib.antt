@@ -1,0 +1,3 @@
+pub mod TwoRuns
+pub mod Exported
+pub mod Worked

@@ -1,0 +1,121 @@
+-- Demand 3, in the order and words of "Two runs side by side". Assumes nothing.
+use Prim.Native.Nat.{ℕ, _+_, _*_, _-_, _≤_, _<_}
+use mathlib.Core.Path.{_≡_}
+use mathlib.Core.List.{List, [], _∷_}
+use mathlib.Core.Bool.{Bool, true, false, _&&_, cond}
+use mathlib.Core.Option.{Option, none, some}
+use lib.Dec.{eqb}
+use lib.ListN.{length, getD}
+use Rattle.search.specs.Search.{among, Among}
+use Rattle.rolefile.specs.declared.Verdict.{Verdict}
+use Rattle.rolefile.specs.Said.{labels, users, cards, clearance, cardLabel}
+use Rattle.policy.specs.Policy.{dominates}
+use Rattle.policy.specs.Accepted.{Accepted}
+use Rattle.policy.specs.Image.{Loaded}
+use Rattle.monitor.specs.Runs.{Call, opens, closes, takes, drops, reads, writes, Memory, number, part, after, run}
+
+-- "A read stands for both its calls, on the same state and store, and answers with its number and the bytes of its part"; the other calls answer with their number
+pub record Answer : Type 0 where
+  pub number : ℕ
+  pub bytes : List ℕ
+
+abbrev pub answer : Memory → Call → Answer
+answer m c = record { number = number m c; bytes = part m c }
+
+-- ---- "the file and the calls alone tell which places are open, and at which label"
+
+-- at each place the label of the session there; none where the place isn't open
+abbrev pub Open : Type 0
+Open = ℕ → Option ℕ
+
+abbrev pub noneOpen : Open
+noneOpen p = none
+
+abbrev pub isClosed : Option ℕ → Bool
+isClosed none = true
+isClosed (some l) = false
+
+-- "an opening that the rules grant (place 1 to 64 and not open, user and label in range, clearance dominating the label)"
+unfoldable pub grants : List ℕ → Open → ℕ → ℕ → ℕ → Bool
+grants f t p u l = among 64 p && (isClosed (t p) && (among (users f) u && (among (labels f) l && dominates f (clearance f u) l)))
+
+abbrev pub mark : Open → ℕ → Option ℕ → Open
+mark t p v q = cond (eqb q p) v (t q)
+
+-- "A place is open from an opening that the rules grant to the next closing of that place. The label of its session is the one that this opening named"
+unfoldable pub track : List ℕ → Open → Call → Open
+track f t (opens p u l) = cond (grants f t p u l) (mark t p (some l)) t
+track f t (closes p) = mark t p none
+track f t (takes p r) = t
+track f t (drops p r) = t
+track f t (reads p o k n) = t
+track f t (writes p o k bytes) = t
+
+-- ---- "The shared calls are all openings and closings, refused ones too, and each call at a place that is then open with a label L dominates"
+
+-- the place is open with a label that L dominates
+abbrev pub under : List ℕ → ℕ → Option ℕ → Bool
+under f L none = false
+under f L (some l) = dominates f L l
+
+unfoldable pub shared : List ℕ → ℕ → Open → Call → Bool
+shared f L t (opens p u l) = true
+shared f L t (closes p) = true
+shared f L t (takes p r) = under f L (t p)
+shared f L t (drops p r) = under f L (t p)
+shared f L t (reads p o k n) = under f L (t p)
+shared f L t (writes p o k bytes) = under f L (t p)
+
+abbrev pub keep : {A : Type 0} → Bool → A → List A → List A
+keep true x xs = x ∷ xs
+keep false x xs = xs
+
+-- "Strike every other call"
+unfoldable pub struck : List ℕ → ℕ → Open → List Call → List Call
+struck f L t [] = []
+struck f L t (c ∷ cs) = keep (shared f L t c) c (struck f L (track f t c) cs)
+
+-- ---- what is compared
+
+-- a shared call's answer, and the store after it
+pub record Shown : Type 0 where
+  pub answer : Answer
+  pub store : List ℕ
+
+-- of each shared call of a run, in turn
+unfoldable pub shown : List ℕ → ℕ → Open → Memory → List Call → List Shown
+shown f L t m [] = []
+shown f L t m (c ∷ cs) = keep (shared f L t c) (record { answer = answer m c; store = after m c .store }) (shown f L (track f t c) (after m c) cs)
+
+-- "The cards under L are those whose label L dominates; of a store shorter than 64 × cards, the bytes it has of them". Stores of one length: a byte that neither has is 0 in both
+abbrev pub SameCards : List ℕ → ℕ → List ℕ → List ℕ → Type 0
+SameCards f L s t = (o i : ℕ) → Among (cards f) o → dominates f L (cardLabel f o) ≡ true → i < 64 → getD s (64 * (o - 1) + i) 0 ≡ getD t (64 * (o - 1) + i) 0
+
+-- one by one: the same number and bytes, and the same cards under L
+abbrev pub Alike : List ℕ → ℕ → List Shown → List Shown → Type 0
+Alike f L [] [] = Unit {0}
+Alike f L [] (y ∷ ys) = ⊥
+Alike f L (x ∷ xs) [] = ⊥
+Alike f L (x ∷ xs) (y ∷ ys) = (x .answer ≡ y .answer) × SameCards f L (x .store) (y .store) × Alike f L xs ys
+
+-- the state that one load of the file left, whatever 65,536 bytes or more were there before
+pub record Start (f : List ℕ) : Type 0 where
+  pub before : List ℕ
+  pub enough : 65536 ≤ length before
+  pub verdict : Verdict
+  pub state : List ℕ
+  pub load : Loaded f verdict before state
+
+-- ---- the claim, "about two whole lists of calls": the sessions under L get the same numbers and bytes, and the cards under L are the same after each shared call and at the end
+
+-- two memories and the calls on them
+pub record Claim (f : List ℕ) (L : ℕ) (m₁ m₂ : Memory) (cs₁ cs₂ : List Call) : Type 0 where
+  pub answers : Alike f L (shown f L noneOpen m₁ cs₁) (shown f L noneOpen m₂ cs₂)
+  pub cards : SameCards f L (run m₁ cs₁ .store) (run m₂ cs₂ .store)
+
+abbrev pub Isolated : List ℕ → Type 0
+Isolated f =
+    (a b : Start f) (L : ℕ) → Among (labels f) L
+    → (s₁ s₂ : List ℕ) → length s₁ ≡ length s₂ → SameCards f L s₁ s₂
+    → (cs₁ cs₂ : List Call) → struck f L noneOpen cs₁ ≡ struck f L noneOpen cs₂
+    → Claim f L (record { state = a .state; store = s₁ }) (record { state = b .state; store = s₂ }) cs₁ cs₂

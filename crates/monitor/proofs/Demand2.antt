@@ -1,0 +1,232 @@
+-- Demand 2's session half: on every state that a load of an accepted file and any calls left, each call is answered as the file and the calls so far say. Each call keeps
+-- the state standing for the sessions, and a load's image stands for none. Assumes nothing.
+use Prim.Native.Nat.{ℕ, zero, suc, _+_, _*_, _-_, _≤_}
+use mathlib.Core.Path.{_≡_, refl, sym, ap, _∙_}
+use mathlib.Core.List.{List, [], _∷_}
+use mathlib.Core.Bool.{Bool, true, false, cond}
+use mathlib.Core.Option.{Option, none, some, Option·map}
+use native.Mathlib.Omega.{arith}
+use lib.Dec.{leb}
+use lib.ListN.{length}
+use borrow.Author.Tests.{le-leb}
+use Rattle.search.specs.Search.{among, Among}
+use Rattle.search.proofs.Truth.{among-iff}
+use Rattle.rolefile.specs.declared.Verdict.{Verdict}
+use Rattle.rolefile.specs.Said.{roles}
+use Rattle.rolefile.specs.WellFormed.{WellFormed}
+use Rattle.policy.specs.Tables.{readersAt, writersAt, stateSize, flowing, cardsIn}
+use Rattle.policy.specs.Verdict.{verdict}
+use Rattle.policy.specs.Accepted.{Accepted}
+use Rattle.policy.specs.Flow.{flows, flowCircle}
+use Rattle.policy.specs.Image.{loadVerdict, Loaded}
+use Rattle.policy.proofs.Outcomes.{accepted-iff}
+use Rattle.policy.proofs.Meaning.{counts-known, flow-file, circle-file}
+use Rattle.monitor.specs.Calls.{unless, ifDone, written, partAt, openNumber, openState, opened, closed, taken, dropped, writeNumber}
+use Rattle.monitor.specs.Calls.{flowsNumber, circleNumber, Flows, Circles}
+use Rattle.monitor.specs.Runs.{Call, opens, closes, takes, drops, reads, writes, Memory, number, stateAfter, storeAfter, after, run}
+use Rattle.monitor.specs.Rules.{Session, Sessions, nobody, seated, belongs, suits, openRule, closeRule, takeRule, dropRule, partRule, rule, put, newcomer, holding, without, next, sessions}
+use Rattle.monitor.proofs.Answers.{part-fits, unless-done}
+use Rattle.monitor.proofs.Frames.{length-written}
+use Rattle.monitor.proofs.Orderly.{Orderly, nobody-orderly, opening, seated-done, taking, either-way, orderly-next, dropping}
+use Rattle.monitor.proofs.Stands.{SessionAt, Stands, image-stands, stands-put, opened-touched, opened-seat, closed-touched, closed-seat, taken-touched, taken-seat, dropped-touched, dropped-seat}
+use Rattle.monitor.proofs.InFile.{test-passed, sound-file, open-file, close-file, take-file, drop-file, part-file}
+
+-- two outcomes of one number
+both-ways : {A B : Type 0} (P : A → B → Type 0) (n : ℕ) (a c : A) (b d : B) → (n ≡ 0 → P a b) → P c d → P (ifDone n a c) (ifDone n b d)
+unfolding ifDone
+both-ways P zero a c b d h k = h refl
+both-ways P (suc n) a c b d h k = k
+
+-- a write keeps the store's length
+pub store-length : (m : Memory) (c : Call) → length (storeAfter m c) ≡ length (m .store)
+unfolding storeAfter
+store-length m (opens p u l) = refl
+store-length m (closes p) = refl
+store-length m (takes p r) = refl
+store-length m (drops p r) = refl
+store-length m (reads p o k n) = refl
+store-length m (writes p o k bytes) =
+    either-way (λ st. length st ≡ length (m .store)) (writeNumber (m .state) (m .store) p o k bytes) (written (m .store) (partAt o k) bytes) (m .store)
+    (λ h.
+    let fit = part-fits writersAt (m .state) (length (m .store)) p o k (length bytes) h in
+    length-written (m .store) (partAt o k) bytes (omega (arith, fit .card, fit .inCard, fit .inStore)))
+    refl
+
+module _ (f : List ℕ) (form : WellFormed f) (t : Sessions) (known : Orderly f t) (m : Memory) (stands : Stands f t (m .state)) where
+  abbrev xs : List ℕ
+  xs = m .state
+
+  pub number-file : (c : Call) → number m c ≡ rule f (length (m .store)) t c
+  unfolding number rule
+  number-file (opens p u l) = open-file f form t known xs stands p u l
+  number-file (closes p) = close-file f form t known xs stands p
+  number-file (takes p r) = take-file f form t known xs stands p r
+  number-file (drops p r) = drop-file f form t known xs stands p r
+  number-file (reads p o k n) =
+      part-file f form t known xs stands readersAt 1 (omega arith) (stands .tables .permitting .readers) (length (m .store)) p o k n
+  number-file (writes p o k bytes) =
+      part-file f form t known xs stands writersAt 2 (omega arith) (stands .tables .permitting .writers) (length (m .store)) p o k (length bytes)
+
+  role-small : (r : ℕ) → Among (roles f) r → Among 128 r
+  role-small r w = let few = counts-known f form .roles in omega arith
+
+  session-there : (p : ℕ) (s : Session) → Among 64 p → t p ≡ some s → SessionAt xs p s
+  session-there p s w e = rw e at (stands .seats p w)
+
+  pub stands-after : (c : Call) → Stands f (next f t c) (stateAfter m c)
+  unfolding stateAfter next closeRule takeRule dropRule
+  stands-after (opens p u l) =
+      rw (open-file f form t known xs stands p u l)
+      (both-ways (Stands f) (openRule f t p u l) (put t p (some (newcomer u l))) t (opened xs p u l) xs
+      (λ h.
+      let o = opening f t p u l h in
+      stands-put f t xs (opened xs p u l) p stands (o .place) (opened-touched xs p (stands .long) (o .place) u l)
+      (some (newcomer u l)) (opened-seat xs p (stands .long) (o .place) u l (o .user .0)))
+      stands)
+  stands-after (closes p) =
+      rw (close-file f form t known xs stands p)
+      (both-ways (Stands f) (closeRule t p) (put t p none) t (closed xs p) xs
+      (λ h.
+      let w = seated-done t p (λ s. 0) h .place in
+      stands-put f t xs (closed xs p) p stands w (closed-touched xs p (stands .long) w) none (closed-seat xs p (stands .long) w))
+      stands)
+  stands-after (takes p r) =
+      rw (take-file f form t known xs stands p r)
+      (both-ways (Stands f) (takeRule f t p r) (put t p (Option·map (holding r) (t p))) t (taken xs p r) xs
+      (λ h.
+      let a = seated-done t p (λ s. unless (among (roles f) r) 25 (unless (belongs f (s .user) r) 27 (unless (suits f (s .label) r) 28 0))) h in
+      let s = a .session in
+      let w = role-small r (taking f r s (a .done) .0) in
+      stands-put f t xs (taken xs p r) p stands (a .place) (taken-touched xs p (stands .long) (a .place) r w)
+      (Option·map (holding r) (t p)) (rw (a .sits) (taken-seat xs p (stands .long) (a .place) r w s (session-there p s (a .place) (a .sits)))))
+      stands)
+  stands-after (drops p r) =
+      rw (drop-file f form t known xs stands p r)
+      (both-ways (Stands f) (dropRule f t p r) (put t p (Option·map (without r) (t p))) t (dropped xs p r) xs
+      (λ h.
+      let a = seated-done t p (λ s. unless (among (roles f) r) 25 0) h in
+      let s = a .session in
+      let w = role-small r (dropping f r (a .done)) in
+      stands-put f t xs (dropped xs p r) p stands (a .place) (dropped-touched xs p (stands .long) (a .place) r w)
+      (Option·map (without r) (t p)) (rw (a .sits) (dropped-seat xs p (stands .long) (a .place) r w s (session-there p s (a .place) (a .sits)))))
+      stands)
+  stands-after (reads p o k n) = stands
+  stands-after (writes p o k bytes) = stands
+
+-- ---- runs
+
+pub record Runs (f : List ℕ) (t : Sessions) (size : ℕ) (m : Memory) : Type 0 where
+  pub known : Orderly f t
+  pub stands : Stands f t (m .state)
+  pub stored : length (m .store) ≡ size
+
+pub runs-next : (f : List ℕ) → WellFormed f → (t : Sessions) (size : ℕ) (m : Memory) → Runs f t size m → (c : Call) → Runs f (next f t c) size (after m c)
+runs-next f form t size m r c = record {
+  known = orderly-next f t (r .known) c;
+  stands = stands-after f form t (r .known) m (r .stands) c;
+  stored = store-length m c ∙ r .stored;
+}
+
+pub runs-number : (f : List ℕ) → WellFormed f → (t : Sessions) (size : ℕ) (m : Memory) → Runs f t size m → (c : Call) → number m c ≡ rule f size t c
+runs-number f form t size m r c = number-file f form t (r .known) m (r .stands) c ∙ rw (r .stored)
+
+runs-after : (f : List ℕ) → WellFormed f → (cs : List Call) (t : Sessions) (size : ℕ) (m : Memory) → Runs f t size m
+    → Runs f (sessions f t cs) size (run m cs)
+unfolding sessions run
+runs-after f form [] t size m r = r
+runs-after f form (c ∷ cs) t size m r = runs-after f form cs (next f t c) size (after m c) (runs-next f form t size m r c)
+
+-- ---- 21 is none of the rules' numbers
+
+module _ (b : Bool) (n rest : ℕ) where
+  other-than-21 : (n ≡ 21 → ⊥) → (rest ≡ 21 → ⊥) → unless b n rest ≡ 21 → ⊥
+  unfolding unless
+  other-than-21 h k = by b
+    where
+      by : (b : Bool) → cond b rest n ≡ 21 → ⊥
+      by true = k
+      by false = h
+
+seated-not-21 : (s : Option Session) (rule : Session → ℕ) → ((s : Session) → rule s ≡ 21 → ⊥) → seated s rule ≡ 21 → ⊥
+seated-not-21 none rule h e = omega arith
+seated-not-21 (some s) rule h e = h s e
+
+part-not-21 : (f : List ℕ) (m size : ℕ) (t : Sessions) (p o k n : ℕ) → partRule f m t size p o k n ≡ 21 → ⊥
+unfolding partRule
+part-not-21 f m size t p o k n =
+    other-than-21 _ 22 _ (λ e. omega arith) (seated-not-21 (t p) _ (λ s. other-than-21 _ 25 _ (λ e. omega arith)
+    (other-than-21 _ 29 _ (λ e. omega arith) (other-than-21 _ 30 _ (λ e. omega arith) (other-than-21 _ 31 _ (λ e. omega arith) (λ e. omega arith))))))
+
+pub rule-not-21 : (f : List ℕ) (size : ℕ) (t : Sessions) (c : Call) → rule f size t c ≡ 21 → ⊥
+unfolding rule openRule closeRule takeRule dropRule partRule
+rule-not-21 f size t (opens p u l) =
+    other-than-21 _ 22 _ (λ e. omega arith) (other-than-21 _ 23 _ (λ e. omega arith) (other-than-21 _ 25 _ (λ e. omega arith)
+    (other-than-21 _ 25 _ (λ e. omega arith) (other-than-21 _ 26 _ (λ e. omega arith) (λ e. omega arith)))))
+rule-not-21 f size t (closes p) = other-than-21 _ 22 _ (λ e. omega arith) (seated-not-21 (t p) _ (λ s e. omega arith))
+rule-not-21 f size t (takes p r) =
+    other-than-21 _ 22 _ (λ e. omega arith) (seated-not-21 (t p) _ (λ s. other-than-21 _ 25 _ (λ e. omega arith)
+    (other-than-21 _ 27 _ (λ e. omega arith) (other-than-21 _ 28 _ (λ e. omega arith) (λ e. omega arith)))))
+rule-not-21 f size t (drops p r) =
+    other-than-21 _ 22 _ (λ e. omega arith) (seated-not-21 (t p) _ (λ s. other-than-21 _ 25 _ (λ e. omega arith) (λ e. omega arith)))
+rule-not-21 f size t (reads p o k n) = part-not-21 f 1 size t p o k n
+rule-not-21 f size t (writes p o k bytes) = part-not-21 f 2 size t p o k (length bytes)
+
+-- ---- from a load on
+
+module _ (f : List ℕ) (accepted : Accepted f) (xs ys : List ℕ) (v : Verdict) (enough : 65536 ≤ length xs) (load : Loaded f v xs ys) where
+  form : WellFormed f
+  form = accepted .ordered .form
+
+  load-done : v .number ≡ 0
+  unfolding loadVerdict
+  load-done = ap (λ (w : Verdict). w .number) (load .answer) ∙ rw (le-leb stateSize (length xs) enough) (accepted-iff f .1 accepted)
+
+  loaded-stands : Stands f nobody ys
+  loaded-stands = image-stands f ys (rw (load .long) enough) (load .done load-done)
+
+  pub loaded-runs : (store : List ℕ) → Runs f nobody (length store) (record { state = ys; store = store })
+  loaded-runs store = record { known = nobody-orderly f; stands = loaded-stands; stored = refl }
+
+  module _ (store : List ℕ) (cs : List Call) where
+    abbrev left : Memory
+    left = run (record { state = ys; store = store }) cs
+
+    left-runs : Runs f (sessions f nobody cs) (length store) left
+    left-runs = runs-after f form cs nobody (length store) (record { state = ys; store = store }) (loaded-runs store)
+
+    -- what each call is answered, by the file and the calls so far
+    pub answers : (c : Call) → number left c ≡ rule f (length store) (sessions f nobody cs) c
+    answers c = runs-number f form (sessions f nobody cs) (length store) left left-runs c
+
+    -- "never for a state that a load and calls left"
+    pub never-21 : (c : Call) → number left c ≡ 21 → ⊥
+    never-21 c e = rule-not-21 f (length store) (sessions f nobody cs) c (sym (answers c) ∙ e)
+
+    -- the flow report
+    pub flows-answers : (q r n figure : ℕ) → Flows (left .state) q r n figure
+        → (n ≡ unless (among (roles f) q) 25 (unless (among (roles f) r) 25 0)) × (figure ≡ ifDone n (cond (flows f q r) 1 0) 0)
+    unfolding flowsNumber ifDone
+    flows-answers q r n figure h =
+        let w = left-runs in
+        let tables = w .stands .tables in
+        let e : n ≡ unless (among (roles f) q) 25 (unless (among (roles f) r) 25 0) =
+        h .number ∙ test-passed 21 (sound-file f form (sessions f nobody cs) (w .known) (left .state) (w .stands)) ∙ rw (tables .counted .roles) in
+        (e, h .answer ∙ rw (← (h .number)) (by n e))
+      where
+        by : (n : ℕ) → n ≡ unless (among (roles f) q) 25 (unless (among (roles f) r) 25 0)
+            → _≡_ {A = ℕ} (ifDone n (cond (flowing (left .state) (cardsIn (left .state)) q r) 1 0) 0) (ifDone n (cond (flows f q r) 1 0) 0)
+        by zero e =
+            let (v, rest) = unless-done (among (roles f) q) 25 _ (omega arith) (sym e) in
+            let (w, end) = unless-done (among (roles f) r) 25 0 (omega arith) rest in
+            let i = among-iff (roles f) q .0 v in
+            let j = among-iff (roles f) r .0 w in
+            let few = counts-known f form .roles in
+            ap (λ (b : Bool). cond {A = ℕ} b 1 0) (flow-file f form (left .state) (left-runs .stands .tables) q r (omega arith) (omega arith))
+        by (suc n) e = refl
+
+    pub circle-answers : (n figure : ℕ) → Circles (left .state) n figure → (n ≡ 0) × (figure ≡ flowCircle f)
+    unfolding circleNumber ifDone
+    circle-answers n figure h =
+        let w = left-runs in
+        let e : circleNumber (left .state) ≡ 0 = test-passed 21 (sound-file f form (sessions f nobody cs) (w .known) (left .state) (w .stands)) in
+        (h .number ∙ e, h .answer ∙ rw e (circle-file f form (left .state) (w .stands .tables)))

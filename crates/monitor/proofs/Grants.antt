@@ -1,0 +1,198 @@
+-- The rules answer 0 exactly where `Granted` holds, and so do the exported functions on every state that a load of the file and calls left. Assumes nothing.
+use Prim.Native.Nat.{ℕ, _+_, _*_, _≤_}
+use mathlib.Core.Path.{_≡_, refl, sym, _∙_}
+use mathlib.Core.Logic.{_↔_, inl, inr}
+use mathlib.Core.List.{List}
+use mathlib.Core.Bool.{Bool, true, false, _&&_, false≢true}
+use mathlib.Core.Option.{Option, none, some}
+use lib.Dec.{leb, eqb}
+use lib.ListN.{length}
+use borrow.Author.Tests.{le-leb}
+use Rattle.search.specs.Search.{among, Among}
+use Rattle.search.proofs.Truth.{and-iff, among-iff}
+use Rattle.search.proofs.Found.{some-iff}
+use Rattle.order.specs.Closure.{PartialOrder}
+use Rattle.order.specs.Bound.{turned}
+use Rattle.rolefile.specs.declared.Verdict.{Verdict}
+use Rattle.rolefile.specs.Said.{labels, roles, users, cards, clearance, assigned}
+use Rattle.policy.specs.Policy.{dominates, senior, may, mayAt, rLevel, wLevel, passes}
+use Rattle.policy.specs.Accepted.{Accepted, Passing}
+use Rattle.policy.specs.Image.{Loaded}
+use Rattle.policy.proofs.Levels.{turned-order, passes-iff}
+use Rattle.monitor.specs.Calls.{unless}
+use Rattle.monitor.specs.Runs.{Call, opens, closes, takes, drops, reads, writes, number, run}
+use Rattle.monitor.specs.Rules.{Session, Sessions, nobody, isFree, seated, belongs, suits, uses, openRule, closeRule, takeRule, dropRule, partRule, rule, sessions}
+use Rattle.monitor.specs.Granted.{Since, Sits, Holds, MayOpen, Seated, MayTake, MayDrop, MayUse, Granted}
+use Rattle.monitor.proofs.Orderly.{Admitted, Orderly, nobody-orderly, opening, seated-done, taking, dropping, part-done}
+use Rattle.monitor.proofs.History.{orderly-sessions, Sat, sat-some, Opened, sits-iff, Held, holds-iff}
+use Rattle.monitor.proofs.Demand2.{answers}
+
+module _ (f : List ℕ) (cs : List Call) where
+  abbrev now : Sessions
+  now = sessions f nobody cs
+
+  known : Orderly f now
+  known = orderly-sessions f cs nobody (nobody-orderly f)
+
+  -- ---- a session sits there
+
+  abbrev there : (p : ℕ) (s : Session) → now p ≡ some s → Seated f cs p
+  there p s e = record { user = s .user; label = s .label; sits = sits-iff f cs p (s .user) (s .label) .0 (rw e (refl, refl)) }
+
+  session-of : (p : ℕ) (h : Seated f cs p) → (s : Session) × (now p ≡ some s) × ((s .user ≡ h .user) × (s .label ≡ h .label))
+  session-of p h = sat-some (Opened f cs p (h .user) (h .label)) (now p) (sits-iff f cs p (h .user) (h .label) .1 (h .sits))
+
+  -- the rule of a call at a place, done
+  seated-of : (p : ℕ) (s : Session) (rule : Session → ℕ) → now p ≡ some s → rule s ≡ 0 → unless (among 64 p) 22 (seated (now p) rule) ≡ 0
+  unfolding unless
+  seated-of p s rule e h = let a : Admitted f p s = rw e at (known p) in rw (among-iff 64 p .1 (a .place), e) h
+
+  -- ---- open
+
+  free-iff : (p : ℕ) → (isFree (now p) ≡ true) ↔ ((u l : ℕ) → Sits f cs p u l → ⊥)
+  free-iff p = (
+    λ free u l h. let (s, e, g) = sat-some (Opened f cs p u l) (now p) (sits-iff f cs p u l .1 h) in false≢true (rw e at free),
+    λ free. by (now p) refl free,
+  )
+    where
+      by : (o : Option Session) → now p ≡ o → ((u l : ℕ) → Sits f cs p u l → ⊥) → isFree o ≡ true
+      by none e free = refl
+      by (some s) e free = absurd (free (s .user) (s .label) (there p s e .sits))
+
+  open-iff : (p u l : ℕ) → (openRule f now p u l ≡ 0) ↔ MayOpen f cs p u l
+  unfolding openRule unless
+  open-iff p u l = (
+    λ h.
+        let o = opening f now p u l h in
+        record { place = o .place; free = free-iff p .0 (o .free); user = o .user; label = o .label; cleared = o .cleared },
+    λ g.
+        rw (
+          among-iff 64 p .1 (g .place),
+          free-iff p .1 (g .free),
+          among-iff (users f) u .1 (g .user),
+          among-iff (labels f) l .1 (g .label),
+          g .cleared,
+        ),
+  )
+
+  close-iff : (p : ℕ) → (closeRule now p ≡ 0) ↔ Seated f cs p
+  unfolding closeRule
+  close-iff p = (
+    λ h. let a = seated-done now p (λ s. 0) h in there p (a .session) (a .sits),
+    λ g. let (s, e, k) = session-of p g in seated-of p s (λ s. 0) e refl,
+  )
+
+  -- ---- take and drop
+
+  drop-iff : (p r : ℕ) → (dropRule f now p r ≡ 0) ↔ MayDrop f cs p r
+  unfolding dropRule unless
+  drop-iff p r = (
+    λ h.
+        let a = seated-done now p (λ s. unless (among (roles f) r) 25 0) h in
+        record { session = there p (a .session) (a .sits); role = dropping f r (a .done) },
+    λ g.
+        let (s, e, k) = session-of p (g .session) in
+        seated-of p s (λ s. unless (among (roles f) r) 25 0) e (rw (among-iff (roles f) r .1 (g .role))),
+  )
+
+  belongs-iff : (u r : ℕ) → (belongs f u r ≡ true) ↔ ((q : ℕ) × Among (roles f) q × (assigned f u q ≡ true) × (senior f q r ≡ true))
+  unfolding belongs
+  belongs-iff u r = (
+    λ h. let (q, w, e) = some-iff test (roles f) .0 h in let (a, s) = and-iff (assigned f u q) (senior f q r) .0 e in (q, w, a, s),
+    λ (q, w, a, s). some-iff test (roles f) .1 (q, w, and-iff (assigned f u q) (senior f q r) .1 (a, s)),
+  )
+    where
+      test : ℕ → Bool
+      test q = assigned f u q && senior f q r
+
+  module _ (order : PartialOrder (labels f) (dominates f)) where
+    suits-iff : (l r : ℕ) → (suits f l r ≡ true)
+        ↔ (Passing (labels f) (dominates f) (mayAt f 1 r) (dominates f l) × Passing (labels f) (turned (dominates f)) (mayAt f 2 r) (λ a. dominates f a l))
+    unfolding suits rLevel wLevel
+    suits-iff l r =
+        let reads = passes-iff (labels f) (dominates f) (mayAt f 1 r) order (dominates f l) in
+        let writes = passes-iff (labels f) (turned (dominates f)) (mayAt f 2 r) (turned-order order) (λ a. dominates f a l) in
+        let one = passes (dominates f l) (rLevel f r) in
+        let two = passes (λ a. dominates f a l) (wLevel f r) in
+        (λ h. let (a, b) = and-iff one two .0 h in (reads .0 a, writes .0 b), λ (a, b). and-iff one two .1 (reads .1 a, writes .1 b))
+
+    take-iff : (p r : ℕ) → (takeRule f now p r ≡ 0) ↔ MayTake f cs p r
+    unfolding takeRule unless
+    take-iff p r = (
+      λ h.
+          let a = seated-done now p rest h in
+          let s = a .session in
+          let (w, b, c) = taking f r s (a .done) in
+          let (i, j) = suits-iff (s .label) r .0 c in
+          record { session = there p s (a .sits); role = w; member = belongs-iff (s .user) r .0 b; reads = i; writes = j },
+      λ g.
+          let (s, e, (u, l)) = session-of p (g .session) in
+          let b = belongs-iff (g .session .user) r .1 (g .member) in
+          let c = suits-iff (g .session .label) r .1 (g .reads, g .writes) in
+          seated-of p s rest e (rw (among-iff (roles f) r .1 (g .role), u, l, b, c)),
+    )
+      where
+        rest : Session → ℕ
+        rest s = unless (among (roles f) r) 25 (unless (belongs f (s .user) r) 27 (unless (suits f (s .label) r) 28 0))
+
+  -- ---- read and write
+
+  uses-iff : (m p o : ℕ) (s : Session) → now p ≡ some s → (uses f m s o ≡ true) ↔ ((r : ℕ) × Holds f cs p r × (may f m r o ≡ true))
+  unfolding uses
+  uses-iff m p o s e = (
+    λ h.
+        let (r, w, k) = some-iff test (roles f) .0 h in
+        let (a, b) = and-iff (s .held r) (may f m r o) .0 k in
+        (r, holds-iff f cs p r .0 (rw e a), b),
+    λ (r, k, b).
+        let a : s .held r ≡ true = rw e at (holds-iff f cs p r .1 k) in
+        let adm : Admitted f p s = rw e at (known p) in
+        some-iff test (roles f) .1 (r, adm .roles r a .0, and-iff (s .held r) (may f m r o) .1 (a, b)),
+  )
+    where
+      test : ℕ → Bool
+      test r = s .held r && may f m r o
+
+  part-iff : (m size p o k n : ℕ) → (partRule f m now size p o k n ≡ 0) ↔ MayUse f cs m size p o k n
+  unfolding partRule unless
+  part-iff m size p o k n = (
+    λ h.
+        let a = part-done f m now size p o k n h in
+        record {
+          session = there p (a .session) (a .sits);
+          card = a .card;
+          role = uses-iff m p o (a .session) (a .sits) .0 (a .used);
+          inCard = a .inCard;
+          inStore = a .inStore;
+        },
+    λ g.
+        let (s, e, same) = session-of p (g .session) in
+        seated-of p s rest e
+        (rw (
+          among-iff (cards f) o .1 (g .card),
+          uses-iff m p o s e .1 (g .role),
+          le-leb (k + n) 64 (g .inCard),
+          le-leb (64 * cards f) size (g .inStore),
+        )),
+  )
+    where
+      rest : Session → ℕ
+      rest s = unless (among (cards f) o) 25 (unless (uses f m s o) 29 (unless (leb (k + n) 64) 30 (unless (leb (64 * cards f) size) 31 0)))
+
+-- ---- demand 2
+
+pub rule-iff : (f : List ℕ) → Accepted f → (size : ℕ) (cs : List Call) (c : Call) → (rule f size (sessions f nobody cs) c ≡ 0) ↔ Granted f size cs c
+unfolding rule
+rule-iff f a size cs (opens p u l) = open-iff f cs p u l
+rule-iff f a size cs (closes p) = close-iff f cs p
+rule-iff f a size cs (takes p r) = take-iff f cs (a .ordered .dominance .order) p r
+rule-iff f a size cs (drops p r) = drop-iff f cs p r
+rule-iff f a size cs (reads p o k n) = part-iff f cs 1 size p o k n
+rule-iff f a size cs (writes p o k bytes) = part-iff f cs 2 size p o k (length bytes)
+
+pub done-iff : (f : List ℕ) → Accepted f → (xs ys : List ℕ) (v : Verdict) → 65536 ≤ length xs → Loaded f v xs ys → (store : List ℕ) (cs : List Call) (c : Call)
+    → (number (run (record { state = ys; store = store }) cs) c ≡ 0) ↔ Granted f (length store) cs c
+done-iff f a xs ys v enough load store cs c =
+    let e = answers f a xs ys v enough load store cs c in
+    let i = rule-iff f a (length store) cs c in
+    (λ h. i .0 (sym e ∙ h), λ g. e ∙ i .1 g)

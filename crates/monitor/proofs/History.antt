@@ -1,0 +1,264 @@
+-- Who sits where and what is held, by the calls: a session sits at a place exactly since an opening that was done, and holds a role exactly since a taking that was done. Each
+-- call begins such a thing, ends it or leaves it, and the rest is induction along the list. Assumes nothing.
+use Prim.Native.Nat.{ℕ, zero, suc}
+use mathlib.Core.Path.{_≡_, refl, sym, ap, _∙_}
+use mathlib.Core.Logic.{_↔_, _⊎_, inl, inr, ⊎-elim}
+use mathlib.Core.List.{List, [], _∷_, _++_}
+use mathlib.Core.Bool.{Bool, true, false, not, _&&_, _||_, cond, false≢true, and-false, and-true}
+use mathlib.Core.Option.{Option, none, some, Option·map}
+use native.Mathlib.Omega.{arith}
+use native.Mathlib.Decide.{ℕ-discrete}
+use lib.Dec.{eqb}
+use borrow.Author.Tests.{eqb-true, eq-eqb, ne-eqb, not-true}
+use Rattle.search.specs.Search.{among, Among}
+use Rattle.search.proofs.Truth.{or-iff, and-iff, among-iff, untrue, both}
+use Rattle.rolefile.specs.Said.{roles}
+use Rattle.monitor.specs.Calls.{unless, ifDone}
+use Rattle.monitor.specs.Runs.{Call, opens, closes, takes, drops, reads, writes}
+use Rattle.monitor.specs.Rules.{Session, Sessions, nobody, isFree, seated, belongs, suits, openRule, closeRule, takeRule, dropRule, rule, put, newcomer, holding, without, next, sessions}
+use Rattle.monitor.specs.Granted.{ends, NoneEnds, Since, Sits, Holds}
+use Rattle.monitor.proofs.Orderly.{Admitted, Known, Orderly, nobody-orderly, Opening, opening, seated-done, either-way, orderly-next}
+
+-- ---- lists of calls
+
+pub sessions-append : (f : List ℕ) (ds cs : List Call) (t : Sessions) → sessions f t (ds ++ cs) ≡ sessions f (sessions f t ds) cs
+unfolding sessions
+sessions-append f [] cs t = refl
+sessions-append f (c ∷ ds) cs t = sessions-append f ds cs (next f t c)
+
+pub orderly-sessions : (f : List ℕ) (cs : List Call) (t : Sessions) → Orderly f t → Orderly f (sessions f t cs)
+unfolding sessions
+orderly-sessions f [] t k = k
+orderly-sessions f (c ∷ cs) t k = orderly-sessions f cs (next f t c) (orderly-next f t k c)
+
+-- ---- one place
+
+-- what is true of the session that sits there
+abbrev pub Sat : (Session → Type 0) → Option Session → Type 0
+Sat Good none = ⊥
+Sat Good (some s) = Good s
+
+pub sat-some : (Good : Session → Type 0) (o : Option Session) → Sat Good o → (s : Session) × (o ≡ some s) × Good s
+sat-some Good none h = absurd h
+sat-some Good (some s) h = (s, refl, h)
+
+-- which way a call went
+which-way : {A : Type 0} (P : A → Type 0) (n : ℕ) (new old : A) → P (ifDone n new old) → ((n ≡ 0) × P new) ⊎ ((n ≡ 0 → ⊥) × P old)
+unfolding ifDone
+which-way P zero new old h = inl (refl, h)
+which-way P (suc n) new old h = inr (λ e. omega arith, h)
+
+module _ (t : Sessions) (q : ℕ) (s : Option Session) (p : ℕ) where
+  pub put-at : q ≡ p → put t q s p ≡ s
+  put-at e = rw (eq-eqb p q (sym e))
+
+  pub put-other : (q ≡ p → ⊥) → put t q s p ≡ t p
+  put-other n = rw (ne-eqb p q (λ e. n (sym e)))
+
+-- a closing of a place where a session sits is done, and so is a dropping of a role of the file
+module _ (f : List ℕ) (t : Sessions) (known : Orderly f t) (p : ℕ) (s : Session) (sits : t p ≡ some s) where
+  admitted : Admitted f p s
+  admitted = rw sits at (known p)
+
+  pub close-done : closeRule t p ≡ 0
+  unfolding closeRule unless
+  close-done = rw (among-iff 64 p .1 (admitted .place), sits)
+
+  drop-done : (r : ℕ) → Among (roles f) r → dropRule f t p r ≡ 0
+  unfolding dropRule unless
+  drop-done r w = rw (among-iff 64 p .1 (admitted .place), sits, among-iff (roles f) r .1 w)
+
+-- ---- what begins with a call at place p and ends with a closing, or with a dropping of a role of the set
+pub record Kind (p : ℕ) (set : ℕ → Bool) (call : Call) (Good : Session → Type 0) : Type 0 where
+  pub opened : (u l : ℕ) → Good (newcomer u l) → opens p u l ≡ call
+  pub taken : (r : ℕ) (s : Session) → Good (holding r s) → Good s ⊎ (takes p r ≡ call)
+  pub keeps : (r : ℕ) (s : Session) → Good s → Good (holding r s)
+  pub dropped : (r : ℕ) (s : Session) → Good (without r s) → Good s × (set r ≡ false)
+  pub spares : (r : ℕ) (s : Session) → Good s → set r ≡ false → Good (without r s)
+  pub role : (f : List ℕ) (s : Session) → Admitted f p s → Good s → (r : ℕ) → set r ≡ true → Among (roles f) r
+
+module _ (f : List ℕ) (p : ℕ) (set : ℕ → Bool) (call : Call) (Good : Session → Type 0) (kind : Kind p set call Good) (t : Sessions) (known : Orderly f t) where
+  -- what is so at place p
+  abbrev So : Sessions → Type 0
+  So u = Sat Good (u p)
+
+  changed : (change : Session → Session) → ((s : Session) → Good s → Good (change s)) → (o : Option Session) → Sat Good o → Sat Good (Option·map change o)
+  changed change h none e = e
+  changed change h (some s) e = h s e
+
+  elsewhere : (q : ℕ) (s : Option Session) → (q ≡ p → ⊥) → So t → So (put t q s)
+  elsewhere q s n h = rw (put-other t q s p n) h
+
+  back-elsewhere : (q : ℕ) (s : Option Session) → (q ≡ p → ⊥) → So (put t q s) → So t
+  back-elsewhere q s n h = rw (put-other t q s p n) at h
+
+  -- it lasts through each call that does not end it
+  lasts-next : (c : Call) → So t → ends p set c ≡ false → So (next f t c)
+  unfolding next closeRule dropRule
+  lasts-next (opens q u l) h e = either-way So (openRule f t q u l) (put t q (some (newcomer u l))) t
+      (λ z. elim (ℕ-discrete q p) [
+        | yes i ↦
+            let (s, sits, g) = sat-some Good (t p) h in
+            let free : isFree (t p) ≡ true = rw i at (opening f t q u l z .free) in
+            absurd (false≢true (rw sits at free))
+        | no n ↦ elsewhere q (some (newcomer u l)) n h
+      ])
+      h
+  lasts-next (closes q) h e = either-way So (closeRule t q) (put t q none) t
+      (λ z. elsewhere q none (λ i. both (eq-eqb q p i) e) h) h
+  lasts-next (takes q r) h e = either-way So (takeRule f t q r) (put t q (Option·map (holding r) (t q))) t
+      (λ z. elim (ℕ-discrete q p) [
+        | yes i ↦ rw (put-at t q (Option·map (holding r) (t q)) p i, i) (changed (holding r) (kind .keeps r) (t p) h)
+        | no n ↦ elsewhere q (Option·map (holding r) (t q)) n h
+      ])
+      h
+  lasts-next (drops q r) h e = either-way So (dropRule f t q r) (put t q (Option·map (without r) (t q))) t
+      (λ z. elim (ℕ-discrete q p) [
+        | yes i ↦
+            let other : set r ≡ false = rw (eq-eqb q p i) at e in
+            rw (put-at t q (Option·map (without r) (t q)) p i, i) (changed (without r) (λ s g. kind .spares r s g other) (t p) h)
+        | no n ↦ elsewhere q (Option·map (without r) (t q)) n h
+      ])
+      h
+  lasts-next (reads q o k n) h e = h
+  lasts-next (writes q o k bytes) h e = h
+
+  -- and where it is so after a call, it was so and the call did not end it, or the call began it
+  abbrev Came : Call → Type 0
+  Came c = (So t × (ends p set c ≡ false)) ⊎ ((c ≡ call) × (rule f 0 t c ≡ 0))
+
+  back-taken : (r : ℕ) (o : Option Session) → Sat Good (Option·map (holding r) o) → Sat Good o ⊎ (takes p r ≡ call)
+  back-taken r none h = inl h
+  back-taken r (some s) h = kind .taken r s h
+
+  back-dropped : (r : ℕ) (o : Option Session) → Sat Good (Option·map (without r) o) → Sat Good o × (set r ≡ false)
+  back-dropped r none h = absurd h
+  back-dropped r (some s) h = kind .dropped r s h
+
+  back-next : (c : Call) → So (next f t c) → Came c
+  unfolding next rule
+  back-next (opens q u l) h =
+      ⊎-elim
+      (λ (z, g). elim (ℕ-discrete q p) [
+        | yes i ↦ inr (rw i (kind .opened u l (rw (put-at t q (some (newcomer u l)) p i) at g)), z)
+        | no n ↦ inl (back-elsewhere q (some (newcomer u l)) n g, refl)
+      ])
+      (λ (z, g). inl (g, refl))
+      (which-way So (openRule f t q u l) (put t q (some (newcomer u l))) t h)
+  back-next (closes q) h =
+      ⊎-elim
+      (λ (z, g). elim (ℕ-discrete q p) [
+        | yes i ↦ absurd (rw (put-at t q none p i) at g)
+        | no n ↦ inl (back-elsewhere q none n g, ne-eqb q p n)
+      ])
+      (λ (z, g).
+      let (s, sits, good) = sat-some Good (t p) g in
+      inl (g, ne-eqb q p (λ i. z (rw i (close-done f t known p s sits)))))
+      (which-way So (closeRule t q) (put t q none) t h)
+  back-next (takes q r) h =
+      ⊎-elim
+      (λ (z, g). elim (ℕ-discrete q p) [
+        | yes i ↦
+            ⊎-elim (λ so. inl (so, refl)) (λ e. inr (rw i e, z))
+            (back-taken r (t p) (rw i at (rw (put-at t q (Option·map (holding r) (t q)) p i) at g)))
+        | no n ↦ inl (back-elsewhere q (Option·map (holding r) (t q)) n g, refl)
+      ])
+      (λ (z, g). inl (g, refl))
+      (which-way So (takeRule f t q r) (put t q (Option·map (holding r) (t q))) t h)
+  back-next (drops q r) h =
+      ⊎-elim
+      (λ (z, g). elim (ℕ-discrete q p) [
+        | yes i ↦
+            let (so, other) = back-dropped r (t p) (rw i at (rw (put-at t q (Option·map (without r) (t q)) p i) at g)) in
+            inl (so, rw other (and-false (eqb q p)))
+        | no n ↦ inl (back-elsewhere q (Option·map (without r) (t q)) n g, rw (ne-eqb q p n))
+      ])
+      (λ (z, g).
+      let (s, sits, good) = sat-some Good (t p) g in
+      inl (
+        g,
+        untrue (eqb q p && set r) (λ e.
+            let (i, j) = and-iff (eqb q p) (set r) .0 e in
+            z (rw (eqb-true q p i) (drop-done f t known p s sits r (kind .role f s (rw sits at (known p)) good r j)))),
+      ))
+      (which-way So (dropRule f t q r) (put t q (Option·map (without r) (t q))) t h)
+  back-next (reads q o k n) h = inl (h, refl)
+  back-next (writes q o k bytes) h = inl (h, refl)
+
+-- ---- along a list
+
+module _ (f : List ℕ) (p : ℕ) (set : ℕ → Bool) (call : Call) (Good : Session → Type 0) (kind : Kind p set call Good)
+    (begins : (t : Sessions) → rule f 0 t call ≡ 0 → Sat Good (next f t call p)) where
+  lasts-on : (cs : List Call) (t : Sessions) → Orderly f t → Sat Good (t p) → NoneEnds p set cs → Sat Good (sessions f t cs p)
+  unfolding sessions
+  lasts-on [] t k h lasting = h
+  lasts-on (c ∷ cs) t k h (e, lasting) = lasts-on cs (next f t c) (orderly-next f t k c) (lasts-next f p set call Good kind t k c h e) lasting
+
+  came : (cs : List Call) (t : Sessions) → Orderly f t → Sat Good (sessions f t cs p) → (Sat Good (t p) × NoneEnds p set cs) ⊎ Since f t p set call cs
+  unfolding sessions
+  came [] t k h = inl (h, tt)
+  came (c ∷ cs) t k h =
+      ⊎-elim
+      (λ (so, lasting).
+      ⊎-elim
+      (λ (before, e). inl (before, (e, lasting)))
+      (λ (e, z). inr (record { earlier = []; later = cs; split = ap (λ (d : Call). d ∷ cs) e; done = rw e at z; lasts = lasting }))
+      (back-next f p set call Good kind t k c so))
+      (λ s.
+      inr (record { earlier = c ∷ s .earlier; later = s .later; split = ap (λ (ds : List Call). c ∷ ds) (s .split); done = s .done; lasts = s .lasts }))
+      (came cs (next f t c) (orderly-next f t k c) h)
+
+  pub since-iff : (cs : List Call) → Sat Good (sessions f nobody cs p) ↔ Since f nobody p set call cs
+  unfolding sessions
+  since-iff cs = (
+    λ h. ⊎-elim (λ (so, lasting). absurd so) (λ s. s) (came cs nobody (nobody-orderly f) h),
+    λ s.
+        let t = sessions f nobody (s .earlier) in
+        let k = orderly-sessions f (s .earlier) nobody (nobody-orderly f) in
+        rw (s .split, sessions-append f (s .earlier) (call ∷ s .later) nobody)
+        (lasts-on (s .later) (next f t call) (orderly-next f t k call) (begins t (s .done)) (s .lasts)),
+  )
+
+-- ---- who sits there, and what is held
+
+module _ (f : List ℕ) (cs : List Call) (p : ℕ) where
+  abbrev pub Opened : ℕ → ℕ → Session → Type 0
+  Opened u l s = (s .user ≡ u) × (s .label ≡ l)
+
+  sits-kind : (u l : ℕ) → Kind p (λ r. false) (opens p u l) (Opened u l)
+  sits-kind u l = record {
+    opened = λ v m (e, g). rw (e, g);
+    taken = λ r s g. inl g;
+    keeps = λ r s g. g;
+    dropped = λ r s g. (g, refl);
+    spares = λ r s g e. g;
+    role = λ f s a g r e. absurd (false≢true e);
+  }
+
+  pub sits-iff : (u l : ℕ) → Sat (Opened u l) (sessions f nobody cs p) ↔ Sits f cs p u l
+  unfolding rule next ifDone
+  sits-iff u l = since-iff f p (λ r. false) (opens p u l) (Opened u l) (sits-kind u l) (λ t z. rw (z, eq-eqb p p refl) (refl, refl)) cs
+
+  abbrev pub Held : ℕ → Session → Type 0
+  Held r s = s .held r ≡ true
+
+  holds-kind : (r : ℕ) → Kind p (λ q. eqb q r) (takes p r) (Held r)
+  holds-kind r = record {
+    opened = λ u l g. absurd (false≢true g);
+    taken = λ q s g. ⊎-elim (λ h. inl h) (λ e. inr (rw (eqb-true r q e))) (or-iff (s .held r) (eqb r q) .0 g);
+    keeps = λ q s g. or-iff (s .held r) (eqb r q) .1 (inl g);
+    dropped = λ q s g.
+        let (h, n) = and-iff (s .held r) (not (eqb r q)) .0 g in
+        (h, untrue (eqb q r) (λ e. both (eq-eqb r q (sym (eqb-true q r e))) (not-true (eqb r q) n)));
+    spares = λ q s g e. rw (g, ne-eqb r q (λ i. both (eq-eqb q r (sym i)) e));
+    role = λ f s a g q e. rw (eqb-true q r e) (a .roles r g .0);
+  }
+
+  pub holds-iff : (r : ℕ) → Sat (Held r) (sessions f nobody cs p) ↔ Holds f cs p r
+  unfolding rule next ifDone takeRule
+  holds-iff r = since-iff f p (λ q. eqb q r) (takes p r) (Held r) (holds-kind r) begun cs
+    where
+      begun : (t : Sessions) → takeRule f t p r ≡ 0 → Sat (Held r) (next f t (takes p r) p)
+      begun t z =
+          let a = seated-done t p (λ s. unless (among (roles f) r) 25 (unless (belongs f (s .user) r) 27 (unless (suits f (s .label) r) 28 0))) z in
+          rw (z, eq-eqb p p refl, a .sits) (or-iff (a .session .held r) (eqb r r) .1 (inr (eq-eqb r r refl)))

@@ -1,0 +1,198 @@
+-- Each test that a call makes, on a state that stands for the sessions, is the rule's test by the file; so is each number. Assumes nothing.
+use Prim.Native.Nat.{ℕ, _+_, _*_, _-_, _≤_, _<_}
+use mathlib.Core.Path.{_≡_, refl, sym, ap, _∙_}
+use mathlib.Core.Logic.{inl, inr}
+use mathlib.Core.List.{List}
+use mathlib.Core.Bool.{Bool, true, false, not, _&&_, _||_, and-false}
+use mathlib.Core.Option.{Option, none, some}
+use native.Mathlib.Omega.{arith}
+use lib.Dec.{leb, eqb}
+use lib.ListN.{length, getD}
+use borrow.Author.Tests.{le-leb}
+use Rattle.search.specs.Search as search
+use Rattle.search.specs.Search.{among, Among}
+use Rattle.search.proofs.Truth.{and-iff, among-iff, same}
+use Rattle.search.proofs.Found.{some-iff, some-of}
+use Rattle.roleset.specs.Row.{member, common}
+use Rattle.roleset.proofs.Rows.{whole-true}
+use Rattle.order.specs.Bound.{turned}
+use Rattle.rolefile.specs.Said.{labels, roles, users, cards, clearance, assigned}
+use Rattle.rolefile.specs.WellFormed.{WellFormed}
+use Rattle.policy.specs.Policy.{dominates, senior, may, mayAt, rLevel, wLevel}
+use Rattle.policy.specs.Tables.{stateSize, rowOf, marked, seniorsAt, assignedAt, readersAt, writersAt}
+use Rattle.policy.proofs.Assigning.{passes-shown}
+use Rattle.policy.proofs.Inside.{assigned-known}
+use Rattle.policy.proofs.Meaning.{counts-known, marked-file}
+use Rattle.monitor.specs.Session.{sound, labelsIn, rolesIn, usersIn, cardsIn, placeAt, heldAt, inUse, userAt, labelAt, cleared, entitled, fitting, gives}
+use Rattle.monitor.specs.Calls.{unless, openNumber, closeNumber, takeNumber, dropNumber, partNumber}
+use Rattle.monitor.specs.Rules.{Session, Sessions, isFree, seated, belongs, suits, uses, openRule, closeRule, takeRule, dropRule, partRule}
+use Rattle.monitor.proofs.Orderly.{Admitted, Known, Orderly}
+use Rattle.monitor.proofs.Stands.{SessionAt, Seat, Stands}
+
+-- ---- rows of tests
+
+-- the same test, and the same after it where it passes
+pub test-same : (b c : Bool) (n : ℕ) {x y : ℕ} → b ≡ c → (c ≡ true → x ≡ y) → unless b n x ≡ unless c n y
+unfolding unless
+test-same b true n e h = rw e (h refl)
+test-same b false n e h = rw e
+
+pub test-passed : {b : Bool} (n : ℕ) {x : ℕ} → b ≡ true → unless b n x ≡ x
+unfolding unless
+test-passed n e = rw e
+
+module _ (f : List ℕ) (form : WellFormed f) (t : Sessions) (known : Orderly f t) (xs : List ℕ) (stands : Stands f t xs) where
+  -- ---- the tests
+
+  pub sound-file : sound xs ≡ true
+  unfolding sound
+  sound-file =
+      let c = counts-known f form in
+      let e = stands .tables .counted in
+      rw (
+        le-leb stateSize (length xs) (stands .long),
+        e .labels,
+        e .roles,
+        e .users,
+        e .cards,
+        among-iff 32 (labels f) .1 (c .labels),
+        le-leb (roles f) 128 (c .roles),
+        le-leb (users f) 256 (c .users),
+        le-leb (cards f) 512 (c .cards),
+      )
+
+  free-file : (p : ℕ) → Among 64 p → not (inUse xs p) ≡ isFree (t p)
+  unfolding inUse
+  free-file p w = by (t p) (stands .seats p w)
+    where
+      by : (s : Option Session) → Seat xs p s → not (eqb (getD xs (placeAt p) 0) 1) ≡ isFree s
+      by none e = rw e
+      by (some s) a = rw (a .used)
+
+  -- a session sits there, or 24
+  seated-file : (p : ℕ) → Among 64 p → {x : ℕ} (rule : Session → ℕ) → ((s : Session) → SessionAt xs p s → Admitted f p s → x ≡ rule s)
+      → unless (inUse xs p) 24 x ≡ seated (t p) rule
+  unfolding inUse unless
+  seated-file p w {x} rule h = by (t p) (stands .seats p w) (known p)
+    where
+      by : (s : Option Session) → Seat xs p s → Known f p s → unless (eqb (getD xs (placeAt p) 0) 1) 24 x ≡ seated s rule
+      by none e k = rw e
+      by (some s) a k = rw (a .used) (h s a k)
+
+  cleared-file : (u l : ℕ) → Among (users f) u → Among (labels f) l → cleared xs u l ≡ dominates f (clearance f u) l
+  unfolding cleared
+  cleared-file u l v w =
+      let few = counts-known f form .users in
+      rw (stands .tables .labelled .users u (omega arith)) (marked-file f form xs (stands .tables) (clearance f u) l (inr w))
+
+  -- two rows with a role in common, where both together say g
+  common-file : (a b n : ℕ) (g : ℕ → Bool) → a + 16 ≤ length xs → b + 16 ≤ length xs → n ≤ 128
+      → ((r : ℕ) → Among 128 r → (member xs a r && member xs b r) ≡ g r) → ((r : ℕ) → g r ≡ true → Among n r) → common xs a b ≡ search.some n g
+  unfolding common
+  common-file a b n g i j few agree inside =
+      rw (whole-true xs a i, whole-true xs b j)
+      (same (search.some 128 both) (search.some n g)
+      (λ h. let (r, w, e) = some-iff both 128 .0 h in let k = sym (agree r w) ∙ e in some-of g n r (inside r k) k)
+      (λ h. let (r, w, e) = some-iff g n .0 h in let v : Among 128 r = omega arith in some-of both 128 r v (agree r v ∙ e)))
+    where
+      both : ℕ → Bool
+      both r = member xs a r && member xs b r
+
+  entitled-file : (u r : ℕ) → Among (users f) u → Among (roles f) r → entitled xs u r ≡ belongs f u r
+  unfolding entitled belongs
+  entitled-file u r v w =
+      let c = counts-known f form in
+      let few-users = c .users in
+      let few-roles = c .roles in
+      let long = stands .long in
+      common-file (rowOf assignedAt u) (rowOf seniorsAt r) (roles f) (λ q. assigned f u q && senior f q r) (omega arith) (omega arith) (omega arith)
+      (λ q i. rw (stands .tables .assigning u q (omega arith) i, stands .tables .seniors r q (omega arith) i, le-leb r (roles f) (w .1)))
+      (λ q e. assigned-known f (form .good) u q (and-iff (assigned f u q) (senior f q r) .0 e .0) .1)
+
+  fitting-file : (l r : ℕ) → Among (labels f) l → Among (roles f) r → fitting xs l r ≡ suits f l r
+  unfolding fitting suits rLevel wLevel
+  fitting-file l r v w =
+      let c = counts-known f form in
+      let few-roles = c .roles in
+      let i : Among 128 r = omega arith in
+      rw (
+        stands .tables .levelled .reads r i,
+        stands .tables .levelled .writes r i,
+        passes-shown (labels f) (dominates f) (mayAt f 1 r) (c .labels .1) (marked xs l) (dominates f l)
+            (and-false (among 32 l)) (λ a j. marked-file f form xs (stands .tables) l a (inl v)),
+        passes-shown (labels f) (turned (dominates f)) (mayAt f 2 r) (c .labels .1) (λ a. marked xs a l) (λ a. dominates f a l)
+            refl (λ a j. marked-file f form xs (stands .tables) a l (inr v)),
+      )
+
+  -- the table at `at` says who may use cards by mode m
+  module _ (at m : ℕ) (inside : at + 8192 ≤ 65536) (says : (o r : ℕ) → Among 512 o → Among 128 r → member xs (rowOf at o) r ≡ may f m r o) where
+    gives-file : (p o : ℕ) (s : Session) → SessionAt xs p s → Admitted f p s → Among (cards f) o → gives xs at p o ≡ uses f m s o
+    unfolding gives uses
+    gives-file p o s a k w =
+        let c = counts-known f form in
+        let few-cards = c .cards in
+        let few-roles = c .roles in
+        let place = k .place in
+        let long = stands .long in
+        common-file (heldAt p) (rowOf at o) (roles f) (λ r. s .held r && may f m r o) (omega arith) (omega arith) (omega arith)
+        (λ r i. rw (a .held r, says o r (omega arith) i))
+        (λ r e. k .roles r (and-iff (s .held r) (may f m r o) .0 e .0) .0)
+
+    pub part-file : (size p o k n : ℕ) → partNumber at xs size p o k n ≡ partRule f m t size p o k n
+    unfolding partNumber partRule
+    part-file size p o k n =
+        test-passed 21 sound-file
+        ∙ test-same (among 64 p) (among 64 p) 22 refl (λ place.
+        seated-file p (among-iff 64 p .0 place) _ (λ s a adm.
+        test-same (among (cardsIn xs) o) (among (cards f) o) 25 (rw (stands .tables .counted .cards)) (λ card.
+        test-same (gives xs at p o) (uses f m s o) 29 (gives-file p o s a adm (among-iff (cards f) o .0 card)) (λ used.
+        test-same (leb (k + n) 64) (leb (k + n) 64) 30 refl (λ fits.
+        test-same (leb (64 * cardsIn xs) size) (leb (64 * cards f) size) 31 (rw (stands .tables .counted .cards)) (λ stored. refl))))))
+
+  -- ---- the numbers
+
+  pub open-file : (p u l : ℕ) → openNumber xs p u l ≡ openRule f t p u l
+  unfolding openNumber openRule
+  open-file p u l =
+      test-passed 21 sound-file
+      ∙ test-same (among 64 p) (among 64 p) 22 refl (λ place.
+      test-same (not (inUse xs p)) (isFree (t p)) 23 (free-file p (among-iff 64 p .0 place)) (λ free.
+      test-same (among (usersIn xs) u) (among (users f) u) 25 (rw (stands .tables .counted .users)) (λ user.
+      test-same (among (labelsIn xs) l) (among (labels f) l) 25 (rw (stands .tables .counted .labels)) (λ label.
+      test-same (cleared xs u l) (dominates f (clearance f u) l) 26
+      (cleared-file u l (among-iff (users f) u .0 user) (among-iff (labels f) l .0 label)) (λ dominated. refl)))))
+
+  pub close-file : (p : ℕ) → closeNumber xs p ≡ closeRule t p
+  unfolding closeNumber closeRule
+  close-file p =
+      test-passed 21 sound-file
+      ∙ test-same (among 64 p) (among 64 p) 22 refl (λ place. seated-file p (among-iff 64 p .0 place) (λ s. 0) (λ s a adm. refl))
+
+  user-is : (p : ℕ) (s : Session) → SessionAt xs p s → userAt xs p ≡ s .user
+  unfolding userAt
+  user-is p s a = a .user
+
+  label-is : (p : ℕ) (s : Session) → SessionAt xs p s → labelAt xs p ≡ s .label
+  unfolding labelAt
+  label-is p s a = a .label
+
+  pub take-file : (p r : ℕ) → takeNumber xs p r ≡ takeRule f t p r
+  unfolding takeNumber takeRule
+  take-file p r =
+      test-passed 21 sound-file
+      ∙ test-same (among 64 p) (among 64 p) 22 refl (λ place.
+      seated-file p (among-iff 64 p .0 place) _ (λ s a adm.
+      test-same (among (rolesIn xs) r) (among (roles f) r) 25 (rw (stands .tables .counted .roles)) (λ role.
+      let w = among-iff (roles f) r .0 role in
+      test-same (entitled xs (userAt xs p) r) (belongs f (s .user) r) 27
+      (ap (λ (u : ℕ). entitled xs u r) (user-is p s a) ∙ entitled-file (s .user) r (adm .user) w) (λ member.
+      test-same (fitting xs (labelAt xs p) r) (suits f (s .label) r) 28
+      (ap (λ (l : ℕ). fitting xs l r) (label-is p s a) ∙ fitting-file (s .label) r (adm .label) w) (λ suited. refl)))))
+
+  pub drop-file : (p r : ℕ) → dropNumber xs p r ≡ dropRule f t p r
+  unfolding dropNumber dropRule
+  drop-file p r =
+      test-passed 21 sound-file
+      ∙ test-same (among 64 p) (among 64 p) 22 refl (λ place.
+      seated-file p (among-iff 64 p .0 place) _ (λ s a adm.
+      test-same (among (rolesIn xs) r) (among (roles f) r) 25 (rw (stands .tables .counted .roles)) (λ role. refl)))

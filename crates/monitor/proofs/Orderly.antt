@@ -1,0 +1,171 @@
+-- What the rules have seen to wherever a session sits: its place, user, label and roles are the file's, and each role held suits its label. Assumes nothing.
+use Prim.Native.Nat.{ℕ, zero, suc, _+_, _*_, _≤_, _<_}
+use mathlib.Core.Path.{_≡_, refl, sym, _∙_}
+use mathlib.Core.Logic.{⊎-elim}
+use mathlib.Core.List.{List, [], _∷_}
+use mathlib.Core.Bool.{Bool, true, false, not, _&&_, _||_, cond, false≢true}
+use mathlib.Core.Option.{Option, none, some, Option·map}
+use native.Mathlib.Omega.{arith}
+use native.Mathlib.Decide.{ℕ-discrete}
+use lib.Dec.{leb, eqb}
+use borrow.Author.Tests.{eqb-true, eq-eqb, ne-eqb, leb-true}
+use Rattle.search.specs.Search.{among, Among}
+use Rattle.search.proofs.Truth.{or-iff, and-iff, among-iff}
+use Rattle.rolefile.specs.Said.{labels, roles, users, cards, clearance}
+use Rattle.policy.specs.Policy.{dominates}
+use Rattle.monitor.specs.Calls.{unless, ifDone}
+use Rattle.monitor.specs.Runs.{Call, opens, closes, takes, drops, reads, writes}
+use Rattle.monitor.specs.Rules.{Session, Sessions, nobody, isFree, seated, belongs, suits, uses, openRule, closeRule, takeRule, dropRule, partRule, put, newcomer, holding, without, next}
+use Rattle.monitor.proofs.Answers.{unless-done}
+
+pub record Admitted (f : List ℕ) (p : ℕ) (s : Session) : Type 0 where
+  pub place : Among 64 p
+  pub user : Among (users f) (s .user)
+  pub label : Among (labels f) (s .label)
+  pub roles : (r : ℕ) → s .held r ≡ true → Among (roles f) r × (suits f (s .label) r ≡ true)
+
+abbrev pub Known : List ℕ → ℕ → Option Session → Type 0
+Known f p none = Unit {0}
+Known f p (some s) = Admitted f p s
+
+abbrev pub Orderly : List ℕ → Sessions → Type 0
+Orderly f t = (p : ℕ) → Known f p (t p)
+
+pub nobody-orderly : (f : List ℕ) → Orderly f nobody
+nobody-orderly f p = tt
+
+pub orderly-put : (f : List ℕ) (t : Sessions) (p : ℕ) (s : Option Session) → Orderly f t → Known f p s → Orderly f (put t p s)
+orderly-put f t p s known new q = elim (ℕ-discrete q p) [
+  | yes e ↦ rw (e, eq-eqb p p refl) new
+  | no n ↦ rw (ne-eqb q p n) (known q)
+]
+
+-- ---- what a rule that is done tells
+
+pub record Opening (f : List ℕ) (t : Sessions) (p u l : ℕ) : Type 0 where
+  pub place : Among 64 p
+  pub free : isFree (t p) ≡ true
+  pub user : Among (users f) u
+  pub label : Among (labels f) l
+  pub cleared : dominates f (clearance f u) l ≡ true
+
+pub opening : (f : List ℕ) (t : Sessions) (p u l : ℕ) → openRule f t p u l ≡ 0 → Opening f t p u l
+unfolding openRule
+opening f t p u l h =
+    let a = unless-done (among 64 p) 22 _ (omega arith) h in
+    let b = unless-done (isFree (t p)) 23 _ (omega arith) (a .1) in
+    let c = unless-done (among (users f) u) 25 _ (omega arith) (b .1) in
+    let d = unless-done (among (labels f) l) 25 _ (omega arith) (c .1) in
+    let e = unless-done (dominates f (clearance f u) l) 26 _ (omega arith) (d .1) in
+    record {
+      place = among-iff 64 p .0 (a .0);
+      free = b .0;
+      user = among-iff (users f) u .0 (c .0);
+      label = among-iff (labels f) l .0 (d .0);
+      cleared = e .0;
+    }
+
+-- a session sits there
+pub record At (t : Sessions) (p : ℕ) (rule : Session → ℕ) : Type 0 where
+  pub place : Among 64 p
+  pub session : Session
+  pub sits : t p ≡ some session
+  pub done : rule session ≡ 0
+
+pub seated-done : (t : Sessions) (p : ℕ) (rule : Session → ℕ) → unless (among 64 p) 22 (seated (t p) rule) ≡ 0 → At t p rule
+seated-done t p rule h =
+    let a = unless-done (among 64 p) 22 (seated (t p) rule) (omega arith) h in
+    there (among-iff 64 p .0 (a .0)) (t p) refl (a .1)
+  where
+    there : Among 64 p → (s : Option Session) → t p ≡ s → seated s rule ≡ 0 → At t p rule
+    there w none e d = absurd (omega arith)
+    there w (some s) e d = record { place = w; session = s; sits = e; done = d }
+
+pub taking : (f : List ℕ) (r : ℕ) (s : Session) → unless (among (roles f) r) 25 (unless (belongs f (s .user) r) 27 (unless (suits f (s .label) r) 28 0)) ≡ 0
+    → Among (roles f) r × (belongs f (s .user) r ≡ true) × (suits f (s .label) r ≡ true)
+taking f r s h =
+    let a = unless-done (among (roles f) r) 25 _ (omega arith) h in
+    let b = unless-done (belongs f (s .user) r) 27 _ (omega arith) (a .1) in
+    let c = unless-done (suits f (s .label) r) 28 _ (omega arith) (b .1) in
+    (among-iff (roles f) r .0 (a .0), b .0, c .0)
+
+pub dropping : (f : List ℕ) (r : ℕ) → unless (among (roles f) r) 25 0 ≡ 0 → Among (roles f) r
+dropping f r h = among-iff (roles f) r .0 (unless-done (among (roles f) r) 25 0 (omega arith) h .0)
+
+-- a read or a write that is done
+pub record Using (f : List ℕ) (m : ℕ) (t : Sessions) (size p o k n : ℕ) : Type 0 where
+  pub place : Among 64 p
+  pub session : Session
+  pub sits : t p ≡ some session
+  pub card : Among (cards f) o
+  pub used : uses f m session o ≡ true
+  pub inCard : k + n ≤ 64
+  pub inStore : 64 * cards f ≤ size
+
+pub part-done : (f : List ℕ) (m : ℕ) (t : Sessions) (size p o k n : ℕ) → partRule f m t size p o k n ≡ 0 → Using f m t size p o k n
+unfolding partRule
+part-done f m t size p o k n h =
+    let a = seated-done t p (λ s. unless (among (cards f) o) 25 (unless (uses f m s o) 29 (unless (leb (k + n) 64) 30 (unless (leb (64 * cards f) size) 31 0)))) h in
+    let (i, b) = unless-done (among (cards f) o) 25 _ (omega arith) (a .done) in
+    let (j, c) = unless-done (uses f m (a .session) o) 29 _ (omega arith) b in
+    let (x, d) = unless-done (leb (k + n) 64) 30 _ (omega arith) c in
+    let (y, z) = unless-done (leb (64 * cards f) size) 31 _ (omega arith) d in
+    record {
+      place = a .place;
+      session = a .session;
+      sits = a .sits;
+      card = among-iff (cards f) o .0 i;
+      used = j;
+      inCard = leb-true (k + n) 64 x;
+      inStore = leb-true (64 * cards f) size y;
+    }
+
+-- ---- each call keeps it so
+
+pub either-way : {A : Type 0} (P : A → Type 0) (n : ℕ) (new old : A) → (n ≡ 0 → P new) → P old → P (ifDone n new old)
+unfolding ifDone
+either-way P zero new old h k = h refl
+either-way P (suc n) new old h k = k
+
+module _ (f : List ℕ) (t : Sessions) (known : Orderly f t) where
+  admitted : (p : ℕ) (s : Session) → t p ≡ some s → Admitted f p s
+  admitted p s e = rw e at (known p)
+
+  pub orderly-next : (c : Call) → Orderly f (next f t c)
+  unfolding next closeRule takeRule dropRule
+  orderly-next (opens p u l) = either-way (Orderly f) (openRule f t p u l) (put t p (some (newcomer u l))) t
+      (λ h.
+      let o = opening f t p u l h in
+      orderly-put f t p (some (newcomer u l)) known
+      (record { place = o .place; user = o .user; label = o .label; roles = λ r e. absurd (false≢true e) }))
+      known
+  orderly-next (closes p) = either-way (Orderly f) (closeRule t p) (put t p none) t (λ h. orderly-put f t p none known tt) known
+  orderly-next (takes p r) = either-way (Orderly f) (takeRule f t p r) (put t p (Option·map (holding r) (t p))) t
+      (λ h.
+      let a = seated-done t p (λ s. unless (among (roles f) r) 25 (unless (belongs f (s .user) r) 27 (unless (suits f (s .label) r) 28 0))) h in
+      let s = a .session in
+      let (w, b, c) = taking f r s (a .done) in
+      let m = admitted p s (a .sits) in
+      orderly-put f t p (Option·map (holding r) (t p)) known
+      (rw (a .sits) (record {
+        place = a .place;
+        user = m .user;
+        label = m .label;
+        roles = λ q e. ⊎-elim (m .roles q) (λ i. rw (eqb-true q r i) (w, c)) (or-iff (s .held q) (eqb q r) .0 e);
+      })))
+      known
+  orderly-next (drops p r) = either-way (Orderly f) (dropRule f t p r) (put t p (Option·map (without r) (t p))) t
+      (λ h.
+      let a = seated-done t p (λ s. unless (among (roles f) r) 25 0) h in
+      let s = a .session in
+      let m = admitted p s (a .sits) in
+      orderly-put f t p (Option·map (without r) (t p)) known
+      (rw (a .sits) (record {
+        place = a .place;
+        user = m .user;
+        label = m .label;
+        roles = λ q e. m .roles q (and-iff (s .held q) (not (eqb q r)) .0 e .0);
+      })))
+      known
+  orderly-next (reads p o k n) = known
+  orderly-next (writes p o k bytes) = known

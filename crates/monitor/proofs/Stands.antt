@@ -1,0 +1,165 @@
+-- A state stands for the sessions that the calls left: its tables describe the file, and each place holds the session that sits there. A call that writes one place and no
+-- more keeps it so. Assumes nothing.
+use Prim.Native.Nat.{ℕ, suc, _+_, _*_, _-_, _≤_, _<_}
+use mathlib.Core.Path.{_≡_, refl, sym, ap, _∙_}
+use mathlib.Core.List.{List, [], _∷_}
+use mathlib.Core.Bool.{Bool, true, false, _&&_, _||_}
+use mathlib.Core.Option.{Option, none, some}
+use native.Mathlib.Nat.{add-zero}
+use native.Mathlib.Omega.{arith}
+use native.Mathlib.Decide.{decLt, ℕ-discrete}
+use lib.Dec.{eqb}
+use lib.ListN.{length, getD, replicate, getD-replicate, length-set}
+use borrow.Author.Tests.{eq-eqb, ne-eqb}
+use Rattle.search.specs.Search.{Among}
+use Rattle.search.proofs.Truth.{among-iff}
+use Rattle.roleset.specs.Row.{member, Placed, added, removed}
+use Rattle.roleset.proofs.Rows.{member-of, same-bytes, no-bits}
+use Rattle.policy.specs.Tables.{Kept}
+use Rattle.policy.specs.Image.{Describes, Image}
+use Rattle.policy.proofs.Builds.{describes-stays}
+use Rattle.monitor.specs.Session.{placeAt, heldAt}
+use Rattle.monitor.specs.Calls.{written, opened, closed, taken, dropped}
+use Rattle.monitor.specs.Rules.{Session, Sessions, nobody, put, newcomer, holding, without}
+use Rattle.monitor.proofs.Frames.{length-written, written-in, written-out}
+use Rattle.monitor.proofs.Holding.{added-placed, removed-placed, length-less}
+
+pub record SessionAt (xs : List ℕ) (p : ℕ) (s : Session) : Type 0 where
+  pub used : getD xs (placeAt p) 0 ≡ 1
+  pub user : getD xs (placeAt p + 1) 0 + 1 ≡ s .user
+  pub label : getD xs (placeAt p + 2) 0 ≡ s .label
+  pub held : (r : ℕ) → member xs (heldAt p) r ≡ s .held r
+
+abbrev pub Seat : List ℕ → ℕ → Option Session → Type 0
+Seat xs p none = getD xs (placeAt p) 0 ≡ 0
+Seat xs p (some s) = SessionAt xs p s
+
+pub record Stands (f : List ℕ) (t : Sessions) (xs : List ℕ) : Type 0 where
+  pub long : 65536 ≤ length xs
+  pub tables : Describes f xs
+  pub seats : (p : ℕ) → Among 64 p → Seat xs p (t p)
+
+pub image-stands : (f xs : List ℕ) → 65536 ≤ length xs → Image f xs → Stands f nobody xs
+image-stands f xs long image = record {
+  long = long;
+  tables = image .tables;
+  seats = λ p w. image .unused (placeAt p) (omega arith, λ l. omega arith, λ l. omega arith) (omega arith);
+}
+
+-- ---- one place is written
+
+-- ys is xs but for the bytes of place p
+pub record Touched (p : ℕ) (xs ys : List ℕ) : Type 0 where
+  pub same : length ys ≡ length xs
+  pub rest : Kept (placeAt p) (placeAt p + 20) xs ys
+
+module _ (f : List ℕ) (t : Sessions) (xs ys : List ℕ) (p : ℕ) (stands : Stands f t xs) (w : Among 64 p) (touched : Touched p xs ys) where
+  -- the bytes of another place
+  elsewhere : (q : ℕ) → Among 64 q → (q ≡ p → ⊥) → (k : ℕ) → k < 20 → getD ys (placeAt q + k) 0 ≡ getD xs (placeAt q + k) 0
+  elsewhere q v n k l =
+      touched .rest (placeAt q + k) (λ m. elim (decLt q p) [ yes i ↦ absurd (omega arith) | no i ↦ elim (decLt p q) [ yes j ↦ omega arith | no j ↦ absurd (n (omega arith)) ] ])
+
+  seat-elsewhere : (q : ℕ) → Among 64 q → (q ≡ p → ⊥) → (s : Option Session) → Seat xs q s → Seat ys q s
+  seat-elsewhere q v n none e = rw add-zero at (elsewhere q v n 0 (omega arith)) ∙ e
+  seat-elsewhere q v n (some s) a = record {
+    used = rw add-zero at (elsewhere q v n 0 (omega arith)) ∙ a .used;
+    user = rw (elsewhere q v n 1 (omega arith)) (a .user);
+    label = elsewhere q v n 2 (omega arith) ∙ a .label;
+    held = λ r.
+        same-bytes xs ys (heldAt q) (heldAt q) (λ k l. let z : heldAt q + k ≡ placeAt q + (4 + k) = omega arith in rw z (elsewhere q v n (4 + k) (omega arith))) r
+        ∙ a .held r;
+  }
+
+  pub stands-put : (s : Option Session) → Seat ys p s → Stands f (put t p s) ys
+  stands-put s new = record {
+    long = rw (touched .same) (stands .long);
+    tables = describes-stays f xs ys (λ i l m. touched .rest i (λ n. absurd (omega arith))) (stands .tables);
+    seats = λ q v. elim (ℕ-discrete q p) [
+      | yes e ↦ rw (e, eq-eqb p p refl) new
+      | no n ↦ rw (ne-eqb q p n) (seat-elsewhere q v n (t q) (stands .seats q v))
+    ];
+  }
+
+-- ---- what each call writes
+
+module _ (xs : List ℕ) (p : ℕ) (long : 65536 ≤ length xs) (w : Among 64 p) where
+  -- a place written whole
+  whole-touched : (bytes : List ℕ) → length bytes ≡ 20 → Touched p xs (written xs (placeAt p) bytes)
+  whole-touched bytes n = record {
+    same = length-written xs (placeAt p) bytes (omega arith);
+    rest = λ i out. written-out xs (placeAt p) bytes (omega arith) i (λ l. omega (arith, out l));
+  }
+
+  abbrev seat : ℕ → ℕ → List ℕ
+  seat u l = 1 ∷ (u - 1) ∷ l ∷ replicate 17 0
+
+  pub opened-touched : (u l : ℕ) → Touched p xs (opened xs p u l)
+  unfolding opened
+  opened-touched u l = whole-touched (seat u l) refl
+
+  pub opened-seat : (u l : ℕ) → 1 ≤ u → Seat (opened xs p u l) p (some (newcomer u l))
+  unfolding opened
+  opened-seat u l i = record {
+    used = rw add-zero at (byte 0 (omega arith));
+    user = rw (byte 1 (omega arith)) (omega arith);
+    label = byte 2 (omega arith);
+    held = λ r. member-of ys (heldAt p) (λ k. 0) no-role r ∙ no-bits r;
+  }
+    where
+      ys : List ℕ
+      ys = written xs (placeAt p) (seat u l)
+
+      byte : (k : ℕ) → k < 20 → getD ys (placeAt p + k) 0 ≡ getD (seat u l) k 0
+      byte k m = written-in xs (placeAt p) (seat u l) (omega arith) k m
+
+      no-role : (k : ℕ) → k < 16 → getD ys (heldAt p + k) 0 ≡ 0
+      no-role k m =
+          let z : heldAt p + k ≡ placeAt p + (4 + k) = omega arith in
+          let n : 4 + k ≡ suc (suc (suc (suc k))) = omega arith in
+          ap (λ (i : ℕ). getD ys i 0) z ∙ byte (4 + k) (omega arith) ∙ ap (λ (i : ℕ). getD (seat u l) i 0) n ∙ getD-replicate 17 (suc k) 0 0 (omega arith)
+
+  pub closed-touched : Touched p xs (closed xs p)
+  unfolding closed
+  closed-touched = whole-touched (replicate 20 0) refl
+
+  pub closed-seat : Seat (closed xs p) p none
+  unfolding closed
+  closed-seat = rw add-zero at (written-in xs (placeAt p) (replicate 20 0) (omega arith) 0 (omega arith))
+
+  -- the row of held roles written
+  module _ (held : ℕ → Bool) (ys : List ℕ) (same : length ys ≡ length xs) (placed : Placed (heldAt p) held xs ys) where
+    row-touched : Touched p xs ys
+    row-touched = record { same = same; rest = λ i out. placed .rest i (λ l. omega (arith, out (omega arith))) }
+
+    row-seat : (s : Session) → SessionAt xs p s → (next : ℕ → Bool) → ((r : ℕ) → held r ≡ next r)
+        → SessionAt ys p (record { user = s .user; label = s .label; held = next })
+    row-seat s a next agree = record {
+      used = placed .rest (placeAt p) (λ l. absurd (omega arith)) ∙ a .used;
+      user = rw (placed .rest (placeAt p + 1) (λ l. absurd (omega arith))) (a .user);
+      label = placed .rest (placeAt p + 2) (λ l. absurd (omega arith)) ∙ a .label;
+      held = λ r. placed .row (omega arith) r ∙ agree r;
+    }
+
+  module _ (r : ℕ) (v : Among 128 r) where
+    pub taken-touched : Touched p xs (taken xs p r)
+    unfolding taken
+    taken-touched = row-touched (added xs (heldAt p) r) (taken xs p r) (length-set xs _ _) (added-placed xs (heldAt p) r (omega arith) v)
+
+    pub taken-seat : (s : Session) → SessionAt xs p s → Seat (taken xs p r) p (some (holding r s))
+    unfolding taken
+    taken-seat s a =
+        row-seat (added xs (heldAt p) r) (taken xs p r) (length-set xs _ _) (added-placed xs (heldAt p) r (omega arith) v) s a (holding r s .held)
+        (λ q. rw (among-iff 128 r .1 v, a .held q))
+
+    pub dropped-touched : Touched p xs (dropped xs p r)
+    unfolding dropped
+    dropped-touched =
+        row-touched (removed xs (heldAt p) r) (dropped xs p r)
+        (length-less xs (heldAt p) r (omega arith) v (member xs (heldAt p) r)) (removed-placed xs (heldAt p) r (omega arith) v)
+
+    pub dropped-seat : (s : Session) → SessionAt xs p s → Seat (dropped xs p r) p (some (without r s))
+    unfolding dropped
+    dropped-seat s a =
+        row-seat (removed xs (heldAt p) r) (dropped xs p r)
+        (length-less xs (heldAt p) r (omega arith) v (member xs (heldAt p) r)) (removed-placed xs (heldAt p) r (omega arith) v) s a (without r s .held)
+        (λ q. rw (a .held q))

@@ -1,0 +1,59 @@
+-- Runs of calls: each call on the state and store that the last one left, with the numbers, bytes and states of `Calls`. Assumes nothing.
+use Prim.Native.Nat.{ℕ}
+use mathlib.Core.List.{List, [], _∷_}
+use Rattle.monitor.specs.Calls.{openNumber, openState, closeNumber, closeState, takeNumber, takeState, dropNumber, dropState}
+use Rattle.monitor.specs.Calls.{readNumber, readBytes, writeNumber, writeStore}
+
+-- the six calls. "A read stands for both its calls", and "a write brings its bytes along as part of the call"
+pub data Call : Type 0 where
+  opens : (place user label : ℕ) → Call
+  closes : (place : ℕ) → Call
+  takes : (place role : ℕ) → Call
+  drops : (place role : ℕ) → Call
+  reads : (place card offset size : ℕ) → Call
+  writes : (place card offset : ℕ) (bytes : List ℕ) → Call
+
+-- what a call is lent
+pub record Memory : Type 0 where
+  pub state : List ℕ
+  pub store : List ℕ
+
+unfoldable pub number : Memory → Call → ℕ
+number m (opens p u l) = openNumber (m .state) p u l
+number m (closes p) = closeNumber (m .state) p
+number m (takes p r) = takeNumber (m .state) p r
+number m (drops p r) = dropNumber (m .state) p r
+number m (reads p o k n) = readNumber (m .state) (m .store) p o k n
+number m (writes p o k bytes) = writeNumber (m .state) (m .store) p o k bytes
+
+-- the bytes of a read's part; the other calls hand back none
+unfoldable pub part : Memory → Call → List ℕ
+part m (opens p u l) = []
+part m (closes p) = []
+part m (takes p r) = []
+part m (drops p r) = []
+part m (reads p o k n) = readBytes (m .state) (m .store) p o k n
+part m (writes p o k bytes) = []
+
+unfoldable pub stateAfter : Memory → Call → List ℕ
+stateAfter m (opens p u l) = openState (m .state) p u l
+stateAfter m (closes p) = closeState (m .state) p
+stateAfter m (takes p r) = takeState (m .state) p r
+stateAfter m (drops p r) = dropState (m .state) p r
+stateAfter m (reads p o k n) = m .state
+stateAfter m (writes p o k bytes) = m .state
+
+unfoldable pub storeAfter : Memory → Call → List ℕ
+storeAfter m (opens p u l) = m .store
+storeAfter m (closes p) = m .store
+storeAfter m (takes p r) = m .store
+storeAfter m (drops p r) = m .store
+storeAfter m (reads p o k n) = m .store
+storeAfter m (writes p o k bytes) = writeStore (m .state) (m .store) p o k bytes
+
+abbrev pub after : Memory → Call → Memory
+after m c = record { state = stateAfter m c; store = storeAfter m c }
+
+unfoldable pub run : Memory → List Call → Memory
+run m [] = m
+run m (c ∷ cs) = run (after m c) cs

@@ -1,0 +1,120 @@
+-- A load's outcome is one state: every byte below 65,536 is of a count, of a table or unused, and `Image` says each of these. Assumes nothing.
+use Prim.Native.Nat.{ℕ, _+_, _-_, _*_, _/_, _%_, _≤_, _<_}
+use mathlib.Core.Path.{_≡_, sym, ap, _∙_}
+use mathlib.Core.Bool.{Bool}
+use mathlib.Core.List.{List}
+use native.Mathlib.Omega.{arith}
+use native.Mathlib.Decide.{decLt, ℕ-discrete}
+use lib.ListN.{getD}
+use lib.Seq.{ext-getD}
+use Rattle.search.specs.Search.{Among}
+use Rattle.roleset.specs.Row.{member}
+use Rattle.roleset.proofs.Bits.{same-bits}
+use Rattle.roleset.proofs.Rows.{bit-member}
+use Rattle.rolefile.specs.declared.Verdict.{Verdict}
+use Rattle.policy.specs.Tables.{dominanceAt, clearancesAt, cardLabelsAt, rLevelsAt, wLevelsAt, seniorsAt, assignedAt, readersAt, writersAt}
+use Rattle.policy.specs.Tables.{stateSize, word, byteOf, rowOf}
+use Rattle.policy.specs.Image.{Unused, Image, Loaded}
+
+module _ (ys zs : List ℕ) (ys-bytes : (i : ℕ) → getD ys i 0 < 256) (zs-bytes : (i : ℕ) → getD zs i 0 < 256) where
+  -- the bytes from a up to b are the same
+  record Settled (a b : ℕ) : Type 0 where
+    byte : (i : ℕ) → a ≤ i → i < b → getD ys i 0 ≡ getD zs i 0
+
+  infixr 20 _and_
+  _and_ : {a b c : ℕ} → Settled a b → Settled b c → Settled a c
+  _and_ {b = b} s t = record {
+    byte = λ i l m. elim (decLt i b) [ yes n ↦ s .byte i l n | no n ↦ t .byte i (omega arith) m ];
+  }
+
+  -- the same byte by another name
+  moved : (i j : ℕ) → j ≡ i → getD ys j 0 ≡ getD zs j 0 → getD ys i 0 ≡ getD zs i 0
+  moved i j e same = rw (← e) same
+
+  word-settled : (at n : ℕ) → word ys at ≡ n → word zs at ≡ n → Settled at (at + 2)
+  word-settled at n p q = record {
+    byte = λ i l m. elim (decLt i (at + 1)) [
+      | yes j ↦ moved i at (omega arith) (omega (arith, ys-bytes at, zs-bytes at))
+      | no j ↦ moved i (at + 1) (omega arith) (omega (arith, ys-bytes at, zs-bytes at))
+    ];
+  }
+
+  bytes-settled : (at size : ℕ) (v : ℕ → ℕ) → ((x : ℕ) → Among size x → byteOf ys at x ≡ v x) → ((x : ℕ) → Among size x → byteOf zs at x ≡ v x)
+      → Settled at (at + size)
+  bytes-settled at size v p q = record {
+    byte = λ i l m.
+        let x = i - at + 1 in
+        let w : Among size x = omega arith in
+        moved i (at + (x - 1)) (omega arith) (p x w ∙ sym (q x w));
+  }
+
+  rows-settled : (at size : ℕ) (s : ℕ → ℕ → Bool) → ((x r : ℕ) → Among size x → Among 128 r → member ys (rowOf at x) r ≡ s x r)
+      → ((x r : ℕ) → Among size x → Among 128 r → member zs (rowOf at x) r ≡ s x r) → Settled at (at + 16 * size)
+  rows-settled at size s p q = record {
+    byte = λ i l m.
+        let x = (i - at) / 16 + 1 in
+        let k = (i - at) % 16 in
+        let w : Among size x = omega arith in
+        moved i (rowOf at x + k) (omega arith) (same-bits 8 _ _ (ys-bytes (rowOf at x + k)) (zs-bytes (rowOf at x + k)) (λ j n.
+        let r = 8 * k + j + 1 in
+        let v : Among 128 r = omega arith in
+        bit-member ys (rowOf at x) k j (omega arith) n ∙ p x r w v ∙ sym (q x r w v) ∙ sym (bit-member zs (rowOf at x) k j (omega arith) n)));
+  }
+
+  module _ (f : List ℕ) (p : Image f ys) (q : Image f zs) where
+    unused-settled : (a b : ℕ) → ((i : ℕ) → a ≤ i → i < b → Unused i × (i < stateSize)) → Settled a b
+    unused-settled a b h = record { byte = λ i l m. let (u, n) = h i l m in p .unused i u n ∙ sym (q .unused i u n) }
+
+    counts-settled : Settled 0 8
+    counts-settled =
+        let y = p .tables .counted in
+        let z = q .tables .counted in
+        word-settled 0 _ (y .labels) (z .labels) and word-settled 2 _ (y .roles) (z .roles)
+        and word-settled 4 _ (y .users) (z .users) and word-settled 6 _ (y .cards) (z .cards)
+
+    dominance-settled : Settled dominanceAt clearancesAt
+    dominance-settled = record {
+      byte = λ i l m.
+          let a = (i - dominanceAt) / 32 + 1 in
+          let b = (i - dominanceAt) % 32 + 1 in
+          let v : Among 32 a = omega arith in
+          let w : Among 32 b = omega arith in
+          moved i (dominanceAt + (32 * (a - 1) + (b - 1))) (omega arith) (p .tables .dominating a b v w ∙ sym (q .tables .dominating a b v w));
+    }
+
+    state-settled : Settled 0 stateSize
+    state-settled =
+        let y = p .tables in
+        let z = q .tables in
+        counts-settled
+        and unused-settled 8 16 (λ i l m. omega arith)
+        and dominance-settled
+        and bytes-settled clearancesAt 256 _ (y .labelled .users) (z .labelled .users)
+        and bytes-settled cardLabelsAt 512 _ (y .labelled .cards) (z .labelled .cards)
+        and bytes-settled rLevelsAt 128 _ (y .levelled .reads) (z .levelled .reads)
+        and bytes-settled wLevelsAt 128 _ (y .levelled .writes) (z .levelled .writes)
+        and rows-settled seniorsAt 128 _ (y .seniors) (z .seniors)
+        and rows-settled assignedAt 256 _ (y .assigning) (z .assigning)
+        and unused-settled 8208 12304 (λ i l m. omega arith)
+        and rows-settled readersAt 512 _ (y .permitting .readers) (z .permitting .readers)
+        and rows-settled writersAt 512 _ (y .permitting .writers) (z .permitting .writers)
+        and unused-settled 28688 stateSize (λ i l m. omega arith)
+
+pub image-settles : (f ys zs : List ℕ) → Image f ys → Image f zs → ((i : ℕ) → getD ys i 0 < 256) → ((i : ℕ) → getD zs i 0 < 256)
+    → (i : ℕ) → i < 65536 → getD ys i 0 ≡ getD zs i 0
+image-settles f ys zs p q ys-bytes zs-bytes i l = state-settled ys zs ys-bytes zs-bytes f p q .byte i (omega arith) l
+
+pub loaded-once : (f : List ℕ) (v w : Verdict) (xs ys zs : List ℕ) → Loaded f v xs ys → Loaded f w xs zs
+    → ((i : ℕ) → getD ys i 0 < 256) → ((i : ℕ) → getD zs i 0 < 256) → (v ≡ w) × (ys ≡ zs)
+loaded-once f v w xs ys zs p q ys-bytes zs-bytes =
+    let same : v ≡ w = p .answer ∙ sym (q .answer) in
+    let number : v .number ≡ w .number = ap (λ (u : Verdict). u .number) same in (
+      same,
+      elim (ℕ-discrete (v .number) 0) [
+        | yes e ↦ ext-getD 0 ys zs (p .long ∙ sym (q .long)) (λ i l. elim (decLt i stateSize) [
+          | yes m ↦ image-settles f ys zs (p .done e) (q .done (sym number ∙ e)) ys-bytes zs-bytes i m
+          | no m ↦ p .rest i (omega arith) ∙ sym (q .rest i (omega arith))
+        ])
+        | no n ↦ p .refused n ∙ sym (q .refused (λ e. n (number ∙ e)))
+      ],
+    )

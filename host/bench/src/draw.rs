@@ -1,0 +1,81 @@
+//! Arguments drawn for the calls of a batch.
+
+use crate::calls::Arguments;
+use crate::seats::roles_held;
+
+pub struct Draw {
+    number: u64,
+    turn: u16,
+    /// How many roles each place holds.
+    held: u16,
+}
+
+impl Draw {
+    pub fn new(held: u16) -> Draw {
+        Draw {
+            number: 0x9e37_79b9_7f4a_7c15,
+            turn: 0,
+            held,
+        }
+    }
+
+    fn between(&mut self, first: u16, last: u16) -> u16 {
+        self.number ^= self.number << 13;
+        self.number ^= self.number >> 7;
+        self.number ^= self.number << 17;
+        first + (self.number >> 32) as u16 % (last - first + 1)
+    }
+
+    /// The 64 places in turn, out of order.
+    fn place(&mut self) -> u16 {
+        self.turn = (self.turn + 37) % 64;
+        1 + self.turn
+    }
+
+    pub fn place_only(&mut self) -> Arguments {
+        [self.place(), 0, 0, 0]
+    }
+
+    /// A user and a label that every clearance dominates.
+    pub fn opening(&mut self) -> Arguments {
+        [self.place(), self.between(1, 256), self.between(1, 29), 0]
+    }
+
+    /// A user and a label that no clearance dominates.
+    pub fn high_opening(&mut self) -> Arguments {
+        [self.place(), self.between(1, 256), self.between(30, 32), 0]
+    }
+
+    pub fn role(&mut self) -> Arguments {
+        [self.place(), self.between(1, 128), 0, 0]
+    }
+
+    pub fn role_held(&mut self) -> Arguments {
+        let place = self.place();
+        let roles = roles_held(self.held, place);
+        [place, roles[self.between(0, self.held - 1) as usize], 0, 0]
+    }
+
+    pub fn role_not_held(&mut self) -> Arguments {
+        let place = self.place();
+        let held = roles_held(self.held, place);
+        let free: Vec<u16> = (1..=128).filter(|role| !held.contains(role)).collect();
+        [place, free[self.between(0, 127 - self.held) as usize], 0, 0]
+    }
+
+    /// A number that is no role's.
+    pub fn no_role(&mut self) -> Arguments {
+        [self.place(), self.between(129, 999), 0, 0]
+    }
+
+    /// Eight bytes of a card.
+    pub fn part(&mut self) -> Arguments {
+        [self.place(), self.between(1, 512), self.between(0, 56), 8]
+    }
+
+    /// Two different roles.
+    pub fn two_roles(&mut self) -> Arguments {
+        let from = self.between(1, 128);
+        [from, 1 + (from - 1 + self.between(1, 127)) % 128, 0, 0]
+    }
+}
