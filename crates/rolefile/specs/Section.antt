@@ -3,6 +3,8 @@
 use Prim.Native.Nat.{ℕ, _+_, _*_, _-_, _%_, _≤_, _<_}
 use mathlib.Core.Path.{_≡_}
 use mathlib.Core.List.{List}
+use mathlib.Core.Bool.{cond}
+use lib.Dec.{leb}
 use lib.ListN.{getD}
 use Rattle.search.specs.Search.{Among}
 use Rattle.rolefile.specs.Line.{start, lineAt, lines}
@@ -13,15 +15,19 @@ figure p at =
     10000 * (getD p at 0 % 16)
     + (1000 * (getD p (at + 1) 0 % 16) + (100 * (getD p (at + 2) 0 % 16) + (10 * (getD p (at + 3) 0 % 16) + getD p (at + 4) 0 % 16)))
 
+-- what the five columns from column k on of line i of a part come to, or 0 where the part has no such line
+abbrev pub figureOf : ℕ → List ℕ → ℕ → ℕ
+figureOf k p i = cond (leb i (lines p)) (figure p (start i + k)) 0
+
 -- the first three numbers of line i of a part
 unfoldable pub one : List ℕ → ℕ → ℕ
-one p i = figure p (start i + 1)
+one = figureOf 1
 
 unfoldable pub two : List ℕ → ℕ → ℕ
-two p i = figure p (start i + 6)
+two = figureOf 6
 
 unfoldable pub three : List ℕ → ℕ → ℕ
-three p i = figure p (start i + 11)
+three = figureOf 11
 
 -- the byte of line i's letter
 unfoldable pub letterAt : List ℕ → ℕ → ℕ

@@ -7,7 +7,7 @@ ghost use Prim.Native.Nat.{ℕ, _+_, _*_, _-_, _%_, _≤_, _<_};
 ghost use lib.Dec.{leb};
 ghost use lib.ListN.{length, drop};
 ghost use Rattle.rolefile.specs.Field.{isDigit, column, four, fieldAt};
-ghost use Rattle.rolefile.specs.Section.{figure, one, two, three, Leads};
+ghost use Rattle.rolefile.specs.Section.{figure, figureOf, one, two, three, Leads};
 ghost use Rattle.rolefile.specs.Line.{letterOf, fields, fits, taken, noLine, lineOf, lineFrom, lineAt, lines};
 
 // The number n with the digit b after it, unless n is 0 or has five digits.
@@ -261,28 +261,37 @@ fn figure(s: &[u8], at: usize) -> usize
     high + (100 * (wide(s[at + 2]) % 16) + low)
 }
 
-// The first number of line i + 1 of a part whose lines are known to be well formed.
+// What the five columns from column k on of line i + 1 come to, or 0 where the part has no such line.
+fn figure_of(p: &[u8], i: usize, k: usize) -> usize
+    requires { ⌜ k ≤ 17 ⌝ }
+    ensures { λ r. ⌜ r ≡ figureOf k (now (p .entry)) (i + 1) ⌝ }
+{
+    if p.len() / 22 <= i {
+        return 0;
+    }
+    figure(p, 22 * i + k)
+}
+
+// The first number of line i + 1 of a part whose lines are known to be well formed, or 0 where the
+// part has no such line.
 pub fn first_number(p: &[u8], i: usize) -> usize
-    requires { ⌜ i < lines (now p) ⌝ }
     ensures { λ r. ⌜ r ≡ one (now (p .entry)) (i + 1) ⌝ }
 {
-    figure(p, 22 * i + 1)
+    figure_of(p, i, 1)
 }
 
 // The second.
 pub fn second_number(p: &[u8], i: usize) -> usize
-    requires { ⌜ i < lines (now p) ⌝ }
     ensures { λ r. ⌜ r ≡ two (now (p .entry)) (i + 1) ⌝ }
 {
-    figure(p, 22 * i + 6)
+    figure_of(p, i, 6)
 }
 
 // The third.
 pub fn third_number(p: &[u8], i: usize) -> usize
-    requires { ⌜ i < lines (now p) ⌝ }
     ensures { λ r. ⌜ r ≡ three (now (p .entry)) (i + 1) ⌝ }
 {
-    figure(p, 22 * i + 11)
+    figure_of(p, i, 11)
 }
 
 // How many lines at the front of a part have the letter.

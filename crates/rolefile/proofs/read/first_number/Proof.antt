@@ -1,7 +1,4 @@
--- The field of the line.
-use Prim.Native.Nat.{ℕ, _+_, _-_}
-use mathlib.Core.Path.{_≡_}
-use native.Mathlib.Omega.{arith}
+-- The first number by its column.
 use borrow.Author.Needs.{needs}
 use Rattle.rolefile.specs.Section.{one}
 use Rattle.rolefile.proofs.read.first_number.Statement.{statement}
@@ -9,10 +6,7 @@ use Rattle.rolefile.proofs.read.first_number.Tie as tie
 
 returns : tie.Need-returns
 unfolding one
-returns c =
-    let i = c .before .before .args .i in
-    let q : i + 1 - 1 ≡ i = omega arith in
-    rw q (c .figure .ensures)
+returns c = c .figure-of .ensures
 
 pub first-number-spec : {M : Type 1} → statement M
-first-number-spec = tie.close (tie.spec (λ c. search needs) (λ c. search needs) (λ c κs. search needs) returns)
+first-number-spec = tie.close (tie.spec (λ c κs. search needs) returns)
