@@ -58,12 +58,15 @@ module _ (at : ℕ) (xs : List ℕ) (fits : at + 2048 ≤ length xs) where
       (or-comm (member xs (at + 16 * i) b) (eqb (i + 1) b))
 
 -- a row is stepped by uniting it where it has the role, and else by nothing
-module _ (xs other : List ℕ) (at k : ℕ) where
-  pub step-taken : (ys : List ℕ) (b : Bool) → b ≡ member xs at k → b ≡ true → Placed at (united xs at other) xs ys → Placed at (stepped xs at k other) xs ys
-  step-taken ys b e t p = placed-as (λ r. rw (← e, t)) p
+module _ (xs other : List ℕ) (at k : ℕ) (fits : at + 16 ≤ length xs) where
+  has : (b : Bool) → b ≡ (whole xs at && member xs at k) → member xs at k ≡ b
+  has b e = sym (e ∙ rw (whole-true xs at fits))
 
-  pub step-left : (b : Bool) → b ≡ member xs at k → b ≡ false → Placed at (stepped xs at k other) xs xs
-  step-left b e f = unwritten (λ l r. rw (← e, f) (sym (or-false (member xs at r))))
+  pub step-taken : (ys : List ℕ) (b : Bool) → b ≡ (whole xs at && member xs at k) → b ≡ true → Placed at (united xs at other) xs ys → Placed at (stepped xs at k other) xs ys
+  step-taken ys b e t p = placed-as (λ r. rw (has b e, t)) p
+
+  pub step-left : (b : Bool) → b ≡ (whole xs at && member xs at k) → b ≡ false → Placed at (stepped xs at k other) xs xs
+  step-left b e f = unwritten (λ l r. rw (has b e, f) (sym (or-false (member xs at r))))
 
 -- a round of closing
 module _ (at : ℕ) (xs : List ℕ) (fits : at + 2048 ≤ length xs) where

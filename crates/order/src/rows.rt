@@ -17,8 +17,8 @@ fn step(s: &mut [u8], at: usize, k: usize, other: [u8; 16])
     requires { ⌜ (at + 16 ≤ length (now s)) × Among 128 k ⌝ }
     ensures { λ _. ⌜ Placed at (stepped (now (s .entry)) at k other) (now (s .entry)) (now (s .exit)) ⌝ }
 {
-    if roleset::inner::has(s, at, k) {
-        roleset::inner::unite(s, at, other);
+    if roleset::has(s, at, k) {
+        roleset::unite(s, at, other);
     }
 }
 

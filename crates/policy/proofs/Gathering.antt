@@ -10,8 +10,8 @@ use lib.ListN.{length, getD, replicate, length-replicate, getD-replicate}
 use borrow.Author.Tests.{eq-eqb, ne-eqb}
 use Rattle.search.specs.Search.{Among, some}
 use Rattle.search.proofs.Found.{some-more, some-agree}
-use Rattle.roleset.specs.Row.{member, united, Placed}
-use Rattle.roleset.proofs.Rows.{member-of, no-bits}
+use Rattle.roleset.specs.Row.{whole, member, united, Placed}
+use Rattle.roleset.proofs.Rows.{member-of, no-bits, whole-true}
 use Rattle.order.specs.Closure.{Relation}
 use Rattle.order.specs.Bound.{lub}
 use Rattle.order.proofs.Bound.{lub-same-set}
@@ -32,14 +32,14 @@ module _ (xs : List ℕ) (at o label : ℕ) (e : label ≡ getD xs (cardLabelsAt
   pub brings-none : (g : List ℕ) (l r : ℕ) → (label ≡ l → ⊥) → member g (rowOf 0 l) r ≡ (member g (rowOf 0 l) r || brings xs at o l r)
   brings-none g l r ne = rw (byte-is, ne-eqb label l ne) (sym (or-false (member g (rowOf 0 l) r)))
 
-  pub brings-row : (g h other : List ℕ) → length g ≡ 512 → Among 32 label
-      → ((r : ℕ) → member other 0 r ≡ member xs (at + 16 * o) r)
+  pub brings-row : (g h other : List ℕ) → length g ≡ 512 → Among 32 label → at + 16 * o + 16 ≤ length xs
+      → ((r : ℕ) → member other 0 r ≡ (whole xs (at + 16 * o) && member xs (at + 16 * o) r))
       → Placed (rowOf 0 label) (united g (rowOf 0 label) other) g h
       → (l r : ℕ) → Among 32 l → member h (rowOf 0 l) r ≡ (member g (rowOf 0 l) r || brings xs at o l r)
-  brings-row g h other long v row p l r w = elim (ℕ-discrete l label) [
+  brings-row g h other long v fits row p l r w = elim (ℕ-discrete l label) [
     | yes q ↦
         rw (q, byte-is, eq-eqb label label refl, place o)
-        (p .row (omega arith) r ∙ rw (row r))
+        (p .row (omega arith) r ∙ rw (row r, whole-true xs (at + 16 * o) fits))
     | no q ↦ others-stay 0 32 label _ g h p v l r w q ∙ brings-none g l r (λ i. q (sym i))
   ]
 

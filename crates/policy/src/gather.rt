@@ -23,8 +23,8 @@ fn gather_one(g: &mut [u8; 512], s: &[u8], at: usize, o: usize)
     if 32 < label {
         return;
     }
-    let row = roleset::inner::row(s, at + 16 * o);
-    roleset::inner::unite(g, 16 * (label - 1), row);
+    let row = roleset::row(s, at + 16 * o);
+    roleset::unite(g, 16 * (label - 1), row);
 }
 
 // For each label, the roles that the table at `at` has for one of the first n cards of that label.
@@ -43,13 +43,12 @@ pub fn gather(s: &[u8], at: usize, n: usize) -> [u8; 512]
 
 // The labels whose row of `g` has the role.
 fn labels_of(g: &[u8; 512], role: usize) -> [bool; 32]
-    requires { ⌜ Among 128 role ⌝ }
     ensures { λ r. ⌜ ((l : ℕ) → Among 32 l → marks r l ≡ member (now (g .entry)) (rowOf 0 l) role) ⌝ }
 {
     let mut r = [false; 32];
     let mut i = 0;
     while i < 32 {
-        r[i] = roleset::inner::has(g, 16 * i, role);
+        r[i] = roleset::has(g, 16 * i, role);
         i += 1;
     }
     r

@@ -1,9 +1,8 @@
 // Sets of roles 1 to 128 as rows of 16 bytes, each at an offset of a byte slice.
 //
 // Every public function takes any slice, offset and role. A row that does not lie wholly in the
-// slice is empty and stays so, and a number that is no role's is in no row. `inner` asks for a row
-// that lies in the slice, and tests nothing.
-pub mod inner;
+// slice is empty and stays so, and a number that is no role's is in no row.
+mod inner;
 
 ghost use mathlib.Core.Path.{_≡_};
 ghost use mathlib.Core.Bool.{false, _&&_};

@@ -20,7 +20,7 @@ returns-3 : tie.Need-returns-3
 returns-3 c l r v w =
     let a = c .before .before .before .before .before .before .before .args in
     let label = getD (now (a .s)) (1296 + a .o) 0 in
-    brings-row (now (a .s)) (a .at) (a .o) label refl (now (a .g)) (c .unite .last .0) (c .before .before .row .result) (search needs) (omega arith)
+    brings-row (now (a .s)) (a .at) (a .o) label refl (now (a .g)) (c .unite .last .0) (c .before .before .row .result) (search needs) (omega arith) (search needs)
     (c .before .before .row .ensures) (rw (← (zero-add (16 * (label - 1)))) at (c .unite .ensures)) l r v
 
 pub gather-one-spec : {M : Type 1} → statement M

@@ -7,6 +7,7 @@ use borrow.Author.Needs.{needs}
 use denote.Ref.{now}
 use lib.ListN.{length}
 use Rattle.roleset.specs.Row.{member}
+use Rattle.roleset.proofs.Rows.{whole-true}
 use Rattle.order.proofs.Stored.{place, Upto, upto-more}
 use Rattle.policy.specs.Tables.{rowOf}
 use Rattle.policy.proofs.gather.labels_of.Statement.{statement}
@@ -20,11 +21,12 @@ abbrev μ-loop : tie.MeasureT-loop
 
 loop-again : tie.Need-loop-again Inv-loop μ-loop
 loop-again c =
-    let w = c .before .before .before .loop in (
+    let w = c .before .before .before .loop in
+    let g = now (c .before .before .before .before .args .g) in (
       search needs,
       search needs,
       upto-more _ (w .r) (w .i) _ (search needs) (w .inv .2)
-          (c .has .ensures ∙ rw (place (w .i), zero-add (16 * w .i))),
+          (c .has .ensures ∙ rw (whole-true g (16 * w .i) (search needs), place (w .i), zero-add (16 * w .i))),
     )
 
 pub labels-of-spec : {M : Type 1} → statement M
