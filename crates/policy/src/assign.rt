@@ -41,8 +41,9 @@ pub fn assign_lines(s: &[u8], p: &[u8], m: usize) -> Verdict
 {
     let mut i = 0;
     while i < m {
-        let l = read::numbers_of(p, i);
-        let v = assign(s, l.a, l.b);
+        let u = read::first_number(p, i);
+        let r = read::second_number(p, i);
+        let v = assign(s, u, r);
         if v.number != 0 {
             return v;
         }

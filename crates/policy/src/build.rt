@@ -193,7 +193,7 @@ pub fn build(f: &[u8], s: &mut [u8]) -> Verdict
     if v.number != 0 {
         return v;
     }
-    let h = read::line(f, 1);
+    let h = read::first_line(f);
     let q = lay_out(f);
     let v = note_labels(f, s, q, h);
     if v.number != 0 {

@@ -55,9 +55,9 @@ fn labels_of(g: &[u8; 512], role: usize) -> [bool; 32]
 }
 
 // Whether one of the first n things is in the set.
-fn any(s: [bool; 32], n: usize) -> bool
+fn any(s: &[bool; 32], n: usize) -> bool
     requires { ⌜ n ≤ 32 ⌝ }
-    ensures { λ r. ⌜ r ≡ some n (marks s) ⌝ }
+    ensures { λ r. ⌜ r ≡ some n (marks (now (s .entry))) ⌝ }
 {
     let mut i = 0;
     while i < n {
@@ -70,14 +70,14 @@ fn any(s: [bool; 32], n: usize) -> bool
 }
 
 // The level of a set of the first n labels: its bound by the rows of t, as it is kept.
-fn level_of(t: &[[bool; 32]; 32], n: usize, s: [bool; 32]) -> u8
+fn level_of(t: &[[bool; 32]; 32], n: usize, s: &[bool; 32]) -> u8
     requires { ⌜ n ≤ 32 ⌝ }
-    ensures { λ r. ⌜ r ≡ shown (level n (turned (mark (now (t .entry)))) (marks s)) ⌝ }
+    ensures { λ r. ⌜ r ≡ shown (level n (turned (mark (now (t .entry)))) (marks (now (s .entry)))) ⌝ }
 {
     if !any(s, n) {
         return 0;
     }
-    let bound = order::bounds::greatest_lower(t, n, s);
+    let bound = order::bounds::greatest_lower(t, n, *s);
     if bound == 0 {
         return 99;
     }
@@ -99,7 +99,7 @@ pub fn put_levels(
     let mut i = 0;
     while i < roles {
         let set = labels_of(&g, i + 1);
-        s[at + i] = level_of(t, n, set);
+        s[at + i] = level_of(t, n, &set);
         i += 1;
     }
 }

@@ -41,8 +41,9 @@ pub fn note_lines(s: &mut [u8], at: usize, size: usize, p: &[u8], m: usize)
 {
     let mut i = 0;
     while i < m {
-        let l = read::numbers_of(p, i);
-        note(s, at, size, l.a, l.b);
+        let x = read::first_number(p, i);
+        let label = read::second_number(p, i);
+        note(s, at, size, x, label);
         i += 1;
     }
 }

@@ -50,8 +50,9 @@ pub fn table_of(p: &[u8], m: usize) -> [[bool; 32]; 32]
     let mut t = [[false; 32]; 32];
     let mut i = 0;
     while i < m {
-        let l = read::numbers_of(p, i);
-        add_pair(&mut t, l.a, l.b);
+        let a = read::first_number(p, i);
+        let b = read::second_number(p, i);
+        add_pair(&mut t, a, b);
         i += 1;
     }
     t

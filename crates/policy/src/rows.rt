@@ -31,8 +31,9 @@ pub fn relate_lines(s: &mut [u8], at: usize, size: usize, p: &[u8], m: usize)
 {
     let mut i = 0;
     while i < m {
-        let l = read::numbers_of(p, i);
-        relate(s, at, size, l.a, l.b);
+        let x = read::first_number(p, i);
+        let role = read::second_number(p, i);
+        relate(s, at, size, x, role);
         i += 1;
     }
 }
@@ -44,8 +45,9 @@ pub fn relate_back(s: &mut [u8], at: usize, size: usize, p: &[u8], m: usize)
 {
     let mut i = 0;
     while i < m {
-        let l = read::numbers_of(p, i);
-        relate(s, at, size, l.b, l.a);
+        let senior = read::first_number(p, i);
+        let junior = read::second_number(p, i);
+        relate(s, at, size, junior, senior);
         i += 1;
     }
 }
@@ -84,8 +86,10 @@ pub fn grant_lines(s: &mut [u8], p: &[u8], m: usize)
 {
     let mut i = 0;
     while i < m {
-        let l = read::numbers_of(p, i);
-        grant(s, l.a, l.b, l.c);
+        let role = read::first_number(p, i);
+        let card = read::second_number(p, i);
+        let mode = read::third_number(p, i);
+        grant(s, role, card, mode);
         i += 1;
     }
 }

@@ -4,19 +4,76 @@ use Prim.Native.Nat.{ℕ, _+_, _*_, _-_, _/_, _≤_, _<_}
 use mathlib.Core.Path.{_≡_, refl, sym, ap, _∙_}
 use mathlib.Core.Logic.{⊎-elim}
 use mathlib.Core.List.{List, [], _∷_}
-use mathlib.Core.Bool.{Bool, true, false, _&&_, cond}
+use mathlib.Core.Bool.{Bool, true, false, _&&_, cond, false≢true}
 use native.Mathlib.Omega.{arith}
 use lib.Dec.{leb, eqb}
 use lib.ListN.{length, getD, List·getD-eq-default}
-use borrow.Author.Tests.{eq-eqb, ne-eqb, le-leb, lt-leb}
+use borrow.Author.Tests.{eqb-true, eq-eqb, ne-eqb, le-leb, lt-leb}
 use denote.Enum.Declared
+use Rattle.search.proofs.Truth.{and-iff, same}
 use types.Run
 use Rattle.rolefile.specs.declared.Field.{Field}
 use Rattle.rolefile.specs.declared.Field.the-variants.{Blank, Number, Bad}
 use Rattle.rolefile.specs.declared.Line.{Line}
-use Rattle.rolefile.specs.Field.{fieldAt}
+use Rattle.rolefile.specs.Field.{four, fieldAt}
 use Rattle.rolefile.specs.Line.{letterOf, fields, fits, value, taken, formed, noLine, lineOf, lineFrom, start, lineAt}
+use Rattle.rolefile.proofs.Decimals.{field-blank}
 use Rattle.rolefile.proofs.Field as field-type
+
+-- a field without use is blank
+unused : (x : Field) → fits false x ≡ true → x ≡ Blank
+unused Blank e = refl
+unused (Number n) e = absurd (false≢true e)
+unused Bad e = absurd (false≢true e)
+
+-- five blanks, four of them tested at once
+module _ (f : List ℕ) (at : ℕ) where
+  pub blank-tested : getD f at 0 < 256 → getD f (at + 1) 0 < 256 → getD f (at + 2) 0 < 256 → getD f (at + 3) 0 < 256
+      → (eqb (four f at) 538976288 && eqb (getD f (at + 4) 0) 32) ≡ fits false (fieldAt f at)
+  blank-tested l m n o = same _ _ to of
+    where
+      to : (eqb (four f at) 538976288 && eqb (getD f (at + 4) 0) 32) ≡ true → fits false (fieldAt f at) ≡ true
+      to e =
+          let (q, r) = and-iff (eqb (four f at) 538976288) (eqb (getD f (at + 4) 0) 32) .0 e in
+          let h = eqb-true (four f at) 538976288 q in
+          let e₃ : getD f (at + 3) 0 ≡ 32 = omega arith in
+          let e₂ : getD f (at + 2) 0 ≡ 32 = omega arith in
+          let e₁ : getD f (at + 1) 0 ≡ 32 = omega arith in
+          let e₀ : getD f at 0 ≡ 32 = omega arith in
+          let b : fieldAt f at ≡ Blank = field-blank f at .1 (rw (e₀, e₁, e₂, e₃, eqb-true (getD f (at + 4) 0) 32 r)) in
+          rw b
+
+      of : fits false (fieldAt f at) ≡ true → (eqb (four f at) 538976288 && eqb (getD f (at + 4) 0) 32) ≡ true
+      of e =
+          let s = field-blank f at .0 (unused (fieldAt f at) e) in
+          let e₀ : getD f at 0 ≡ 32 = ap (λ (l : List ℕ). getD l 0 0) s in
+          let e₁ : getD f (at + 1) 0 ≡ 32 = ap (λ (l : List ℕ). getD l 1 0) s in
+          let e₂ : getD f (at + 2) 0 ≡ 32 = ap (λ (l : List ℕ). getD l 2 0) s in
+          let e₃ : getD f (at + 3) 0 ≡ 32 = ap (λ (l : List ℕ). getD l 3 0) s in
+          let e₄ : getD f (at + 4) 0 ≡ 32 = ap (λ (l : List ℕ). getD l 4 0) s in
+          and-iff (eqb (four f at) 538976288) (eqb (getD f (at + 4) 0) 32) .1 (eq-eqb (four f at) 538976288 (omega arith), eq-eqb (getD f (at + 4) 0) 32 e₄)
+
+-- what is taken out of a field without use
+pub taken-blank : (f : Field) → fits false f ≡ true → Number 0 ≡ taken false f
+unfolding taken
+taken-blank f e = rw (unused f e)
+
+pub taken-spoilt : (f : Field) → fits false f ≡ false → Bad ≡ taken false f
+unfolding taken
+taken-spoilt f e = rw e
+
+-- the field was not a number
+pub unread : (x f : Field) → x ≡ f → Run.OneOf (0 ∷ 2 ∷ []) (Declared.tagOf field-type.the-type x) → fits true f ≡ false
+unread x f e seen = go f e
+  where
+    go : (f : Field) → x ≡ f → fits true f ≡ false
+    go Blank q = refl
+    go (Number n) q = absurd (⊎-elim (λ t. omega arith) (λ t. omega arith) (rw q at seen))
+    go Bad q = refl
+
+-- the field was the number n
+pub numbered : (x f : Field) (n : ℕ) → x ≡ f → x ≡ Number n → (fits true f ≡ true) × (value f ≡ n)
+numbered x f n e seen = let q : f ≡ Number n = sym e ∙ seen in (rw q, rw q)
 
 -- the field was not taken out: the match saw no number
 pub ended : (x : Field) (used : Bool) (f : Field) → x ≡ taken used f

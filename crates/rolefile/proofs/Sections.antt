@@ -8,10 +8,10 @@ use mathlib.Core.Bool.{Bool, true, false, _&&_, and-true}
 use native.Mathlib.Omega.{arith}
 use native.Mathlib.Nat.{add-zero, add-suc}
 use native.Mathlib.Decide.{decLt}
-use lib.Dec.{eqb}
-use lib.ListN.{getD, drop}
+use lib.Dec.{leb, eqb}
+use lib.ListN.{getD, drop, length-drop}
 use lib.Seq.{getD-drop}
-use borrow.Author.Tests.{eqb-true, eq-eqb}
+use borrow.Author.Tests.{eqb-true, eq-eqb, le-leb}
 use Rattle.search.specs.Search.{Among, some}
 use Rattle.search.proofs.Truth.{and-iff}
 use Rattle.rolefile.specs.declared.Line.{Line}
@@ -186,14 +186,17 @@ module _ (f : List ℕ) (good : (k : ℕ) → Among (lines f) k → GoodLine f k
       → Stands t (fieldAt (part f j) (start i + 11)) (lineAt f (j + i) .c)
   third i w t e = rw e at (line-reads i w .c)
 
+  there : (i : ℕ) → Among m i → leb i (lines (part f j)) ≡ true
+  there i w = let fits = s .fits in le-leb i (lines (part f j)) (rw (length-drop (22 * j) f) (omega arith))
+
   pub told : Told (part f j) (λ i. lineAt f (j + i)) m
   unfolding one two three fields
   told =
       let p = part f j in
       record {
-        one = λ i w. figures p (start i + 1) (lineAt f (j + i) .a) (line-reads i w .a);
-        two = λ i w. figures p (start i + 6) (lineAt f (j + i) .b) (line-reads i w .b);
-        mode = λ i w e. figures p (start i + 11) (lineAt f (j + i) .c) (third i w true (rw e));
+        one = λ i w. rw (there i w) (figures p (start i + 1) (lineAt f (j + i) .a) (line-reads i w .a));
+        two = λ i w. rw (there i w) (figures p (start i + 6) (lineAt f (j + i) .b) (line-reads i w .b));
+        mode = λ i w e. rw (there i w) (figures p (start i + 11) (lineAt f (j + i) .c) (third i w true (rw e)));
         none = λ i w e. third i w false (rw e) .1;
       }
 

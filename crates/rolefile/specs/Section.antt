@@ -3,6 +3,8 @@
 use Prim.Native.Nat.{ℕ, _+_, _*_, _-_, _%_, _≤_, _<_}
 use mathlib.Core.Path.{_≡_}
 use mathlib.Core.List.{List}
+use mathlib.Core.Bool.{cond}
+use lib.Dec.{leb}
 use lib.ListN.{getD}
 use Rattle.search.specs.Search.{Among}
 use Rattle.rolefile.specs.Line.{start, lineAt, lines}
@@ -13,15 +15,19 @@ figure p at =
     10000 * (getD p at 0 % 16)
     + (1000 * (getD p (at + 1) 0 % 16) + (100 * (getD p (at + 2) 0 % 16) + (10 * (getD p (at + 3) 0 % 16) + getD p (at + 4) 0 % 16)))
 
+-- what the five columns from column k on of line i of a part come to, or 0 where the part has no such line
+abbrev pub figureOf : ℕ → List ℕ → ℕ → ℕ
+figureOf k p i = cond (leb i (lines p)) (figure p (start i + k)) 0
+
 -- the first three numbers of line i of a part
 unfoldable pub one : List ℕ → ℕ → ℕ
-one p i = figure p (start i + 1)
+one = figureOf 1
 
 unfoldable pub two : List ℕ → ℕ → ℕ
-two p i = figure p (start i + 6)
+two = figureOf 6
 
 unfoldable pub three : List ℕ → ℕ → ℕ
-three p i = figure p (start i + 11)
+three = figureOf 11
 
 -- the byte of line i's letter
 unfoldable pub letterAt : List ℕ → ℕ → ℕ
@@ -32,8 +38,3 @@ pub record Leads (p : List ℕ) (b m : ℕ) : Type 0 where
   pub fits : m ≤ lines p
   pub front : (i : ℕ) → Among m i → letterAt p i ≡ b
   pub next : m < lines p → letterAt p (m + 1) ≡ b → ⊥
-
--- what a reader of line i + 1 of a part gets: its numbers, or zeros where the part has no such line
-pub record Reads (p : List ℕ) (i a b c : ℕ) : Type 0 where
-  pub inside : i < lines p → (a ≡ one p (i + 1)) × (b ≡ two p (i + 1)) × (c ≡ three p (i + 1))
-  pub outside : lines p ≤ i → (a ≡ 0) × (b ≡ 0) × (c ≡ 0)

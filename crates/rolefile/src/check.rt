@@ -131,7 +131,7 @@ fn bodies(f: &[u8]) -> Verdict
     ensures { λ v. ⌜ v ≡ scan (lines (now (f .entry))) (lineVerdict (now (f .entry))) ⌝ }
 {
     let n = f.len() / 22;
-    let h = read::line(f, 1);
+    let h = read::first_line(f);
     let mut p = h;
     let mut i = 1;
     while i < n {
@@ -159,7 +159,7 @@ pub fn lines(f: &[u8]) -> Verdict
     if 63800 < f.len() {
         return refused(1, 0, 0);
     }
-    let v = head(read::line(f, 1));
+    let v = head(read::first_line(f));
     if v.number != 0 {
         return v;
     }

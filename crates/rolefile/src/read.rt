@@ -2,13 +2,13 @@
 use super::Field;
 use super::Line;
 ghost use mathlib.Core.Path.{_≡_};
-ghost use mathlib.Core.Bool.{true, _&&_, cond};
+ghost use mathlib.Core.Bool.{true, false, _&&_, cond};
 ghost use Prim.Native.Nat.{ℕ, _+_, _*_, _-_, _%_, _≤_, _<_};
 ghost use lib.Dec.{leb};
 ghost use lib.ListN.{length, drop};
-ghost use Rattle.rolefile.specs.Field.{isDigit, column, fieldAt};
-ghost use Rattle.rolefile.specs.Section.{figure, Leads, Reads};
-ghost use Rattle.rolefile.specs.Line.{letterOf, fields, taken, noLine, lineOf, lineFrom, lineAt};
+ghost use Rattle.rolefile.specs.Field.{isDigit, column, four, fieldAt};
+ghost use Rattle.rolefile.specs.Section.{figure, figureOf, one, two, three, Leads};
+ghost use Rattle.rolefile.specs.Line.{letterOf, fields, fits, taken, noLine, lineOf, lineFrom, lineAt, lines};
 
 // The number n with the digit b after it, unless n is 0 or has five digits.
 fn next_digit(n: u64, b: u8) -> Field
@@ -153,16 +153,82 @@ fn line_of(k: u64, end: u8, p: Field, q: Field, r: Field, s: Field) -> Line
     }
 }
 
-// The line that starts at `at`.
+// Line 1 of the file, of whose fields an H line uses all four.
+pub fn first_line(f: &[u8]) -> Line
+    ensures { λ l. ⌜ l ≡ lineAt (now (f .entry)) 1 ⌝ }
+{
+    if f.len() < 22 {
+        return no_line();
+    }
+    let p = field(f, 1);
+    let q = field(f, 6);
+    let r = field(f, 11);
+    let s = field(f, 16);
+    line_of(letter(f[0]), f[21], p, q, r, s)
+}
+
+// Four columns as one number, so that they are compared at once.
+fn four(s: &[u8], at: usize) -> usize
+    requires { ⌜ at + 4 ≤ length (now s) ⌝ }
+    ensures { λ r. ⌜ r ≡ four (now (s .entry)) at ⌝ }
+{
+    let low = wide(s[at]) + 256 * wide(s[at + 1]);
+    low + (65536 * wide(s[at + 2]) + 16777216 * wide(s[at + 3]))
+}
+
+// Whether the five columns at `at` are blanks.
+fn blank(s: &[u8], at: usize) -> bool
+    requires { ⌜ at + 5 ≤ length (now s) ⌝ }
+    ensures { λ r. ⌜ r ≡ fits false (fieldAt (now (s .entry)) at) ⌝ }
+{
+    (four(s, at) == 538976288) & (s[at + 4] == 32)
+}
+
+// What a line takes out of the field at `at`, which is read only where it is in use.
+fn taken_at(s: &[u8], at: usize, used: bool) -> Field
+    requires { ⌜ at + 5 ≤ length (now s) ⌝ }
+    ensures { λ r. ⌜ r ≡ taken used (fieldAt (now (s .entry)) at) ⌝ }
+{
+    if used {
+        return taken(field(s, at), true);
+    }
+    if blank(s, at) {
+        return Field::Number(0);
+    }
+    Field::Bad
+}
+
+// The line that starts at `at`, field by field.
 fn line_from(f: &[u8], at: usize) -> Line
     requires { ⌜ at + 22 ≤ length (now f) ⌝ }
     ensures { λ l. ⌜ l ≡ lineFrom (now (f .entry)) at ⌝ }
 {
-    let p = field(f, at + 1);
-    let q = field(f, at + 6);
-    let r = field(f, at + 11);
-    let s = field(f, at + 16);
-    line_of(letter(f[at]), f[at + 21], p, q, r, s)
+    let k = letter(f[at]);
+    if k < 1 {
+        return no_line();
+    }
+    let Field::Number(a) = field(f, at + 1) else {
+        return no_line();
+    };
+    let Field::Number(b) = field(f, at + 6) else {
+        return no_line();
+    };
+    let Field::Number(c) = taken_at(f, at + 11, 3 <= field_count(k)) else {
+        return no_line();
+    };
+    let Field::Number(d) = taken_at(f, at + 16, 4 <= field_count(k)) else {
+        return no_line();
+    };
+    if f[at + 21] != 10 {
+        return no_line();
+    }
+    Line {
+        letter: k,
+        a,
+        b,
+        c,
+        d,
+    }
 }
 
 // Line k of the file, counted from 1; a malformed one where the file has fewer.
@@ -177,13 +243,6 @@ pub fn line(f: &[u8], k: usize) -> Line
         return no_line();
     }
     line_from(f, 22 * i)
-}
-
-// The numbers of a line.
-pub struct Numbers {
-    pub a: usize,
-    pub b: usize,
-    pub c: usize,
 }
 
 fn wide(x: u8) -> usize
@@ -202,19 +261,37 @@ fn figure(s: &[u8], at: usize) -> usize
     high + (100 * (wide(s[at + 2]) % 16) + low)
 }
 
-// The numbers of line i + 1 of a part whose lines are known to be well formed.
-pub fn numbers_of(p: &[u8], i: usize) -> Numbers
-    ensures { λ r. ⌜ Reads (now (p .entry)) i (r .a) (r .b) (r .c) ⌝ }
+// What the five columns from column k on of line i + 1 come to, or 0 where the part has no such line.
+fn figure_of(p: &[u8], i: usize, k: usize) -> usize
+    requires { ⌜ k ≤ 17 ⌝ }
+    ensures { λ r. ⌜ r ≡ figureOf k (now (p .entry)) (i + 1) ⌝ }
 {
     if p.len() / 22 <= i {
-        return Numbers { a: 0, b: 0, c: 0 };
+        return 0;
     }
-    let at = 22 * i;
-    Numbers {
-        a: figure(p, at + 1),
-        b: figure(p, at + 6),
-        c: figure(p, at + 11),
-    }
+    figure(p, 22 * i + k)
+}
+
+// The first number of line i + 1 of a part whose lines are known to be well formed, or 0 where the
+// part has no such line.
+pub fn first_number(p: &[u8], i: usize) -> usize
+    ensures { λ r. ⌜ r ≡ one (now (p .entry)) (i + 1) ⌝ }
+{
+    figure_of(p, i, 1)
+}
+
+// The second.
+pub fn second_number(p: &[u8], i: usize) -> usize
+    ensures { λ r. ⌜ r ≡ two (now (p .entry)) (i + 1) ⌝ }
+{
+    figure_of(p, i, 6)
+}
+
+// The third.
+pub fn third_number(p: &[u8], i: usize) -> usize
+    ensures { λ r. ⌜ r ≡ three (now (p .entry)) (i + 1) ⌝ }
+{
+    figure_of(p, i, 11)
 }
 
 // How many lines at the front of a part have the letter.

@@ -24,11 +24,10 @@ impl Field {
         }
     }
 
-    /// Its number where the field is in use, 0 where it has no use.
-    fn taken(self, used: bool) -> Option<u64> {
+    /// Its number, where it is one.
+    fn number(self) -> Option<u64> {
         match self {
-            Field::Blank if !used => Some(0),
-            Field::Number(n) if used => Some(n),
+            Field::Number(n) => Some(n),
             _ => None,
         }
     }
@@ -38,6 +37,14 @@ fn field(columns: &[u8]) -> Field {
     columns
         .iter()
         .fold(Field::Blank, |field, &byte| field.then(byte))
+}
+
+/// The number of a field in use; 0 for one without use, which is five blanks.
+fn taken(columns: &[u8], used: bool) -> Option<u64> {
+    if used {
+        return field(columns).number();
+    }
+    (columns == b"     ").then_some(0)
 }
 
 /// A line: its letter's row in the table of letters, 1 to 7, and its numbers, 0 where a field has
@@ -68,10 +75,10 @@ pub fn line(bytes: &[u8]) -> Option<Line> {
         6 => 3,
         _ => 2,
     };
-    let a = field(&bytes[1..6]).taken(true)?;
-    let b = field(&bytes[6..11]).taken(true)?;
-    let c = field(&bytes[11..16]).taken(3 <= fields)?;
-    let d = field(&bytes[16..21]).taken(4 <= fields)?;
+    let a = field(&bytes[1..6]).number()?;
+    let b = field(&bytes[6..11]).number()?;
+    let c = taken(&bytes[11..16], 3 <= fields)?;
+    let d = taken(&bytes[16..21], 4 <= fields)?;
     if bytes[21] != b'\n' {
         return None;
     }

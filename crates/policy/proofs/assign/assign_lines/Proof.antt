@@ -20,32 +20,30 @@ abbrev μ-loop : tie.MeasureT-loop
 
 assign-requires : tie.Need-assign-requires Inv-loop μ-loop
 assign-requires c κs =
-    let w = c .before .before .loop in
-    let start = c .before .before .before .before .before in
-    let l = c .numbers-of .ensures .inside (search needs) in
+    let first = c .before in
+    let w = first .before .before .loop in
+    let start = first .before .before .before .before .before in
     let r = start .pre .2 (w .i + 1) (omega arith) in
-    (search needs, rw (l .0) (r .0), rw (l .1) (r .1))
+    (search needs, rw (first .first-number .ensures) (r .0), rw (c .second-number .ensures) (r .1))
 
 -- the turn's verdict is that of line i + 1
 turn : (c : tie.After-assign Inv-loop μ-loop)
-    → let a = c .before .before .before .before .before .before .args in
-    let i = c .before .before .before .loop .i in
+    → let a = c .before .before .before .before .before .before .before .args in
+    let i = c .before .before .before .before .loop .i in
     c .assign .result ≡ assignByTables (now (a .s)) (one (now (a .p)) (i + 1)) (two (now (a .p)) (i + 1))
-turn c =
-    let l = c .before .numbers-of .ensures .inside (search needs) in
-    c .assign .ensures ∙ ap₂ (assignByTables _) (l .0) (l .1)
+turn c = c .assign .ensures ∙ ap₂ (assignByTables _) (c .before .before .first-number .ensures) (c .before .second-number .ensures)
 
 returns : tie.Need-returns Inv-loop μ-loop
 returns c =
     let b = c .before .before in
-    let w = b .before .before .before .loop in
+    let w = b .before .before .before .before .loop in
     let e = turn b in
     e ∙ scan-found _ _ (w .i) (search needs) (w .inv .1) (λ z. c .if1 .taken (rw (← e) at z))
 
 loop-again : tie.Need-loop-again Inv-loop μ-loop
 loop-again c =
     let b = c .before .before in
-    let w = b .before .before .before .loop in
+    let w = b .before .before .before .before .loop in
     (search needs, scan-more _ (w .i) (w .inv .1) (rw (turn b) at (c .if1 .left)))
 
 returns-2 : tie.Need-returns-2 Inv-loop μ-loop
@@ -62,6 +60,7 @@ assign-lines-spec =
     Inv-loop
     μ-loop
     (λ c. (search needs, scan-yet _))
+    (λ c κs. search needs)
     (λ c κs. search needs)
     assign-requires
     returns

@@ -24,13 +24,13 @@ use Rattle.policy.proofs.build.build.Tie as tie
 lines-pass : (c : tie.Else1) → linesVerdict (now (c .before .before .before .before .before .args .f)) .number ≡ 0
 lines-pass c = rw (c .before .before .lines .ensures) at (c .if1 .left)
 
-ready : (c : tie.After-lay-out) → Ready (now (c .before .before .before .before .before .before .before .args .f)) (c .lay-out .result) (c .before .line .result)
-ready c = record { lines = lines-pass (c .before .before); laid = c .lay-out .ensures; head = c .before .line .ensures }
+ready : (c : tie.After-lay-out) → Ready (now (c .before .before .before .before .before .before .before .args .f)) (c .lay-out .result) (c .before .first-line .result)
+ready c = record { lines = lines-pass (c .before .before); laid = c .lay-out .ensures; head = c .before .first-line .ensures }
 
 labels-pass : (c : tie.Else2) → unlabelledVerdict (now (c .before .before .before .before .before .before .before .before .before .before .before .before .before .args .f)) .number ≡ 0
 labels-pass c = rw (c .before .before .before .before .note-labels .ensures .answer) at (c .if2 .left)
 
-count : (c : tie.After-lay-out) → min (c .before .line .result .a) 32 ≡ Rattle.rolefile.specs.Said.labels (now (c .before .before .before .before .before .before .before .args .f))
+count : (c : tie.After-lay-out) → min (c .before .first-line .result .a) 32 ≡ Rattle.rolefile.specs.Said.labels (now (c .before .before .before .before .before .before .before .args .f))
 count c =
     let r = ready c in
     let few = counts-of _ (r .lines) .labels in

@@ -4,6 +4,7 @@ use mathlib.Core.Path.{_≡_, sym, _∙_}
 use mathlib.Core.Bool.{false}
 use native.Mathlib.Omega.{arith}
 use borrow.Author.Needs.{needs}
+use denote.Ref.{now}
 use Rattle.search.specs.Search.{some}
 use Rattle.search.proofs.Found.{some-found, some-more, some-yet}
 use Rattle.order.specs.Table.{marks}
@@ -12,21 +13,21 @@ use Rattle.policy.proofs.gather.any.Statement.{statement}
 use Rattle.policy.proofs.gather.any.Tie as tie
 
 abbrev Inv-loop : tie.InvT-loop
-Inv-loop n s i₀ i = (i ≤ n) × (some i (marks s) ≡ false)
+Inv-loop s n i₀ i = (i ≤ n) × (some i (marks s) ≡ false)
 
 abbrev μ-loop : tie.MeasureT-loop
-μ-loop n s i₀ i = n - i
+μ-loop s n i₀ i = n - i
 
 returns : tie.Need-returns Inv-loop μ-loop
 returns c =
-    let w = c .before .before .loop in
-    let a = c .before .before .before .args in
-    some-found (marks (a .t1)) (a .n) (w .i) (omega arith) (rw (place (w .i)) (c .if1 .taken))
+    let w = c .before .before .before .loop in
+    let a = c .before .before .before .before .args in
+    some-found (marks (now (a .s))) (a .n) (w .i) (omega arith) (rw (place (w .i)) (c .if1 .taken))
 
 loop-again : tie.Need-loop-again Inv-loop μ-loop
 loop-again c =
-    let w = c .before .before .loop in
-    let s = c .before .before .before .args .t1 in
+    let w = c .before .before .before .loop in
+    let s = now (c .before .before .before .before .args .s) in
     (search needs, some-more (marks s) (w .i) ∙ rw (w .inv .1, place (w .i)) (c .if1 .left))
 
 returns-2 : tie.Need-returns-2 Inv-loop μ-loop

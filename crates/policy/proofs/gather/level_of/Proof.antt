@@ -16,26 +16,26 @@ returns : tie.Need-returns
 returns c = level-empty _ _ _ (failed (c .before .any .ensures) (c .if1 .taken))
 
 -- the bound that was found
-found : (c : tie.After-greatest-lower) → let a = c .before .before .before .args in c .greatest-lower .result ≡ lub (a .n) (turned (mark (now (a .t)))) (marks (a .s))
+found : (c : tie.After-greatest-lower) → let a = c .before .before .before .before .args in c .greatest-lower .result ≡ lub (a .n) (turned (mark (now (a .t)))) (marks (now (a .s)))
 found c =
-    let a = c .before .before .before .args in
+    let a = c .before .before .before .before .args in
     let q : min (a .n) 32 ≡ a .n = omega arith in
     rw q at (c .greatest-lower .ensures)
 
 returns-2 : tie.Need-returns-2
 returns-2 c =
     let g = c .before in
-    level-undefined _ _ _ _ (passed (g .before .before .any .ensures) (g .before .if1 .left)) (found g) (c .if2 .taken)
+    level-undefined _ _ _ _ (passed (g .before .before .before .any .ensures) (g .before .before .if1 .left)) (found g) (c .if2 .taken)
 
 cast-result : tie.Need-cast-result
 cast-result c =
-    let a = c .before .before .before .before .args in
-    omega (arith, found (c .before), lub-within (a .n) (turned (mark (now (a .t)))) (marks (a .s)))
+    let a = c .before .before .before .before .before .args in
+    omega (arith, found (c .before), lub-within (a .n) (turned (mark (now (a .t)))) (marks (now (a .s))))
 
 returns-3 : tie.Need-returns-3
 returns-3 c =
     let g = c .before in
-    level-bound _ _ _ _ (passed (g .before .before .any .ensures) (g .before .if1 .left)) (found g) (c .if2 .left)
+    level-bound _ _ _ _ (passed (g .before .before .before .any .ensures) (g .before .before .if1 .left)) (found g) (c .if2 .left)
 
 pub level-of-spec : {M : Type 1} → statement M
 level-of-spec = tie.close (tie.spec (λ c κs. search needs) returns (λ c κs. search needs) returns-2 cast-result returns-3)

@@ -24,13 +24,13 @@ abbrev μ-loop : tie.MeasureT-loop
 
 loop-again : tie.Need-loop-again Inv-loop μ-loop
 loop-again c =
-    let w = c .before .before .before .before .loop in
-    let t = c .before .before .before .before .before .before .args .t in (
+    let w = c .before .before .before .before .before .loop in
+    let t = c .before .before .before .before .before .before .before .args .t in (
       search needs,
       search needs,
       store-more _ _ _ (w .i) _ (w .s) (w .inv .2) (search needs)
           (c .level-of .ensures
-          ∙ ap shown (level-same-set _ (turned (mark (now t))) _ _ (λ l v. c .before .labels-of .ensures l (omega arith)))),
+          ∙ ap shown (level-same-set _ (turned (mark (now t))) _ _ (λ l v. c .before .before .labels-of .ensures l (omega arith)))),
     )
 
 returns : tie.Need-returns Inv-loop μ-loop

@@ -16,10 +16,12 @@ abbrev μ-loop : tie.MeasureT-loop
 
 loop-again : tie.Need-loop-again Inv-loop μ-loop
 loop-again c =
-    let n = c .before .before .before .before .numbers-of in
-    let w = c .before .before .before .before .before .before .loop in
-    let a = c .before .before .before .before .before .before .before .before .before .args in
-    let (e, f, g) = n .ensures .inside (omega arith) in (
+    let second = c .before .before .before .before in
+    let first = second .before in
+    let w = first .before .before .loop in
+    let a = first .before .before .before .before .before .args in
+    let e = first .first-number .ensures in
+    let f = second .second-number .ensures in (
       search needs,
       search needs,
       notes-more (a .at) (a .size) (a .p .now) (a .s .now) (w .i) (w .s) _ (w .inv .2) (rw (e, f) at (c .before .before .note .ensures)),
@@ -38,6 +40,7 @@ note-lines-spec =
     Inv-loop
     μ-loop
     (λ c. (search needs, search needs, notes-none _ _ _ _))
+    (λ c κs. search needs)
     (λ c κs. search needs)
     (λ c κs. search needs)
     (λ c. search needs)

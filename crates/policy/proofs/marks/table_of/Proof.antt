@@ -16,9 +16,12 @@ abbrev μ-loop : tie.MeasureT-loop
 
 loop-again : tie.Need-loop-again Inv-loop μ-loop
 loop-again c =
-    let w = c .before .before .before .before .loop in
-    let p = c .before .before .before .before .before .before .args .p .now in
-    let (e, f, g) = c .before .before .numbers-of .ensures .inside (omega arith) in
+    let second = c .before .before in
+    let first = second .before in
+    let w = first .before .before .loop in
+    let p = first .before .before .before .before .args .p .now in
+    let e = first .first-number .ensures in
+    let f = second .second-number .ensures in
     (search needs, search needs, marks-more p (w .i) (w .t) (c .add-pair .last .0) (w .inv .2) (rw (e, f) at (c .add-pair .ensures .1)))
 
 returns : tie.Need-returns Inv-loop μ-loop
@@ -34,6 +37,7 @@ table-of-spec =
     Inv-loop
     μ-loop
     (λ c. (search needs, search needs, marks-none _))
+    (λ c κs. search needs)
     (λ c κs. search needs)
     (λ c κs. search needs)
     (λ c. search needs)

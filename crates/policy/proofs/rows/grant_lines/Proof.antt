@@ -18,13 +18,14 @@ abbrev μ-loop : tie.MeasureT-loop
 
 loop-again : tie.Need-loop-again Inv-loop μ-loop
 loop-again c =
-    let turn = c .before .before .before .before in
-    let w = turn .before .before .loop in
-    let a = turn .before .before .before .before .before .args in
-    let l = turn .numbers-of .ensures .inside (search needs) in (
+    let third = c .before .before .before .before in
+    let second = third .before in
+    let first = second .before in
+    let w = first .before .before .loop in
+    let a = first .before .before .before .before .before .args in (
       search needs,
       search needs,
-      granted-as (λ d o r. granted-line (now (a .s)) (w .s) (now (a .p)) (w .i) _ _ _ d o r (l .0) (l .1) (l .2) (w .inv .2 .rest))
+      granted-as (λ d o r. granted-line (now (a .s)) (w .s) (now (a .p)) (w .i) _ _ _ d o r (first .first-number .ensures) (second .second-number .ensures) (third .third-number .ensures) (w .inv .2 .rest))
           (granted-more (w .inv .2) (c .before .before .grant .ensures)),
     )
 
@@ -41,6 +42,8 @@ grant-lines-spec =
     Inv-loop
     μ-loop
     (λ c. (search needs, search needs, granted-none _ _ (λ d o r u t. granted-yet _ _ d o r)))
+    (λ c κs. search needs)
+    (λ c κs. search needs)
     (λ c κs. search needs)
     (λ c κs. search needs)
     (λ c. search needs)

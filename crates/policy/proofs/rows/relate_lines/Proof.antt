@@ -18,13 +18,13 @@ abbrev μ-loop : tie.MeasureT-loop
 
 loop-again : tie.Need-loop-again Inv-loop μ-loop
 loop-again c =
-    let turn = c .before .before .before .before in
-    let w = turn .before .before .loop in
-    let p = now (turn .before .before .before .before .before .args .p) in
-    let l = turn .numbers-of .ensures .inside (search needs) in (
+    let second = c .before .before .before .before in
+    let first = second .before in
+    let w = first .before .before .loop in
+    let p = now (first .before .before .before .before .before .args .p) in (
       search needs,
       search needs,
-      related-as (λ x r. pairs-more p (w .i) _ _ x r (l .0) (l .1)) (related-more (w .inv .2) (c .before .before .relate .ensures)),
+      related-as (λ x r. pairs-more p (w .i) _ _ x r (first .first-number .ensures) (second .second-number .ensures)) (related-more (w .inv .2) (c .before .before .relate .ensures)),
     )
 
 returns : tie.Need-returns Inv-loop μ-loop
@@ -40,6 +40,7 @@ relate-lines-spec =
     Inv-loop
     μ-loop
     (λ c. (search needs, search needs, related-none _ _ _ _ (λ x r v w. pairs-none _ x r)))
+    (λ c κs. search needs)
     (λ c κs. search needs)
     (λ c κs. search needs)
     (λ c. search needs)

@@ -22,7 +22,7 @@ turn : (c : tie.After-body Inv-loop μ-loop)
     → c .body .result ≡ lineVerdict (now (c .before .before .before .before .before .before .args .f)) (c .before .before .before .loop .i + 1)
 turn c =
     let w = c .before .before .before .loop in
-    c .body .ensures ∙ next-line _ (w .i) _ _ _ (w .inv .0) (c .before .before .before .before .line .ensures) (w .inv .2) (c .before .line2 .ensures)
+    c .body .ensures ∙ next-line _ (w .i) _ _ _ (w .inv .0) (c .before .before .before .before .first-line .ensures) (w .inv .2) (c .before .line .ensures)
 
 returns : tie.Need-returns Inv-loop μ-loop
 returns c =
@@ -35,7 +35,7 @@ loop-again : tie.Need-loop-again Inv-loop μ-loop
 loop-again c =
     let b = c .before .before in
     let w = b .before .before .before .loop in
-    (search needs, search needs, b .before .line2 .ensures, scan-more (lineVerdict _) (w .i) (w .inv .3) (rw (turn b) at (c .if1 .left)))
+    (search needs, search needs, b .before .line .ensures, scan-more (lineVerdict _) (w .i) (w .inv .3) (rw (turn b) at (c .if1 .left)))
 
 returns-2 : tie.Need-returns-2 Inv-loop μ-loop
 returns-2 c =
@@ -51,7 +51,7 @@ bodies-spec =
     Inv-loop
     μ-loop
     (λ c κs. search needs)
-    (λ c. (search needs, search needs, c .line .ensures, search needs))
+    (λ c. (search needs, search needs, c .first-line .ensures, search needs))
     (λ c. search needs)
     (λ c κs. search needs)
     (λ c. search needs)

@@ -25,7 +25,7 @@ sizes : (c : tie.After-head) → sized (now (c .before .before .before .before .
 sizes c = fitting _ (c .before .before .before .before .if1 .left) (c .before .before .before .if2 .left) (c .before .before .if3 .left)
 
 first : (c : tie.After-head) → c .head .result ≡ lineVerdict (now (c .before .before .before .before .before .before .args .f)) 1
-first c = c .head .ensures ∙ head-line _ _ (c .before .line .ensures)
+first c = c .head .ensures ∙ head-line _ _ (c .before .first-line .ensures)
 
 returns-4 : tie.Need-returns-4
 returns-4 c =

@@ -1,10 +1,59 @@
--- The letter, the end and the four fields, each where it stands.
+-- A field that does not read as asked ends the line; where each does, the line is what they say.
+use mathlib.Core.Path.{_≡_, sym, _∙_}
 use borrow.Author.Needs.{needs}
+use denote.Ref.{now}
+use Rattle.rolefile.specs.Line.{lineFrom}
+use Rattle.rolefile.proofs.Reading.{ended, got, unread, numbered, no-first, no-second, no-third, no-fourth, no-letter, no-end, whole-line}
 use Rattle.rolefile.proofs.read.line_from.Statement.{statement}
 use Rattle.rolefile.proofs.read.line_from.Tie as tie
 
 returns : tie.Need-returns
-returns c = cc
+returns c = let l = c .before .before in c .no-line .ensures ∙ rw (← (l .letter .ensures)) (no-letter _ _ _ _ _ _ (c .before .if1 .taken))
+
+returns-2 : tie.Need-returns-2
+returns-2 c = c .no-line2 .ensures ∙ no-first _ _ _ _ _ _ (unread _ _ (c .before .before .field .ensures) (c .before .match .keys2))
+
+returns-3 : tie.Need-returns-3
+returns-3 c = c .no-line3 .ensures ∙ no-second _ _ _ _ _ _ (unread _ _ (c .before .before .field2 .ensures) (c .before .match2 .keys2))
+
+returns-4 : tie.Need-returns-4
+returns-4 c =
+    let r = c .before .before in
+    let q = r .before .before .before .before .before in
+    let p = q .before .before .before .before in
+    c .no-line4 .ensures
+    ∙ no-third _ _ _ _ _ _
+    (rw (r .before .field-count .ensures, p .before .before .letter .ensures) at (ended _ _ _ (r .taken-at .ensures) (c .before .match3 .keys2)))
+
+returns-5 : tie.Need-returns-5
+returns-5 c =
+    let s = c .before .before in
+    let r = s .before .before .before .before .before in
+    let q = r .before .before .before .before .before in
+    let p = q .before .before .before .before in
+    c .no-line5 .ensures
+    ∙ no-fourth _ _ _ _ _ _
+    (rw (s .before .field-count2 .ensures, p .before .before .letter .ensures) at (ended _ _ _ (s .taken-at2 .ensures) (c .before .match4 .keys2)))
+
+returns-6 : tie.Need-returns-6
+returns-6 c = c .no-line6 .ensures ∙ no-end _ _ _ _ _ _ (c .before .if2 .taken)
+
+returns-7 : tie.Need-returns-7
+returns-7 c =
+    let d = c .before .before .before in
+    let s = d .before .before in
+    let r = s .before .before .before .before .before in
+    let q = r .before .before .before .before .before in
+    let p = q .before .before .before .before in
+    let l = p .before .before in
+    rw (← (l .letter .ensures))
+    (whole-line _ _ _ _ _ _ _ _ _ _
+    (numbered _ _ _ (p .field .ensures) (q .before .before .a .given .1))
+    (numbered _ _ _ (q .field2 .ensures) (r .before .before .before .b .given .1))
+    (rw (r .before .field-count .ensures) at (got _ _ _ _ (r .taken-at .ensures) (s .before .before .before .c .given .1)))
+    (rw (s .before .field-count2 .ensures) at (got _ _ _ _ (s .taken-at2 .ensures) (d .d .given .1)))
+    (p .before .if1 .left)
+    (c .if2 .left))
 
 pub line-from-spec : {M : Type 1} → statement M
 line-from-spec =
@@ -12,15 +61,32 @@ line-from-spec =
     (tie.spec
     (λ c. search needs)
     (λ c κs. search needs)
+    (λ c κs. search needs)
+    returns
     (λ c. search needs)
     (λ c κs. search needs)
     (λ c. search needs)
     (λ c κs. search needs)
+    returns-2
     (λ c. search needs)
     (λ c κs. search needs)
     (λ c. search needs)
     (λ c κs. search needs)
+    returns-3
+    (λ c. search needs)
+    (λ c κs. search needs)
+    (λ c κs. search needs)
+    (λ c. search needs)
+    (λ c κs. search needs)
+    returns-4
+    (λ c. search needs)
+    (λ c κs. search needs)
+    (λ c κs. search needs)
+    (λ c. search needs)
+    (λ c κs. search needs)
+    returns-5
     (λ c. search needs)
     (λ c. search needs)
     (λ c κs. search needs)
-    returns)
+    returns-6
+    returns-7)

@@ -1,0 +1,23 @@
+-- Five blanks, four of them tested at once.
+use Prim.Native.Nat.{_+_}
+use mathlib.Core.Path.{_≡_, _∙_}
+use native.Mathlib.Omega.{arith}
+use borrow.Author.Needs.{needs}
+use denote.Ref.{now}
+use Rattle.rolefile.proofs.Reading.{blank-tested}
+use Rattle.rolefile.proofs.read.blank.Statement.{statement}
+use Rattle.rolefile.proofs.read.blank.Tie as tie
+
+returns : tie.Need-returns
+returns c =
+    let a = c .before .before .before .args in
+    let byte = c .before .before .shared-slice-known .given in
+    rw (c .before .four .ensures)
+    (blank-tested (now (a .s)) (a .at)
+    (omega (arith, byte (a .at)))
+    (omega (arith, byte (a .at + 1)))
+    (omega (arith, byte (a .at + 2)))
+    (omega (arith, byte (a .at + 3))))
+
+pub blank-spec : {M : Type 1} → statement M
+blank-spec = tie.close (tie.spec (λ c κs. search needs) (λ c. search needs) (λ c. search needs) returns)
