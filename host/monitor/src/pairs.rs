@@ -5,6 +5,7 @@
 
 pub mod caller;
 pub mod compare;
+pub mod leaks;
 pub mod monitor;
 pub mod rich;
 pub mod tally;

@@ -5,6 +5,7 @@ use monitor_tests::example::{role_file, EXAMPLE};
 use monitor_tests::library::UNDER_TEST;
 use monitor_tests::model::Model;
 use monitor_tests::pairs::compare::{compare, on_library};
+use monitor_tests::pairs::leaks::{caught, Leak};
 use monitor_tests::pairs::tally::Tally;
 use monitor_tests::pairs::tracker::{Labels, Opened, Tracker};
 use monitor_tests::pairs::Pair;
@@ -47,6 +48,17 @@ fn the_model_shows_the_same_under_the_label() {
             .unwrap_or_else(|problem| panic!("pair {index}: {problem}"));
     }
     assert_rich(&tally);
+}
+
+#[test]
+fn each_leaky_copy_is_caught() {
+    let mut lines = String::from("leaky copies of the model, and the pair that catches each:");
+    for leak in Leak::ALL {
+        let (pair, seen) =
+            caught(leak, PAIRS, SEED).unwrap_or_else(|| panic!("{leak:?} is never seen"));
+        lines.push_str(&format!("\n{pair:>6}  {leak:?}: {seen}"));
+    }
+    print(&lines);
 }
 
 /// Label 2 dominates label 1, and the only user is cleared to 2.
