@@ -2,11 +2,12 @@
 FILE ?= examples/document.role
 COUNT ?= 20000
 LISTS ?= 5000
+PAIRS ?= 20000
 SEED ?= 7
 PREFIX ?= /usr/local
 ARCHIVE = target/staticlib/libmonitor.a
 
-.PHONY: help check test prove lib install differential lists sanitize bench kit
+.PHONY: help check test prove lib install differential lists pairs sanitize bench kit
 
 help:
 	@echo "make check FILE=F       check a role file: its verdict, levels, flow"
@@ -16,6 +17,7 @@ help:
 	@echo "make install PREFIX=P   put header, archive and pkg-config file under P ($(PREFIX))"
 	@echo "make differential       COUNT=$(COUNT) random files against the second checker, from SEED=$(SEED)"
 	@echo "make lists              LISTS=$(LISTS) random call lists against the model, from SEED=$(SEED)"
+	@echo "make pairs              PAIRS=$(PAIRS) random pairs of runs side by side, from SEED=$(SEED)"
 	@echo "make sanitize           the C test under AddressSanitizer and under valgrind"
 	@echo "make bench              load times beside plain Rust"
 
@@ -48,6 +50,9 @@ differential: kit
 
 lists: lib
 	MONITOR_LIB=$(CURDIR)/$(ARCHIVE) cargo run --release --offline --quiet --manifest-path host/monitor/Cargo.toml -- $(LISTS) $(SEED)
+
+pairs: lib
+	MONITOR_LIB=$(CURDIR)/$(ARCHIVE) cargo run --release --offline --quiet --manifest-path host/monitor/Cargo.toml -- --pairs $(PAIRS) $(SEED)
 
 sanitize: lib
 	$(MAKE) -C host/c asan valgrind LIB=$(CURDIR)/$(ARCHIVE)

@@ -68,7 +68,7 @@ pub fn wild_number(random: &mut Random, limit: usize) -> u64 {
 }
 
 /// A number from 1 to `count`, now and then a wild one.
-fn number(random: &mut Random, count: usize) -> u64 {
+pub fn number(random: &mut Random, count: usize) -> u64 {
     if count == 0 || random.percent(4) {
         wild_number(random, count)
     } else {
@@ -96,7 +96,7 @@ pub fn random_bytes(random: &mut Random, length: usize) -> Vec<u8> {
 }
 
 /// Offset and length within a card.
-fn good_span(random: &mut Random) -> (u64, u64) {
+pub fn good_span(random: &mut Random) -> (u64, u64) {
     let offset = random.between(0, CARD_BYTES);
     let length = match random.below(4) {
         0 => CARD_BYTES - offset,
@@ -106,7 +106,7 @@ fn good_span(random: &mut Random) -> (u64, u64) {
 }
 
 /// Offset and length past the card's end, also where their sum wraps round.
-fn bad_span(random: &mut Random) -> (u64, u64) {
+pub fn bad_span(random: &mut Random) -> (u64, u64) {
     let some = random.next() % 65;
     match random.below(10) {
         // One byte too far.

@@ -9,3 +9,4 @@ pub mod lent;
 pub mod library;
 pub mod lists;
 pub mod model;
+pub mod pairs;

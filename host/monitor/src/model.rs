@@ -5,7 +5,7 @@
 //! call." So each call below is a row of checks, left at the first that fails.
 
 use crate::library::{Figure, Verdict};
-use second_checker::check::{read, Counts, Level, Meaning, READ, WRITE};
+use second_checker::check::{read, Counts, Level, Meaning, RoleFile, READ, WRITE};
 use second_checker::{check, Outcome};
 use std::collections::BTreeSet;
 use std::ops::Range;
@@ -46,12 +46,22 @@ impl Policy {
         };
         let role_file = read(file).expect("an accepted file has its form");
         Ok(Policy {
-            counts: role_file.counts,
-            meaning: Meaning::of(&role_file),
-            assigned: role_file.assignments.iter().copied().collect(),
             flows: accepted.flows,
             circle: accepted.circle.unwrap_or(0),
+            ..Policy::unchecked(&role_file)
         })
+    }
+
+    /// What the lines say, whether or not the file is accepted; without role
+    /// flow.
+    pub fn unchecked(role_file: &RoleFile) -> Policy {
+        Policy {
+            counts: role_file.counts,
+            meaning: Meaning::of(role_file),
+            assigned: role_file.assignments.iter().copied().collect(),
+            flows: BTreeSet::new(),
+            circle: 0,
+        }
     }
 
     /// "the user is assigned to it or to a senior of it"
@@ -65,18 +75,23 @@ impl Policy {
     /// the session's label. A free level always passes; an undefined one
     /// never."
     pub fn levels_allow(&self, role: usize, label: usize) -> bool {
-        let dominance = &self.meaning.dominance;
-        let read_level_passes = match self.meaning.read_level[role] {
+        self.read_level_allows(role, label) && self.write_level_allows(role, label)
+    }
+
+    pub fn read_level_allows(&self, role: usize, label: usize) -> bool {
+        match self.meaning.read_level[role] {
             Level::Free => true,
-            Level::Label(level) => dominance.over(label, level),
+            Level::Label(level) => self.meaning.dominance.over(label, level),
             Level::Undefined => false,
-        };
-        let write_level_passes = match self.meaning.write_level[role] {
+        }
+    }
+
+    fn write_level_allows(&self, role: usize, label: usize) -> bool {
+        match self.meaning.write_level[role] {
             Level::Free => true,
-            Level::Label(level) => dominance.over(level, label),
+            Level::Label(level) => self.meaning.dominance.over(level, label),
             Level::Undefined => false,
-        };
-        read_level_passes && write_level_passes
+        }
     }
 
     /// The cards a role may read or write, "inherited ones included".
@@ -300,11 +315,16 @@ impl Model {
         match Policy::of(file) {
             Err(refusal) => refusal,
             Ok(policy) => {
-                self.policy = Some(Rc::new(policy));
-                self.places = vec![None; PLACES];
+                self.begin(policy);
                 Verdict::default()
             }
         }
+    }
+
+    /// The state after a load.
+    pub(crate) fn begin(&mut self, policy: Policy) {
+        self.policy = Some(Rc::new(policy));
+        self.places = vec![None; PLACES];
     }
 
     pub fn open(&mut self, state_length: usize, place: u64, user: u64, label: u64) -> u64 {
@@ -334,11 +354,16 @@ impl Model {
         match self.taking(state_length, place, role) {
             Err(number) => number,
             Ok((place, role)) => {
-                if let Some(session) = &mut self.places[place - 1] {
-                    session.roles.insert(role);
-                }
+                self.hold(place, role);
                 0
             }
+        }
+    }
+
+    /// Puts a role among those held at a place from 1 to 64.
+    pub(crate) fn hold(&mut self, place: usize, role: usize) {
+        if let Some(session) = &mut self.places[place - 1] {
+            session.roles.insert(role);
         }
     }
 

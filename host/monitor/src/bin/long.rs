@@ -1,6 +1,9 @@
-//! The random lists for long runs, with the counts for each number.
+//! The random lists and the pairs of runs for long runs, with their counts.
 
+use monitor_tests::library::UNDER_TEST;
 use monitor_tests::lists::{run, Tally};
+use monitor_tests::pairs::compare::on_library;
+use monitor_tests::pairs::leaks::{caught, Leak};
 use std::process::ExitCode;
 use std::sync::atomic::{AtomicU64, Ordering};
 use std::sync::Mutex;
@@ -8,7 +11,8 @@ use std::thread;
 use std::time::Instant;
 
 const USAGE: &str = "usage: long COUNT SEED
-       long --trace SEED INDEX";
+       long --trace SEED INDEX
+       long --pairs COUNT SEED";
 const WORKERS: usize = 2;
 /// The run ends after this many lists with a difference.
 const MOST_DIFFERENCES: usize = 5;
@@ -19,6 +23,10 @@ fn main() -> ExitCode {
     match words[..] {
         ["--trace", seed, index] => match (seed.parse(), index.parse()) {
             (Ok(seed), Ok(index)) => trace(seed, index),
+            _ => usage(),
+        },
+        ["--pairs", count, seed] => match (count.parse(), seed.parse()) {
+            (Ok(count), Ok(seed)) => pairs(count, seed),
             _ => usage(),
         },
         [count, seed] => match (count.parse(), seed.parse()) {
@@ -44,6 +52,35 @@ fn trace(seed: u64, index: u64) -> ExitCode {
             println!("FAILED: {problem}");
             ExitCode::FAILURE
         }
+    }
+}
+
+/// Pairs of runs on the library, then on each leaky copy until it is caught.
+fn pairs(count: u64, seed: u64) -> ExitCode {
+    let begin = Instant::now();
+    println!("library: {UNDER_TEST}");
+    match on_library(count, seed) {
+        Ok(tally) => println!("{}\nno difference", tally.table()),
+        Err(problem) => {
+            println!("FAILED: {problem}");
+            return ExitCode::FAILURE;
+        }
+    }
+    let mut missed = 0;
+    for leak in Leak::ALL {
+        match caught(leak, count, seed) {
+            Some((pair, seen)) => println!("{leak:?} caught by pair {pair}: {seen}"),
+            None => {
+                println!("FAILED: {leak:?} never caught");
+                missed += 1;
+            }
+        }
+    }
+    println!("{:.1} seconds", begin.elapsed().as_secs_f64());
+    if missed == 0 {
+        ExitCode::SUCCESS
+    } else {
+        ExitCode::FAILURE
     }
 }
 
