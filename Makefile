@@ -17,7 +17,7 @@ help:
 	@echo "make differential       COUNT=$(COUNT) random files against the second checker, from SEED=$(SEED)"
 	@echo "make lists              LISTS=$(LISTS) random call lists against the model, from SEED=$(SEED)"
 	@echo "make sanitize           the C test under AddressSanitizer and under valgrind"
-	@echo "make bench              load times beside plain Rust"
+	@echo "make bench              times of loads and calls beside plain Rust"
 
 kit:
 	@command -v rt >/dev/null || { echo "This needs rt, the Rattle kit's command, on the path."; exit 1; }
@@ -53,4 +53,4 @@ sanitize: lib
 	$(MAKE) -C host/c asan valgrind LIB=$(CURDIR)/$(ARCHIVE)
 
 bench: lib
-	cargo run --release --offline --quiet --manifest-path host/bench/Cargo.toml
+	cd host/bench && cargo run --release --offline --quiet
