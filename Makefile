@@ -19,7 +19,7 @@ help:
 	@echo "make lists              LISTS=$(LISTS) random call lists against the model, from SEED=$(SEED)"
 	@echo "make pairs              PAIRS=$(PAIRS) random pairs of runs side by side, from SEED=$(SEED)"
 	@echo "make sanitize           the C test under AddressSanitizer and under valgrind"
-	@echo "make bench              load times beside plain Rust"
+	@echo "make bench              times of loads and calls beside plain Rust"
 
 kit:
 	@command -v rt >/dev/null || { echo "This needs rt, the Rattle kit's command, on the path."; exit 1; }
@@ -58,4 +58,4 @@ sanitize: lib
 	$(MAKE) -C host/c asan valgrind LIB=$(CURDIR)/$(ARCHIVE)
 
 bench: lib
-	cargo run --release --offline --quiet --manifest-path host/bench/Cargo.toml
+	cd host/bench && cargo run --release --offline --quiet

@@ -1,8 +1,9 @@
 // What the rules ask of a user, a label, a role and a card.
 use super::state;
 ghost use mathlib.Core.Path.{_≡_};
+ghost use mathlib.Core.Bool.{_||_};
 ghost use Prim.Native.Nat.{_+_, _*_, _≤_};
-ghost use lib.Dec.{leb};
+ghost use lib.Dec.{leb, eqb};
 ghost use Rattle.search.specs.Search.{Among};
 ghost use Rattle.policy.specs.Tables.{marked};
 ghost use Rattle.monitor.specs.Session as session;
@@ -25,16 +26,27 @@ pub fn entitled(s: &[u8], user: u64, role: u64) -> bool
     roleset::meet(s, assigned as usize, seniors as usize)
 }
 
+// Whether label a dominates label b, one of which is a level: a free level, 0, always passes.
+fn passes(s: &[u8], level: u64, a: u64, b: u64) -> bool
+    ensures { λ r. ⌜ r ≡ (eqb level 0 || marked (now (s .entry)) a b) ⌝ }
+{
+    if level == 0 {
+        return true;
+    }
+    state::dominates(s, a, b)
+}
+
 // Whether the levels of the role allow it at the label.
 pub fn fitting(s: &[u8], label: u64, role: u64) -> bool
     requires { ⌜ Among 128 role ⌝ }
     ensures { λ r. ⌜ r ≡ session.fitting (now (s .entry)) label role ⌝ }
 {
     let reads = state::byte_of(s, 1808, role);
+    if !passes(s, reads, label, reads) {
+        return false;
+    }
     let writes = state::byte_of(s, 1936, role);
-    let over = state::dominates(s, label, reads);
-    let under = state::dominates(s, writes, label);
-    ((reads == 0) | over) & ((writes == 0) | under)
+    passes(s, writes, writes, label)
 }
 
 // The same two of the session at the place.

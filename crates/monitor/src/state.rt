@@ -41,11 +41,19 @@ pub fn counted(s: &[u8], at: u64, x: u64) -> bool
 pub fn sound(s: &[u8]) -> bool
     ensures { λ r. ⌜ r ≡ session.sound (now (s .entry)) ⌝ }
 {
-    let labels = among(32, word(s, 0));
-    let roles = word(s, 2) <= 128;
-    let users = word(s, 4) <= 256;
-    let cards = word(s, 6) <= 512;
-    (65536 <= s.len()) & (labels & (roles & (users & cards)))
+    if s.len() < 65536 {
+        return false;
+    }
+    if !among(32, word(s, 0)) {
+        return false;
+    }
+    if 128 < word(s, 2) {
+        return false;
+    }
+    if 256 < word(s, 4) {
+        return false;
+    }
+    word(s, 6) <= 512
 }
 
 // Whether label a dominates label b.

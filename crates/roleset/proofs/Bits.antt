@@ -1,6 +1,7 @@
 -- The bits of a number: of one made by `|`, `&` and `^`, of 2 ^ k and of 0; and a number below 2 ^ k is settled by its first k bits.
+-- Two numbers share a bit where two of their bytes do.
 -- Assumes nothing.
-use Prim.Native.Nat.{ℕ, zero, suc, _*_, _/_, _%_, _^_, _<_}
+use Prim.Native.Nat.{ℕ, zero, suc, _+_, _*_, _/_, _%_, _^_, _<_}
 use mathlib.Core.Path.{_≡_, refl, sym, ap, ap₂, _∙_}
 use mathlib.Core.Logic.{_↔_}
 use mathlib.Core.Bool.{Bool, true, false, not, _&&_, _||_, cond, or-true, or-false}
@@ -10,7 +11,7 @@ use lib.Dec.{eqb, eqb·zero-suc, eqb·suc-zero, eqb·suc-suc}
 use lib.Pow.{shl-exact}
 use lib.Bits.{bitAnd, bitOr, bitXor, and-shr, and-mod, and-lt, and-le-l, and-le-r, or-shr, or-mod, or-add-and, xor-shr, xor-mod}
 use borrow.Author.Tests.{eqb-true}
-use Rattle.roleset.specs.Row.{bit}
+use Rattle.roleset.specs.Row.{bit, littleEndian}
 
 -- a binary digit, from whether it is 1
 abbrev digit : Bool → ℕ
@@ -107,3 +108,30 @@ or-none x y =
     let left = and-le-l x y in
     let right = and-le-r x y in
     (λ e. omega arith, λ e. omega arith)
+
+-- `&` of two numbers whose lowest bytes are x and y
+and-low : (x y u v : ℕ) → x < 256 → y < 256 → bitAnd (x + 256 * u) (y + 256 * v) ≡ bitAnd x y + 256 * bitAnd u v
+and-low x y u v l m =
+    let x-low : (x + 256 * u) % 256 ≡ x = omega arith in
+    let y-low : (y + 256 * v) % 256 ≡ y = omega arith in
+    let x-high : (x + 256 * u) / 256 ≡ u = omega arith in
+    let y-high : (y + 256 * v) / 256 ≡ v = omega arith in
+    let low = and-mod (x + 256 * u) (y + 256 * v) 8 ∙ ap₂ bitAnd x-low y-low in
+    let high = and-shr (x + 256 * u) (y + 256 * v) 8 ∙ ap₂ bitAnd x-high y-high in
+    omega arith
+
+-- two numbers share no bit where no byte of one shares a bit with that of the other
+pub bytes-apart : (n : ℕ) (f g : ℕ → ℕ) → ((k : ℕ) → f k < 256) → ((k : ℕ) → g k < 256)
+    → (bitAnd (littleEndian n f) (littleEndian n g) ≡ 0) ↔ ((k : ℕ) → k < n → bitAnd (f k) (g k) ≡ 0)
+unfolding littleEndian
+bytes-apart zero f g l m = (λ e k i. absurd (omega arith), λ h. refl)
+bytes-apart (suc n) f g l m =
+    let split = and-low (f 0) (g 0) (littleEndian n (λ k. f (suc k))) (littleEndian n (λ k. g (suc k))) (l 0) (m 0) in
+    let rest = bytes-apart n (λ k. f (suc k)) (λ k. g (suc k)) (λ k. l (suc k)) (λ k. m (suc k)) in (
+      λ e. each (omega arith) (rest .0 (omega arith)),
+      λ h. let first = h 0 (omega arith) in let others = rest .1 (λ k i. h (suc k) (omega arith)) in omega arith,
+    )
+  where
+    each : bitAnd (f 0) (g 0) ≡ 0 → ((k : ℕ) → k < n → bitAnd (f (suc k)) (g (suc k)) ≡ 0) → (k : ℕ) → k < suc n → bitAnd (f k) (g k) ≡ 0
+    each a b zero i = a
+    each a b (suc k) i = b k (omega arith)

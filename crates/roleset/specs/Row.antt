@@ -3,8 +3,9 @@
 --     member xs at r        the row of xs at `at` holds role r
 --     common xs a b         the rows at a and at b have a role in common
 --     Placed at s xs ys     ys is xs with the set s in the row at `at`, and nothing else changed
+--     littleEndian n f      n bytes as one number
 -- Assumes nothing.
-use Prim.Native.Nat.{ℕ, _+_, _-_, _/_, _%_, _^_, _≤_, _<_}
+use Prim.Native.Nat.{ℕ, zero, suc, _+_, _-_, _*_, _/_, _%_, _^_, _≤_, _<_}
 use mathlib.Core.Path.{_≡_}
 use mathlib.Core.Bool.{Bool, not, _&&_, _||_}
 use mathlib.Core.List.{List}
@@ -47,3 +48,8 @@ pub record Placed (at : ℕ) (s : ℕ → Bool) (xs ys : List ℕ) : Type 0 wher
   pub row : at + 16 ≤ length xs → (r : ℕ) → member ys at r ≡ s r
   pub rest : (i : ℕ) → Outside at i → getD ys i 0 ≡ getD xs i 0
   pub none : length xs < at + 16 → ys ≡ xs
+
+-- the number whose n bytes are f's, the first of them lowest
+unfoldable pub littleEndian : ℕ → (ℕ → ℕ) → ℕ
+littleEndian zero f = 0
+littleEndian (suc n) f = f 0 + 256 * littleEndian n (λ k. f (suc k))

@@ -1,11 +1,11 @@
--- The bits gathered so far are 0 exactly where the bytes looked at share no role.
-use Prim.Native.Nat.{ℕ, _+_, _-_, _*_, _≤_, _<_}
-use mathlib.Core.Path.{_≡_, refl, sym, ap, _∙_}
+-- The halves share no bit exactly where no byte of one row shares a bit with that of the other, and so no role.
+use Prim.Native.Nat.{ℕ, _+_, _-_, _*_, _/_, _%_, _<_}
+use mathlib.Core.Path.{_≡_, sym, ap, _∙_}
 use mathlib.Core.Logic.{_↔_}
 use mathlib.Core.List.{List}
-use mathlib.Core.Bool.{Bool, not, _&&_, Bool·not-not}
+use mathlib.Core.Bool.{Bool, false, not, _&&_, Bool·not-not}
 use native.Mathlib.Omega.{arith}
-use native.Mathlib.Decide.{decLe}
+use native.Mathlib.Decide.{decLt}
 use lib.Bits.{bitAnd, bitOr}
 use lib.Dec.{eqb}
 use lib.ListN.{getD}
@@ -14,79 +14,86 @@ use borrow.Author.Tests.{eqb-true, eq-eqb, not-true}
 use Rattle.search.specs.Search.{some}
 use Rattle.search.proofs.Truth.{same}
 use Rattle.search.proofs.Found.{None, some-none}
-use Rattle.roleset.specs.Row.{bit, member}
-use Rattle.roleset.proofs.Bits.{and-none, or-none}
+use Rattle.roleset.specs.Row.{bit, member, littleEndian}
+use Rattle.roleset.proofs.Bits.{and-none, or-none, bytes-apart}
 use Rattle.roleset.proofs.Rows.{bit-member}
 use Rattle.roleset.proofs.inner.meet.Statement.{statement}
 use Rattle.roleset.proofs.inner.meet.Tie as tie
 
--- roles that the rows at a and at b share, and one turn: byte i is looked at
-module _ (xs : List ℕ) (a b : ℕ) where
+module _ (xs : List ℕ) (a b : ℕ) (bytes : (i : ℕ) → getD xs i 0 < 256) where
   abbrev Shared : ℕ → Bool
   Shared r = member xs a r && member xs b r
 
-  byte-shares : (i j : ℕ) → i < 16 → j < 8 → (bit (getD xs (a + i) 0) j && bit (getD xs (b + i) 0) j) ≡ Shared (8 * i + j + 1)
-  byte-shares i j l m = rw (bit-member xs a i j l m, bit-member xs b i j l m)
+  -- the bits that byte k of the one row shares with byte k of the other, and those of two halves
+  abbrev Both : ℕ → ℕ
+  Both k = bitAnd (getD xs (a + k) 0) (getD xs (b + k) 0)
 
-  share-more : (i shared : ℕ) → i < 16 → getD xs (a + i) 0 < 256 → getD xs (b + i) 0 < 256 → (shared ≡ 0) ↔ None Shared (8 * i)
-      → (bitOr shared (bitAnd (getD xs (a + i) 0) (getD xs (b + i) 0)) ≡ 0) ↔ None Shared (8 * (i + 1))
-  share-more i shared l m n before =
-      let both = or-none shared (bitAnd (getD xs (a + i) 0) (getD xs (b + i) 0)) in
-      let here = and-none (getD xs (a + i) 0) (getD xs (b + i) 0) m n in (
-        λ e r w. elim (decLe r (8 * i)) [
-          | yes k ↦ before .0 (both .0 e .0) r (omega arith)
-          | no k ↦
-              let j = r - 1 - 8 * i in
-              let place : 8 * i + j + 1 ≡ r = omega arith in
-              rw place at (sym (byte-shares i j l (omega arith)) ∙ here .0 (both .0 e .1) j (omega arith))
+  abbrev Halves : ℕ → ℕ → ℕ
+  Halves at to = bitAnd (littleEndian 8 (λ k. getD xs (at + k) 0)) (littleEndian 8 (λ k. getD xs (to + k) 0))
+
+  abbrev Apart : Type 0
+  Apart = (k : ℕ) → k < 16 → Both k ≡ 0
+
+  halves-apart : (bitOr (Halves a b) (Halves (a + 8) (b + 8)) ≡ 0) ↔ Apart
+  halves-apart =
+      let either = or-none (Halves a b) (Halves (a + 8) (b + 8)) in
+      let low = bytes-apart 8 (λ k. getD xs (a + k) 0) (λ k. getD xs (b + k) 0) (λ k. bytes (a + k)) (λ k. bytes (b + k)) in
+      let high = bytes-apart 8 (λ k. getD xs (a + 8 + k) 0) (λ k. getD xs (b + 8 + k) 0) (λ k. bytes (a + 8 + k)) (λ k. bytes (b + 8 + k)) in (
+        λ e k l. elim (decLt k 8) [
+          | yes m ↦ low .0 (either .0 e .0) k m
+          | no m ↦
+              let i : a + 8 + (k - 8) ≡ a + k = omega arith in
+              let j : b + 8 + (k - 8) ≡ b + k = omega arith in
+              rw (i, j) at (high .0 (either .0 e .1) (k - 8) (omega arith))
         ],
-        λ none. both .1 (
-          before .1 (λ r w. none r (omega arith)),
-          here .1 (λ j k. byte-shares i j l k ∙ none (8 * i + j + 1) (omega arith)),
+        λ h. either .1 (
+          low .1 (λ k l. h k (omega arith)),
+          high .1 (λ k l.
+              let i : a + 8 + k ≡ a + (8 + k) = omega arith in
+              let j : b + 8 + k ≡ b + (8 + k) = omega arith in
+              rw (i, j) (h (8 + k) (omega arith))),
         ),
       )
 
-abbrev Inv-loop : tie.InvT-loop
-Inv-loop s a b shared₀ i₀ shared i = (i ≤ 16) × ((shared ≡ 0) ↔ None (Shared s a b) (8 * i))
+  byte-shares : (k j : ℕ) → k < 16 → j < 8 → (bit (getD xs (a + k) 0) j && bit (getD xs (b + k) 0) j) ≡ Shared (8 * k + j + 1)
+  byte-shares k j l m = rw (bit-member xs a k j l m, bit-member xs b k j l m)
 
-abbrev μ-loop : tie.MeasureT-loop
-μ-loop s a b shared₀ i₀ shared i = 16 - i
+  byte-apart : (k : ℕ) → (Both k ≡ 0) ↔ ((j : ℕ) → j < 8 → (bit (getD xs (a + k) 0) j && bit (getD xs (b + k) 0) j) ≡ false)
+  byte-apart k = and-none (getD xs (a + k) 0) (getD xs (b + k) 0) (bytes (a + k)) (bytes (b + k))
 
-loop-again : tie.Need-loop-again Inv-loop μ-loop
-loop-again c =
-    let loop = c .before .before .before in
-    let xs = loop .before .args .s .now in
-    let a = loop .before .args .a in
-    let b = loop .before .args .b in
-    let i = loop .loop .i in
-    let byte = c .shared-slice-known2 .given in
-    (omega arith, share-more xs a b i (loop .loop .shared) (omega arith) (byte (a + i) .fits) (byte (b + i) .fits) (loop .loop .inv .1))
+  rows-apart : Apart ↔ None Shared 128
+  rows-apart = (
+    λ h r w.
+        let k = (r - 1) / 8 in
+        let j = (r - 1) % 8 in
+        let place : 8 * k + j + 1 ≡ r = omega arith in
+        rw place at (sym (byte-shares k j (omega arith) (omega arith)) ∙ byte-apart k .0 (h k (omega arith)) j (omega arith)),
+    λ none k l. byte-apart k .1 (λ j m. byte-shares k j l m ∙ none (8 * k + j + 1) (omega arith)),
+  )
 
-returns : tie.Need-returns Inv-loop μ-loop
+  met : not (eqb (bitOr (Halves a b) (Halves (a + 8) (b + 8))) 0) ≡ some 128 Shared
+  met =
+      let shared = bitOr (Halves a b) (Halves (a + 8) (b + 8)) in
+      ap not
+      (same (eqb shared 0) (not (some 128 Shared))
+      (λ e. ap not (some-none _ 128 .1 (rows-apart .0 (halves-apart .0 (eqb-true shared 0 e)))))
+      (λ e. eq-eqb shared 0 (halves-apart .1 (rows-apart .1 (some-none _ 128 .0 (not-true (some 128 Shared) e))))))
+      ∙ Bool·not-not (some 128 Shared)
+
+returns : tie.Need-returns
 returns c =
-    let start = c .before .before .args in
-    let shared = c .before .loop .shared in
-    let met = some 128 (Shared (start .s .now) (start .a) (start .b)) in
-    let all : c .before .loop .i ≡ 16 = omega arith in
-    let none = rw all at (c .before .loop .inv .1) in
-    ap not
-    (same (eqb shared 0) (not met)
-    (λ e. ap not (some-none _ 128 .1 (none .0 (eqb-true shared 0 e))))
-    (λ e. eq-eqb shared 0 (none .1 (some-none _ 128 .0 (not-true met e)))))
-    ∙ Bool·not-not met
+    let start = c .before .before .before .before .before .args in
+    rw (c .before .before .before .half .ensures, c .before .before .half2 .ensures, c .before .half3 .ensures, c .half4 .ensures)
+    (met (start .s .now) (start .a) (start .b) (λ i. c .before .before .before .before .shared-slice-known .given i .fits))
 
 pub meet-spec : {M : Type 1} → statement M
 meet-spec =
     tie.close
     (tie.spec
-    Inv-loop
-    μ-loop
-    (λ c. (omega arith, (λ e r w. absurd (omega arith), λ none. refl)))
+    (λ c κs. search needs)
+    (λ c κs. search needs)
     (λ c. search needs)
+    (λ c κs. search needs)
     (λ c. search needs)
-    (λ c. search needs)
-    (λ c. search needs)
-    (λ c. search needs)
-    (λ c. search needs)
-    loop-again
+    (λ c κs. search needs)
     returns)
