@@ -98,7 +98,7 @@ pub record Separated (a b : Start file) : Type 0 where
   pub high : (answersOf a 4 firstStore firstDay ≡ highFirst) × (answersOf b 4 secondStore secondDay ≡ highSecond)
   pub differ : highFirst ≡ highSecond → ⊥
 
--- the bytes that the seventh call shown handed back
+-- the first byte that the seventh call shown handed back
 abbrev seventh : List Answer → ℕ
 seventh xs = getD (getD xs 6 (record { number = 0; bytes = [] }) .bytes) 0 0
 
