@@ -11,6 +11,7 @@ mod proved;
 mod seats;
 mod sessions;
 mod simple;
+mod sizes;
 mod timing;
 mod verdict;
 
