@@ -17,7 +17,8 @@ pub struct Row<'w> {
     pub what: &'w str,
 }
 
-fn grouped(number: u64) -> String {
+/// In groups of three digits.
+pub fn grouped(number: u64) -> String {
     match number {
         0..1000 => number.to_string(),
         _ => format!("{},{:03}", grouped(number / 1000), number % 1000),
