@@ -44,7 +44,8 @@ pub const NEUTRAL: Style = Style {
     fill: "none",
 };
 
-/// Of a dashed line.
+/// Of a line without dashes, and of one with.
+pub const SOLID: &str = "none";
 pub const DASHES: &str = "5 3";
 
 /// A curve through points in pixels.

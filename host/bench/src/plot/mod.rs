@@ -7,7 +7,7 @@ mod text;
 
 use crate::growth::{Point, Way};
 use crate::timing::{Three, Times};
-use curve::{curve, DASHES, NEUTRAL, STYLES};
+use curve::{curve, DASHES, NEUTRAL, SOLID, STYLES};
 use panel::{Curve, Panel};
 use scale::{decades, Scale};
 use text::{text, Anchor};
@@ -34,14 +34,14 @@ const ROWS: [Row; 2] = [
         title: "load, microseconds",
         unit: 1000.0,
         top: 75.0,
-        kinds: &[(|point| point.load, "")],
+        kinds: &[(|point| point.load, SOLID)],
     },
     Row {
         title: "read number and take, nanoseconds",
         unit: 1.0,
         top: 350.0,
         kinds: &[
-            (|point| point.read_number, ""),
+            (|point| point.read_number, SOLID),
             (|point| point.take, DASHES),
         ],
     },
@@ -110,9 +110,9 @@ fn legend() -> String {
         svg += &text(x + 46.0, 32.0, Anchor::Start, words);
     };
     for (turn, style) in STYLES.into_iter().enumerate() {
-        entry(75.0 + 120.0 * turn as f64, style, "", style.name);
+        entry(75.0 + 120.0 * turn as f64, style, SOLID, style.name);
     }
-    entry(475.0, NEUTRAL, "", "load and read number");
+    entry(475.0, NEUTRAL, SOLID, "load and read number");
     entry(695.0, NEUTRAL, DASHES, "take");
     svg
 }
