@@ -7,7 +7,7 @@ SEED ?= 7
 PREFIX ?= /usr/local
 ARCHIVE = target/staticlib/libmonitor.a
 
-.PHONY: help check test prove lib install differential lists pairs sanitize bench kit
+.PHONY: help check test prove lib install differential lists pairs sanitize bench growth kit
 
 help:
 	@echo "make check FILE=F       check a role file: its verdict, levels, flow"
@@ -19,7 +19,8 @@ help:
 	@echo "make lists              LISTS=$(LISTS) random call lists against the model, from SEED=$(SEED)"
 	@echo "make pairs              PAIRS=$(PAIRS) random pairs of runs side by side, from SEED=$(SEED)"
 	@echo "make sanitize           the C test under AddressSanitizer and under valgrind"
-	@echo "make bench              times of loads and calls beside plain Rust"
+	@echo "make bench              times of loads and calls, and their growth, beside plain Rust and a simple version"
+	@echo "make growth             times of growth alone, with the plot docs/growth.svg"
 
 kit:
 	@command -v rt >/dev/null || { echo "This needs rt, the Rattle kit's command, on the path."; exit 1; }
@@ -59,3 +60,6 @@ sanitize: lib
 
 bench: lib
 	cd host/bench && cargo run --release --offline --quiet
+
+growth: lib
+	cd host/bench && cargo run --release --offline --quiet -- --plot ../../docs/growth.svg
