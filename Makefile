@@ -3,11 +3,12 @@ FILE ?= examples/document.role
 COUNT ?= 20000
 LISTS ?= 5000
 PAIRS ?= 20000
+MUTANTS ?= 80
 SEED ?= 7
 PREFIX ?= /usr/local
 ARCHIVE = target/staticlib/libmonitor.a
 
-.PHONY: help check test prove lib install differential lists pairs sanitize bench kit
+.PHONY: help check test prove lib install differential lists pairs sanitize bench mutation kit
 
 help:
 	@echo "make check FILE=F       check a role file: its verdict, levels, flow"
@@ -20,6 +21,7 @@ help:
 	@echo "make pairs              PAIRS=$(PAIRS) random pairs of runs side by side, from SEED=$(SEED)"
 	@echo "make sanitize           the C test under AddressSanitizer and under valgrind"
 	@echo "make bench              times of loads and calls beside plain Rust"
+	@echo "make mutation           MUTANTS=$(MUTANTS) small edits of the crates, from SEED, and which the prover refuses"
 
 kit:
 	@command -v rt >/dev/null || { echo "This needs rt, the Rattle kit's command, on the path."; exit 1; }
@@ -59,3 +61,6 @@ sanitize: lib
 
 bench: lib
 	cd host/bench && cargo run --release --offline --quiet
+
+mutation: kit
+	python3 -B host/mutation/mutate.py --mutants $(MUTANTS) --seed $(SEED)
