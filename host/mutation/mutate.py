@@ -8,6 +8,7 @@ proved there is checked again as a whole. Results are kept under target/mutation
 was ended goes on, and one with a new remark in equivalent.txt only writes the report.
 """
 import argparse
+import functools
 import hashlib
 import random
 import re
@@ -26,7 +27,7 @@ WORK = ROOT / "target" / "mutation"
 RLIBS = ROOT / "target" / "rlib"
 CRATES = ["roleset", "order", "rolefile", "policy", "monitor", "rolecheck"]
 
-Mutant = namedtuple("Mutant", "crate path line operator old new text")
+Mutant = namedtuple("Mutant", "crate path line function operator old new text")
 Outcome = namedtuple("Outcome", "result place")
 
 
@@ -47,8 +48,9 @@ def mutant(crate, path, text, site):
     old = shown(text, site.start, site.end)
     new = shown(edited, site.start, site.start + len(site.new)) or "(nothing)"
     line = text.count("\n", 0, site.start) + 1
+    function = re.findall(r"\bfn (\w+)", text[:site.start])[-1]
     name = str(path.relative_to(ROOT))
-    return Mutant(crate, name, line, site.operator, old, new, edited)
+    return Mutant(crate, name, line, function, site.operator, old, new, edited)
 
 
 def mutants_of(crate):
@@ -150,8 +152,17 @@ def incremental(crate):
     return ["--incremental", str(WORK / "incremental" / crate)]
 
 
+@functools.cache
+def warm(crate):
+    """Proves the crate's unedited copy, which fills its incremental folder."""
+    copy_crate(crate)
+    if outcome(crate, incremental(crate))[0].result != "survived":
+        sys.exit(f"{crate} is not proved before any edit")
+
+
 def tried(m):
     """The outcome of a mutant, and the log of its check."""
+    warm(m.crate)
     folder = copy_crate(m.crate)
     (folder / Path(m.path).relative_to(f"crates/{m.crate}")).write_text(m.text)
     first, said = outcome(m.crate, incremental(m.crate))
@@ -185,13 +196,6 @@ def result_of(m):
     return Outcome(result, place)
 
 
-def warm(crate):
-    """Proves the crate's unedited copy, which fills its incremental folder."""
-    copy_crate(crate)
-    if outcome(crate, incremental(crate))[0].result != "survived":
-        sys.exit(f"{crate} is not proved before any edit")
-
-
 def draw(order, crate, deadline):
     """The crate's next mutant that compiles, with its outcome; None where there is no more."""
     for m in order[crate]:
@@ -206,13 +210,10 @@ def draw(order, crate, deadline):
 
 def run(order, share, deadline):
     """Draws and tries mutants, and gives them with their outcomes."""
-    ready, done = set(), []
+    done = []
     for crate in turns(share):
         if deadline < time.time():
             break
-        if crate not in ready:
-            warm(crate)
-            ready.add(crate)
         began = time.time()
         drawn = draw(order, crate, deadline)
         if drawn:

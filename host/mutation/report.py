@@ -6,14 +6,14 @@ PRINTING = "crates/rolecheck/src/main.rt"
 
 
 def remarks(path):
-    """The remarks on survivors, by file, old and new."""
+    """The remarks on survivors, by file, function, old and new line."""
     found, entry = {}, {}
     for line in path.read_text().splitlines() if path.exists() else []:
         word, _, rest = line.partition(": ")
-        if word in ("file", "old", "new"):
+        if word in ("file", "function", "old", "new"):
             entry[word] = rest
         elif word == "why":
-            found[entry["file"], entry["old"], entry["new"]] = rest
+            found[entry["file"], entry["function"], entry["old"], entry["new"]] = rest
     return found
 
 
@@ -48,8 +48,8 @@ def survivors(done, known):
     """The survivors with their remarks."""
     text = ""
     for m, _ in done:
-        why = known.get((m.path, m.old, m.new), "OPEN: no remark yet")
-        text += f"- `{m.path}:{m.line}`, {m.operator}: `{m.old}` → `{m.new}`. {why}\n"
+        why = known.get((m.path, m.function, m.old, m.new), "OPEN: no remark yet")
+        text += f"- `{m.path}:{m.line}`, `{m.function}`, {m.operator}: `{m.old}` → `{m.new}`. {why}\n"
     return text or "None.\n"
 
 
