@@ -3,11 +3,12 @@ FILE ?= examples/document.role
 COUNT ?= 20000
 LISTS ?= 5000
 PAIRS ?= 20000
+MUTANTS ?= 80
 SEED ?= 7
 PREFIX ?= /usr/local
 ARCHIVE = target/staticlib/libmonitor.a
 
-.PHONY: help check test prove lib install differential lists pairs sanitize bench growth kit
+.PHONY: help check test prove lib install differential lists pairs sanitize bench growth mutation kit
 
 help:
 	@echo "make check FILE=F       check a role file: its verdict, levels, flow"
@@ -21,6 +22,7 @@ help:
 	@echo "make sanitize           the C test under AddressSanitizer and under valgrind"
 	@echo "make bench              times of loads and calls, and their growth, beside plain Rust and a simple version"
 	@echo "make growth             times of growth alone, with the plot docs/growth.svg"
+	@echo "make mutation           MUTANTS=$(MUTANTS) small edits of the crates, from SEED, and which the prover refuses"
 
 kit:
 	@command -v rt >/dev/null || { echo "This needs rt, the Rattle kit's command, on the path."; exit 1; }
@@ -63,3 +65,6 @@ bench: lib
 
 growth: lib
 	cd host/bench && cargo run --release --offline --quiet -- --plot ../../docs/growth.svg
+
+mutation: kit
+	python3 -B host/mutation/mutate.py --mutants $(MUTANTS) --seed $(SEED)
