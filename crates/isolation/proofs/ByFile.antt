@@ -1,6 +1,6 @@
 -- What a run shows, by the file alone: the numbers are the rules', the bytes and stores follow. So a run can be computed without the state's bytes. Assumes nothing.
 use Prim.Native.Nat.{ℕ}
-use mathlib.Core.Path.{_≡_, refl, sym, _∙_}
+use mathlib.Core.Path.{_≡_, refl}
 use mathlib.Core.List.{List, [], _∷_}
 use lib.ListN.{length, take, drop}
 use Rattle.rolefile.specs.WellFormed.{WellFormed}
@@ -8,7 +8,7 @@ use Rattle.monitor.specs.Calls.{ifDone, written, partAt}
 use Rattle.monitor.specs.Runs.{Call, opens, closes, takes, drops, reads, writes, Memory, number, part, storeAfter, after}
 use Rattle.monitor.specs.Rules.{Sessions, partRule, rule, next}
 use Rattle.monitor.proofs.Demand2.{Runs, runs-next, runs-number}
-use Rattle.isolation.specs.TwoRuns.{Answer, answer, Open, track, shared, keep, Shown, shown}
+use Rattle.isolation.specs.TwoRuns.{answer, Open, track, shared, keep, Shown, shown}
 
 unfoldable pub partBy : List ℕ → ℕ → Sessions → List ℕ → Call → List ℕ
 partBy f size s store (opens p u l) = []

@@ -1,9 +1,9 @@
 -- A contract leaves its function one answer and one outcome, so a run of the exported functions is the run of the definitions. Assumes nothing.
 use Prim.Native.Nat.{ℕ}
-use mathlib.Core.Path.{_≡_, refl, sym, ap, _∙_}
+use mathlib.Core.Path.{_≡_, ap, _∙_}
 use mathlib.Core.List.{List, [], _∷_}
 use Rattle.monitor.specs.Runs.{Call, opens, closes, takes, drops, reads, writes, Memory, number, part, stateAfter, storeAfter, after, run}
-use Rattle.isolation.specs.TwoRuns.{Answer, answer, Open, noneOpen, track, shared, keep, Shown, shown, SameCards, Alike}
+use Rattle.isolation.specs.TwoRuns.{Answer, answer, Open, noneOpen, track, Shown, shown}
 use Rattle.isolation.specs.Exported.{Made, Makes, IsolatedExports}
 use Rattle.isolation.proofs.Isolation.{isolation}
 

@@ -1,16 +1,15 @@
 -- Demand 3: a run is like the run of its own struck list, by induction along the list; so two runs with one struck list are alike. Assumes nothing.
-use Prim.Native.Nat.{ℕ, zero, suc, _+_, _*_, _-_, _≤_, _<_}
-use mathlib.Core.Path.{_≡_, refl, sym, ap, _∙_}
+use Prim.Native.Nat.{ℕ, zero, suc, _+_, _*_, _-_}
+use mathlib.Core.Path.{_≡_, refl, sym, _∙_}
 use mathlib.Core.List.{List, [], _∷_}
 use mathlib.Core.Bool.{Bool, true, false, true≢false}
 use native.Mathlib.Omega.{arith}
 use native.Mathlib.Decide.{decLt}
-use lib.ListN.{length, getD, take, drop}
+use lib.ListN.{length, take, drop}
 use Rattle.search.specs.Search.{Among}
 use Rattle.search.proofs.Truth.{both}
-use Rattle.rolefile.specs.Said.{labels, cards, cardLabel}
+use Rattle.rolefile.specs.Said.{labels, cards}
 use Rattle.rolefile.specs.WellFormed.{WellFormed}
-use Rattle.policy.specs.Policy.{dominates}
 use Rattle.policy.specs.Accepted.{Accepted}
 use Rattle.policy.specs.Tables.{writersAt}
 use Rattle.monitor.specs.Calls.{ifDone, written, partAt, readNumber, writeNumber}
@@ -18,9 +17,9 @@ use Rattle.monitor.specs.Runs.{Call, opens, closes, takes, drops, reads, writes
 use Rattle.monitor.specs.Rules.{Sessions, nobody, rule, next}
 use Rattle.monitor.proofs.Answers.{part-fits}
 use Rattle.monitor.proofs.Frames.{written-out}
-use Rattle.monitor.proofs.Orderly.{Using, part-done}
+use Rattle.monitor.proofs.Orderly.{part-done}
 use Rattle.monitor.proofs.Demand2.{Runs, runs-next, runs-number, loaded-runs}
-use Rattle.isolation.specs.TwoRuns.{Answer, answer, Open, noneOpen, track, under, shared, keep, struck, Shown, shown, SameCards, Alike, Start, Claim, Isolated}
+use Rattle.isolation.specs.TwoRuns.{answer, Open, noneOpen, track, under, shared, struck, Shown, shown, SameCards, Alike, Isolated}
 use Rattle.isolation.proofs.Tracking.{Fits, none-fits, placeOf, next-other, fits-track}
 use Rattle.isolation.proofs.Low.{SameSessions, same-number, next-same, cards-after, bytes-same, read-under, write-over}
 

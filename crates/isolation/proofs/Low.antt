@@ -2,29 +2,28 @@
 -- call leaves it as it was. Assumes nothing.
 use Prim.Native.Nat.{ℕ, zero, suc, _+_, _*_, _-_, _≤_, _<_}
 use mathlib.Core.Path.{_≡_, refl, sym, ap, _∙_}
-use mathlib.Core.List.{List, []}
-use mathlib.Core.Bool.{Bool, true, false, _&&_, cond, true≢false, false≢true}
+use mathlib.Core.List.{List}
+use mathlib.Core.Bool.{true, false, _&&_, cond, false≢true}
 use mathlib.Core.Option.{Option, none, some, Option·map}
 use native.Mathlib.Omega.{arith}
 use native.Mathlib.Decide.{ℕ-discrete, decLt}
 use borrow.Author.Tests.{eq-eqb}
 use lib.ListN.{length, getD, take, drop, length-drop}
 use lib.Seq.{length-take-le, getD-take, getD-drop, ext-getD}
-use Rattle.search.specs.Search.{among, Among}
+use Rattle.search.specs.Search.{Among}
 use Rattle.search.proofs.Truth.{and-iff, untrue, both}
 use Rattle.search.proofs.Found.{some-iff}
 use Rattle.rolefile.specs.Said.{labels, roles, cards, cardLabel}
 use Rattle.policy.specs.Policy.{dominates, may}
-use Rattle.policy.specs.Tables.{readersAt, writersAt}
+use Rattle.policy.specs.Tables.{writersAt}
 use Rattle.policy.specs.Accepted.{Accepted}
-use Rattle.monitor.specs.Calls.{unless, ifDone, written, partAt, readNumber, writeNumber}
-use Rattle.monitor.specs.Runs.{Call, opens, closes, takes, drops, reads, writes, Memory, number, part, storeAfter}
+use Rattle.monitor.specs.Calls.{ifDone, written, partAt, writeNumber}
+use Rattle.monitor.specs.Runs.{Call, opens, closes, takes, drops, reads, writes, Memory, number, storeAfter}
 use Rattle.monitor.specs.Rules.{Session, Sessions, isFree, seated, suits, uses, openRule, closeRule, takeRule, dropRule, partRule, rule, put, newcomer, holding, without, next}
 use Rattle.monitor.proofs.Answers.{part-fits}
 use Rattle.monitor.proofs.Frames.{written-in, written-out}
-use Rattle.monitor.proofs.Orderly.{Admitted, Orderly, Using, part-done, either-way}
+use Rattle.monitor.proofs.Orderly.{Admitted, Orderly, part-done}
 use Rattle.monitor.proofs.History.{put-at}
-use Rattle.monitor.proofs.Demand2.{number-file, Runs}
 use Rattle.isolation.specs.TwoRuns.{Open, isClosed, grants, mark, track, under, shared, SameCards}
 use Rattle.isolation.proofs.Levels.{label-of-card, reads-below, writes-above}
 use Rattle.isolation.proofs.Tracking.{labelOf, Fits, closed-free, placeOf, next-other, track-other, grants-iff}

@@ -8,7 +8,7 @@ use mathlib.Core.Option.{Option, none, some, Option·map}
 use native.Mathlib.Omega.{arith}
 use native.Mathlib.Decide.{ℕ-discrete}
 use borrow.Author.Tests.{eq-eqb, ne-eqb}
-use Rattle.search.specs.Search.{among, Among}
+use Rattle.search.specs.Search.{among}
 use Rattle.search.proofs.Truth.{and-iff, among-iff, untrue}
 use Rattle.rolefile.specs.Said.{labels, users, clearance}
 use Rattle.policy.specs.Policy.{dominates}
@@ -16,7 +16,7 @@ use Rattle.monitor.specs.Calls.{unless, ifDone}
 use Rattle.monitor.specs.Runs.{Call, opens, closes, takes, drops, reads, writes}
 use Rattle.monitor.specs.Rules.{Session, Sessions, nobody, isFree, openRule, closeRule, takeRule, dropRule, put, newcomer, holding, without, next}
 use Rattle.monitor.proofs.Orderly.{Orderly, opening, either-way}
-use Rattle.monitor.proofs.History.{put-at, put-other, close-done}
+use Rattle.monitor.proofs.History.{put-other, close-done}
 use Rattle.isolation.specs.TwoRuns.{Open, noneOpen, isClosed, grants, mark, track}
 
 abbrev pub labelOf : Option Session → Option ℕ

@@ -1,13 +1,12 @@
 -- The two days of `Worked`, computed: they fall under demand 3 for label 2, which is shown the same on both; label 4 is not. Assumes nothing.
-use Prim.Native.Nat.{ℕ, _+_, _*_, _-_, _≤_, _<_}
+use Prim.Native.Nat.{ℕ, _+_, _*_, _-_}
 use mathlib.Core.Path.{_≡_, refl, sym, ap, _∙_}
-use mathlib.Core.Logic.{_⊎_, inl, inr}
-use mathlib.Core.List.{List, [], _∷_, map}
-use mathlib.Core.Bool.{true, false}
+use mathlib.Core.List.{List, [], map}
+use mathlib.Core.Bool.{false}
 use native.Mathlib.Omega.{arith}
 use native.Mathlib.Decide.{ℕ-discrete}
 use lib.ListN.{length, getD, replicate, getD-replicate, List·getD-append, length-replicate}
-use Rattle.search.specs.Search.{Among, some, every, first}
+use Rattle.search.specs.Search.{some, every, first}
 use Rattle.search.proofs.Truth.{both}
 use Rattle.order.specs.Closure.{via}
 use Rattle.order.specs.Bound.{upper, isLeast, least, lub, apart, lonely, unjoined}
@@ -21,11 +20,11 @@ use Rattle.policy.specs.Verdict.{assignVerdict, assignmentVerdict, policyVerdic
 use Rattle.policy.specs.Accepted.{Accepted}
 use Rattle.policy.proofs.Outcomes.{accepted-fine}
 use Rattle.monitor.specs.Calls.{unless, ifDone}
-use Rattle.monitor.specs.Runs.{Call, Memory}
+use Rattle.monitor.specs.Runs.{Call}
 use Rattle.monitor.specs.Rules.{nobody, belongs, suits, uses, openRule, closeRule, takeRule, dropRule, partRule, rule, next}
 use Rattle.monitor.specs.Cases.{line, bytes}
 use Rattle.monitor.proofs.Demand2.{loaded-runs}
-use Rattle.isolation.specs.TwoRuns.{Answer, noneOpen, grants, track, shared, struck, Shown, shown, SameCards, Start}
+use Rattle.isolation.specs.TwoRuns.{Answer, noneOpen, grants, track, shared, struck, shown, SameCards, Start}
 use Rattle.isolation.specs.Worked.{file, firstStore, secondStore, firstDay, secondDay, low, highFirst, highSecond}
 use Rattle.isolation.proofs.Begins.{start}
 use Rattle.isolation.proofs.ByFile.{partBy, storeBy, shownBy, shown-by}

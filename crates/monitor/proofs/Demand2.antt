@@ -1,12 +1,11 @@
 -- Demand 2's session half: on every state that a load of an accepted file and any calls left, each call is answered as the file and the calls so far say. Each call keeps
 -- the state standing for the sessions, and a load's image stands for none. Assumes nothing.
-use Prim.Native.Nat.{ℕ, zero, suc, _+_, _*_, _-_, _≤_}
+use Prim.Native.Nat.{ℕ, zero, suc, _≤_}
 use mathlib.Core.Path.{_≡_, refl, sym, ap, _∙_}
 use mathlib.Core.List.{List, [], _∷_}
 use mathlib.Core.Bool.{Bool, true, false, cond}
 use mathlib.Core.Option.{Option, none, some, Option·map}
 use native.Mathlib.Omega.{arith}
-use lib.Dec.{leb}
 use lib.ListN.{length}
 use borrow.Author.Tests.{le-leb}
 use Rattle.search.specs.Search.{among, Among}
@@ -15,13 +14,12 @@ use Rattle.rolefile.specs.declared.Verdict.{Verdict}
 use Rattle.rolefile.specs.Said.{roles}
 use Rattle.rolefile.specs.WellFormed.{WellFormed}
 use Rattle.policy.specs.Tables.{readersAt, writersAt, stateSize, flowing, cardsUpTo}
-use Rattle.policy.specs.Verdict.{verdict}
 use Rattle.policy.specs.Accepted.{Accepted}
 use Rattle.policy.specs.Flow.{flows, flowCircle}
 use Rattle.policy.specs.Image.{loadVerdict, Loaded}
 use Rattle.policy.proofs.Outcomes.{accepted-iff}
 use Rattle.policy.proofs.Meaning.{counts-known, flow-file, circle-file}
-use Rattle.monitor.specs.Calls.{unless, ifDone, written, partAt, openNumber, openState, opened, closed, taken, dropped, writeNumber}
+use Rattle.monitor.specs.Calls.{unless, ifDone, written, partAt, opened, closed, taken, dropped, writeNumber}
 use Rattle.monitor.specs.Calls.{flowsNumber, circleNumber, Flows, Circles}
 use Rattle.monitor.specs.Runs.{Call, opens, closes, takes, drops, reads, writes, Memory, number, stateAfter, storeAfter, after, run}
 use Rattle.monitor.specs.Rules.{Session, Sessions, nobody, seated, belongs, suits, openRule, closeRule, takeRule, dropRule, partRule, rule, put, newcomer, holding, without, next, sessions}

@@ -1,11 +1,11 @@
 -- The rules answer 0 exactly where `Granted` holds, and so do the exported functions on every state that a load of the file and calls left. Assumes nothing.
 use Prim.Native.Nat.{ℕ, _+_, _*_, _≤_}
 use mathlib.Core.Path.{_≡_, refl, sym, _∙_}
-use mathlib.Core.Logic.{_↔_, inl, inr}
+use mathlib.Core.Logic.{_↔_}
 use mathlib.Core.List.{List}
 use mathlib.Core.Bool.{Bool, true, false, _&&_, false≢true}
 use mathlib.Core.Option.{Option, none, some}
-use lib.Dec.{leb, eqb}
+use lib.Dec.{leb}
 use lib.ListN.{length}
 use borrow.Author.Tests.{le-leb}
 use Rattle.search.specs.Search.{among, Among}
@@ -14,7 +14,7 @@ use Rattle.search.proofs.Found.{some-iff}
 use Rattle.order.specs.Closure.{PartialOrder}
 use Rattle.order.specs.Bound.{turned}
 use Rattle.rolefile.specs.declared.Verdict.{Verdict}
-use Rattle.rolefile.specs.Said.{labels, roles, users, cards, clearance, assigned}
+use Rattle.rolefile.specs.Said.{labels, roles, users, cards, assigned}
 use Rattle.policy.specs.Policy.{dominates, senior, may, mayAt, rLevel, wLevel, passes}
 use Rattle.policy.specs.Accepted.{Accepted, Passing}
 use Rattle.policy.specs.Image.{Loaded}
@@ -22,9 +22,9 @@ use Rattle.policy.proofs.Levels.{turned-order, passes-iff}
 use Rattle.monitor.specs.Calls.{unless}
 use Rattle.monitor.specs.Runs.{Call, opens, closes, takes, drops, reads, writes, number, run}
 use Rattle.monitor.specs.Rules.{Session, Sessions, nobody, isFree, seated, belongs, suits, uses, openRule, closeRule, takeRule, dropRule, partRule, rule, sessions}
-use Rattle.monitor.specs.Granted.{Since, Sits, Holds, MayOpen, Seated, MayTake, MayDrop, MayUse, Granted}
+use Rattle.monitor.specs.Granted.{Sits, Holds, MayOpen, Seated, MayTake, MayDrop, MayUse, Granted}
 use Rattle.monitor.proofs.Orderly.{Admitted, Orderly, nobody-orderly, opening, seated-done, taking, dropping, part-done}
-use Rattle.monitor.proofs.History.{orderly-sessions, Sat, sat-some, Opened, sits-iff, Held, holds-iff}
+use Rattle.monitor.proofs.History.{orderly-sessions, sat-some, Opened, sits-iff, holds-iff}
 use Rattle.monitor.proofs.Demand2.{answers}
 
 module _ (f : List ℕ) (cs : List Call) where

@@ -1,10 +1,10 @@
 -- Who sits where and what is held, by the calls: a session sits at a place exactly since an opening that was done, and holds a role exactly since a taking that was done. Each
 -- call begins such a thing, ends it or leaves it, and the rest is induction along the list. Assumes nothing.
 use Prim.Native.Nat.{ℕ, zero, suc}
-use mathlib.Core.Path.{_≡_, refl, sym, ap, _∙_}
+use mathlib.Core.Path.{_≡_, refl, sym, ap}
 use mathlib.Core.Logic.{_↔_, _⊎_, inl, inr, ⊎-elim}
 use mathlib.Core.List.{List, [], _∷_, _++_}
-use mathlib.Core.Bool.{Bool, true, false, not, _&&_, _||_, cond, false≢true, and-false, and-true}
+use mathlib.Core.Bool.{Bool, true, false, not, _&&_, false≢true, and-false}
 use mathlib.Core.Option.{Option, none, some, Option·map}
 use native.Mathlib.Omega.{arith}
 use native.Mathlib.Decide.{ℕ-discrete}
@@ -15,9 +15,9 @@ use Rattle.search.proofs.Truth.{or-iff, and-iff, among-iff, untrue, both}
 use Rattle.rolefile.specs.Said.{roles}
 use Rattle.monitor.specs.Calls.{unless, ifDone}
 use Rattle.monitor.specs.Runs.{Call, opens, closes, takes, drops, reads, writes}
-use Rattle.monitor.specs.Rules.{Session, Sessions, nobody, isFree, seated, belongs, suits, openRule, closeRule, takeRule, dropRule, rule, put, newcomer, holding, without, next, sessions}
+use Rattle.monitor.specs.Rules.{Session, Sessions, nobody, isFree, belongs, suits, openRule, closeRule, takeRule, dropRule, rule, put, newcomer, holding, without, next, sessions}
 use Rattle.monitor.specs.Granted.{ends, NoneEnds, Since, Sits, Holds}
-use Rattle.monitor.proofs.Orderly.{Admitted, Known, Orderly, nobody-orderly, Opening, opening, seated-done, either-way, orderly-next}
+use Rattle.monitor.proofs.Orderly.{Admitted, Orderly, nobody-orderly, opening, seated-done, either-way, orderly-next}
 
 -- ---- lists of calls
 

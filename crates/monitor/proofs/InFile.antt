@@ -1,9 +1,9 @@
 -- Each test that a call makes, on a state that stands for the sessions, is the rule's test by the file; so is each number. Assumes nothing.
-use Prim.Native.Nat.{ℕ, _+_, _*_, _-_, _≤_, _<_}
+use Prim.Native.Nat.{ℕ, _+_, _*_, _≤_}
 use mathlib.Core.Path.{_≡_, refl, sym, ap, _∙_}
 use mathlib.Core.Logic.{inl, inr}
 use mathlib.Core.List.{List}
-use mathlib.Core.Bool.{Bool, true, false, not, _&&_, _||_, and-false}
+use mathlib.Core.Bool.{Bool, true, false, not, _&&_, and-false}
 use mathlib.Core.Option.{Option, none, some}
 use native.Mathlib.Omega.{arith}
 use lib.Dec.{leb, eqb}
@@ -19,7 +19,7 @@ use Rattle.order.specs.Bound.{turned}
 use Rattle.rolefile.specs.Said.{labels, roles, users, cards, clearance, assigned}
 use Rattle.rolefile.specs.WellFormed.{WellFormed}
 use Rattle.policy.specs.Policy.{dominates, senior, may, mayAt, rLevel, wLevel}
-use Rattle.policy.specs.Tables.{stateSize, rowOf, marked, seniorsAt, assignedAt, readersAt, writersAt}
+use Rattle.policy.specs.Tables.{stateSize, rowOf, marked, seniorsAt, assignedAt}
 use Rattle.policy.proofs.Assigning.{passes-shown}
 use Rattle.policy.proofs.Inside.{assigned-known}
 use Rattle.policy.proofs.Meaning.{counts-known, marked-file}

@@ -1,12 +1,12 @@
 -- The places of a state, and what the calls read of a state. Every accessor is total: a byte past the end is 0. Assumes nothing.
 use Prim.Native.Nat.{ℕ, _+_, _*_, _-_}
 use mathlib.Core.List.{List}
-use mathlib.Core.Bool.{Bool, true, false, not, _&&_, _||_}
+use mathlib.Core.Bool.{Bool, _&&_, _||_}
 use lib.Dec.{leb, eqb}
 use lib.ListN.{getD}
 use Rattle.search.specs.Search.{among}
 use Rattle.roleset.specs.Row.{common}
-use Rattle.policy.specs.Tables.{word, byteOf, rowOf, marked, isState, clearancesAt, rLevelsAt, wLevelsAt, seniorsAt, assignedAt, readersAt, writersAt}
+use Rattle.policy.specs.Tables.{word, byteOf, rowOf, marked, isState, clearancesAt, rLevelsAt, wLevelsAt, seniorsAt, assignedAt}
 
 -- ---- counts
 

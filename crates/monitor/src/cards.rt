@@ -4,7 +4,6 @@ use super::sessions;
 use super::state;
 ghost use mathlib.Core.Path.{_≡_};
 ghost use Prim.Native.Nat.{_≤_};
-ghost use lib.ListN.{length};
 ghost use Rattle.monitor.specs.Calls.{partNumber, readNumber, Reads, Writes};
 
 // The number of a read or a write of n bytes in a store of `size` bytes, by the table at `at` of

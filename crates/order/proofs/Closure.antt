@@ -8,8 +8,8 @@ use native.Mathlib.Omega.{arith}
 use native.Mathlib.Numerals.{add-one}
 use lib.Dec.{eqb}
 use borrow.Author.Tests.{eq-eqb, eqb-true}
-use Rattle.search.specs.Search.{Among, first, Lowest}
-use Rattle.search.proofs.Truth.{or-iff, and-iff, untrue, both, same}
+use Rattle.search.specs.Search.{Among, Lowest}
+use Rattle.search.proofs.Truth.{or-iff, and-iff, untrue, both}
 use Rattle.search.proofs.Found.{last-or, first-none, first-lowest, first-agree}
 use Rattle.order.specs.Table.{Rows, round}
 use Rattle.order.specs.Closure.{Relation, via, path, closure, circle, Reach, here, step, OnCircle, PartialOrder, Irreflexive}

@@ -1,6 +1,6 @@
 -- Where every two things have a least upper bound, so has every set that is not empty, and a set has a greatest lower bound just where it has a
 -- lower bound. Assumes nothing.
-use Prim.Native.Nat.{ℕ, zero, suc, _+_, _≤_, _<_}
+use Prim.Native.Nat.{ℕ, zero, suc, _≤_, _<_}
 use mathlib.Core.Path.{_≡_, refl}
 use mathlib.Core.Logic.{_↔_, _⊎_, inl, inr, ⊎-elim}
 use mathlib.Core.Bool.{Bool, true, false}
@@ -9,7 +9,7 @@ use Rattle.search.specs.Search.{Among}
 use Rattle.search.proofs.Truth.{both}
 use Rattle.search.proofs.Found.{last-or}
 use Rattle.order.specs.Closure.{Relation, PartialOrder}
-use Rattle.order.specs.Bound.{upper, turned, pair, Upper, Lower, IsLub, IsGlb, AllJoined}
+use Rattle.order.specs.Bound.{upper, turned, Upper, Lower, IsLub, IsGlb, AllJoined}
 use Rattle.order.proofs.Bound.{pair-iff, upper-iff}
 
 module _ (n : ℕ) (ge : Relation) (o : PartialOrder n ge) (joins : AllJoined n ge) where

@@ -2,11 +2,11 @@
 use Prim.Native.Nat.{ℕ, _+_, _*_, _-_, _≤_, _<_}
 use mathlib.Core.Path.{_≡_, refl, sym, _∙_}
 use mathlib.Core.Logic.{inl, inr}
-use mathlib.Core.Bool.{Bool, true, false, _&&_, or-false, or-comm}
+use mathlib.Core.Bool.{Bool, _&&_, or-comm}
 use mathlib.Core.List.{List}
 use native.Mathlib.Omega.{arith}
 use native.Mathlib.Decide.{decLt}
-use lib.ListN.{length, getD}
+use lib.ListN.{length}
 use lib.Dec.{eqb}
 use borrow.Author.Tests.{eq-eqb, eqb-true}
 use Rattle.search.specs.Search.{Among}
@@ -14,7 +14,7 @@ use Rattle.search.proofs.Truth.{among-iff, same}
 use Rattle.roleset.specs.Row.{whole, member, added, unitedWhere, Placed}
 use Rattle.roleset.proofs.Rows.{other-row, whole-true}
 use Rattle.order.specs.Closure.{Relation, via}
-use Rattle.order.specs.Table.{Rows, related, round, reflexive, Tabled}
+use Rattle.order.specs.Table.{related, round, reflexive, Tabled}
 use Rattle.order.proofs.Closure.{RowSet, rows-none, rows-more, rounds-none, rounds-more}
 use Rattle.order.proofs.Stored.{place}
 

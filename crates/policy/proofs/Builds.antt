@@ -2,10 +2,8 @@
 use Prim.Native.Nat.{ℕ, zero, suc, _+_, _*_, _-_, _≤_, _<_}
 use mathlib.Core.Path.{_≡_, refl, sym, ap, _∙_}
 use mathlib.Core.List.{List}
-use mathlib.Core.Bool.{Bool, true, false}
 use native.Mathlib.Omega.{arith}
-use lib.ListN.{length, getD}
-use Rattle.search.specs.Search.{Among}
+use lib.ListN.{getD}
 use Rattle.roleset.specs.Row.{member}
 use Rattle.roleset.proofs.Rows.{same-bytes}
 use Rattle.order.specs.Closure.{circle}
@@ -13,11 +11,11 @@ use Rattle.order.specs.Bound.{lonely, unjoined}
 use Rattle.rolefile.specs.declared.Verdict.{Verdict}
 use Rattle.rolefile.specs.Line.{lines}
 use Rattle.rolefile.specs.Form.{fine, refusal, unless, either, _then_, sized, scan, found, lineVerdict, linesVerdict, unlabelledVerdict, formVerdict}
-use Rattle.rolefile.specs.Said.{labels, roles, over, above}
+use Rattle.rolefile.specs.Said.{labels, roles, over}
 use Rattle.rolefile.proofs.Verdicts.{Refuses, then-next, then-stop}
 use Rattle.policy.specs.Policy.{dominates}
 use Rattle.policy.specs.Verdict.{assignmentVerdict, policyVerdict, verdict}
-use Rattle.policy.specs.Tables.{dominanceAt, clearancesAt, cardLabelsAt, rLevelsAt, wLevelsAt, seniorsAt, assignedAt, readersAt, writersAt, word, rowOf, Kept}
+use Rattle.policy.specs.Tables.{dominanceAt, clearancesAt, cardLabelsAt, rLevelsAt, wLevelsAt, seniorsAt, assignedAt, readersAt, writersAt, word, rowOf}
 use Rattle.policy.specs.Image.{Labelled, Dominating, Seniors, Permitting, Levelled, Describes, Image}
 use Rattle.policy.specs.Stages.{Zeros, Noting, roleVerdict, Ranking, Granting, Finishing, Built}
 

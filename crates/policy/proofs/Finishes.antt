@@ -1,17 +1,13 @@
 -- The last stage: counts and assigned roles. Bytes that a store leaves alone keep what is read of them. Assumes nothing.
-use Prim.Native.Nat.{ℕ, _+_, _*_, _-_, _≤_, _<_}
-use mathlib.Core.Path.{_≡_, refl, sym, ap, _∙_}
+use Prim.Native.Nat.{ℕ, _+_, _*_, _≤_}
+use mathlib.Core.Path.{_≡_, refl, ap, _∙_}
 use mathlib.Core.List.{List}
-use mathlib.Core.Bool.{Bool, true, false, _||_}
 use native.Mathlib.Omega.{arith}
-use lib.ListN.{length, getD, drop}
-use Rattle.search.specs.Search.{Among}
-use Rattle.roleset.specs.Row.{member}
+use lib.ListN.{drop}
 use Rattle.roleset.proofs.Rows.{same-bytes}
 use Rattle.rolefile.specs.declared.Line.{Line}
 use Rattle.rolefile.specs.Line.{A, fields}
 use Rattle.rolefile.specs.Said.{assigned}
-use Rattle.rolefile.proofs.Sections.{part}
 use Rattle.policy.specs.declared.build.Parts.{Parts}
 use Rattle.policy.specs.Tables.{word, rowOf, assignedAt, Kept, pairs, Related}
 use Rattle.policy.specs.Stages.{Ready, Zeros, Counts, Finishing}

@@ -33,7 +33,7 @@ use Rattle.policy.specs.Tables.{dominanceAt, cardLabelsAt, rLevelsAt, wL
 use Rattle.policy.specs.Tables.{granted, gathered, Bytes, Granted}
 use Rattle.policy.specs.Image.{Labelled, Seniors, Permitting}
 use Rattle.policy.specs.Stages.{Ready, Zeros, Closed, Granting}
-use Rattle.policy.proofs.Readying.{Good, good-of, counts-of, section-s, section-p, one-within, limits-p}
+use Rattle.policy.proofs.Readying.{Good, good-of, counts-of, section-p, one-within, limits-p}
 use Rattle.policy.proofs.Inside.{Between, closure-between, above-between}
 use Rattle.policy.proofs.Gathering.{level-empty, level-same-set}
 

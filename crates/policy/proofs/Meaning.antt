@@ -1,9 +1,9 @@
 -- What a state's tables say, where they describe a well-formed file, is what the file says: counts, dominance, role flow. Assumes nothing.
-use Prim.Native.Nat.{ℕ, _≤_, min}
-use mathlib.Core.Path.{_≡_, refl, sym, ap, _∙_}
+use Prim.Native.Nat.{ℕ, _≤_}
+use mathlib.Core.Path.{_≡_, refl, ap}
 use mathlib.Core.Logic.{_↔_, _⊎_}
 use mathlib.Core.List.{List}
-use mathlib.Core.Bool.{Bool, true, false, not, _&&_}
+use mathlib.Core.Bool.{Bool, false, not, _&&_}
 use native.Mathlib.Omega.{arith}
 use lib.Dec.{eqb}
 use borrow.Author.Tests.{eq-eqb}
@@ -14,11 +14,11 @@ use Rattle.roleset.specs.Row.{member}
 use Rattle.order.specs.Closure.{path, circle, OnCircle}
 use Rattle.order.proofs.Closure.{circle-finds, circle-lowest, circle-agree}
 use Rattle.rolefile.specs.Form.{header}
-use Rattle.rolefile.specs.Said.{labels, roles, users, cards, over}
+use Rattle.rolefile.specs.Said.{labels, roles, cards}
 use Rattle.rolefile.specs.WellFormed.{GoodCounts, WellFormed}
 use Rattle.policy.specs.Policy.{dominates, may}
 use Rattle.policy.specs.Flow.{flows, flowCircle}
-use Rattle.policy.specs.Tables.{readersAt, writersAt, rowOf, word, marked, flowing, rolesUpTo, cardsUpTo}
+use Rattle.policy.specs.Tables.{readersAt, writersAt, rowOf, marked, flowing, rolesUpTo, cardsUpTo}
 use Rattle.policy.specs.Accepted.{LowestOnCircle}
 use Rattle.policy.specs.Image.{Describes}
 use Rattle.policy.proofs.Inside.{over-between}

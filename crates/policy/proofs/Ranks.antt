@@ -1,25 +1,25 @@
 -- Seniority from the S lines: the rows that the lines fill are closed, and hold each role's seniors. Assumes nothing.
-use Prim.Native.Nat.{ℕ, _+_, _*_, _-_, _≤_, _<_, min}
+use Prim.Native.Nat.{ℕ, _+_, _*_, _≤_, min}
 use mathlib.Core.Path.{_≡_, refl, sym, ap, _∙_}
 use mathlib.Core.List.{List}
-use mathlib.Core.Bool.{Bool, true, false, _&&_, _||_, cond}
+use mathlib.Core.Bool.{true, false, _&&_, cond}
 use native.Mathlib.Omega.{arith}
 use native.Mathlib.Decide.{decLe}
 use lib.Dec.{leb, eqb}
-use lib.ListN.{length, getD, drop}
+use lib.ListN.{length, drop}
 use borrow.Author.Tests.{eq-eqb, ne-eqb, eqb-true, le-leb, lt-leb}
-use Rattle.search.specs.Search.{Among, some}
-use Rattle.search.proofs.Truth.{and-iff, untrue, both, same}
+use Rattle.search.specs.Search.{Among}
+use Rattle.search.proofs.Truth.{and-iff, untrue, same}
 use Rattle.search.proofs.Found.{some-iff, first-agree}
 use Rattle.roleset.specs.Row.{member}
 use Rattle.roleset.proofs.Rows.{member-of, no-bits}
-use Rattle.order.specs.Closure.{Relation, path, loop, circle}
-use Rattle.order.specs.Table.{Rows, related, reflexive, Tabled}
+use Rattle.order.specs.Closure.{path, loop, circle}
+use Rattle.order.specs.Table.{related, reflexive, Tabled}
 use Rattle.order.proofs.Closure.{via-agree, via-turned}
 use Rattle.rolefile.specs.declared.Line.{Line}
 use Rattle.rolefile.specs.declared.Verdict.{Verdict}
-use Rattle.rolefile.specs.Line.{S, lineAt, fields}
-use Rattle.rolefile.specs.Form.{fine, refusal, found, header}
+use Rattle.rolefile.specs.Line.{S, fields}
+use Rattle.rolefile.specs.Form.{fine, refusal, header}
 use Rattle.rolefile.specs.Said.{roles, above}
 use Rattle.rolefile.specs.Section.{one, two}
 use Rattle.rolefile.proofs.Sections.{part, Section, says-two}

@@ -1,22 +1,19 @@
 -- A file whose lines have nothing to refuse, laid out by letter: its lines are good, its counts within their limits, the lines of each letter are a
 -- section of it, and their numbers are within the counts. Assumes nothing.
-use Prim.Native.Nat.{ℕ, _+_, _*_, _-_, _≤_, _<_}
-use mathlib.Core.Path.{_≡_, refl, sym, ap, _∙_}
+use Prim.Native.Nat.{ℕ, _+_, _≤_, _<_}
+use mathlib.Core.Path.{_≡_, refl}
 use mathlib.Core.List.{List}
-use mathlib.Core.Bool.{Bool, true, false}
 use native.Mathlib.Omega.{arith}
-use lib.ListN.{length, drop}
 use Rattle.search.specs.Search.{Among}
 use Rattle.rolefile.specs.declared.Line.{Line}
-use Rattle.rolefile.specs.Line.{H, D, S, U, O, P, A, lineAt, lines, fields}
+use Rattle.rolefile.specs.Line.{H, D, S, U, O, P, A, lineAt, lines}
 use Rattle.rolefile.specs.Form.{fine, refusal, unless, sized, header, firstLimit, secondLimit, scan, lineVerdict, linesVerdict}
-use Rattle.rolefile.specs.Said.{labels, roles, users, cards}
-use Rattle.rolefile.specs.Section.{one, two, three, Leads}
+use Rattle.rolefile.specs.Section.{one, two}
 use Rattle.rolefile.specs.WellFormed.{Sized, GoodCounts, GoodNumbers, GoodLine}
 use Rattle.rolefile.specs.Decimal.{letterByte}
 use Rattle.rolefile.proofs.Verdicts.{then-zero, unless-zero, scan-zero}
 use Rattle.rolefile.proofs.Formed.{sized-iff, line-iff, line-clean}
-use Rattle.rolefile.proofs.Sections.{part, Cut, Section, Told, cut-first, cut-next, section-of, told}
+use Rattle.rolefile.proofs.Sections.{part, Cut, Section, cut-first, cut-next, section-of, told}
 use Rattle.policy.specs.declared.build.Parts.{Parts}
 use Rattle.policy.specs.Stages.{Laid, Ready}
 

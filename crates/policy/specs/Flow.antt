@@ -1,7 +1,7 @@
 -- "Role flow". It does not bear on acceptance. Assumes nothing.
 use Prim.Native.Nat.{ℕ}
 use mathlib.Core.List.{List}
-use mathlib.Core.Bool.{Bool, not, _&&_}
+use mathlib.Core.Bool.{not, _&&_}
 use lib.Dec.{eqb}
 use Rattle.search.specs.Search.{some}
 use Rattle.order.specs.Closure.{Relation, circle}

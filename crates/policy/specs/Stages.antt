@@ -1,10 +1,10 @@
 -- What each stage of a load finds and leaves, for the contracts of the functions that make it. Assumes nothing.
-use Prim.Native.Nat.{ℕ, _+_, _*_, _-_, _≤_, _<_}
+use Prim.Native.Nat.{ℕ, _+_, _*_, _≤_, _<_}
 use mathlib.Core.Path.{_≡_}
 use mathlib.Core.List.{List}
-use mathlib.Core.Bool.{Bool, true, false, _&&_}
+use mathlib.Core.Bool.{Bool, false, _&&_}
 use lib.Dec.{leb}
-use lib.ListN.{length, getD, drop}
+use lib.ListN.{getD, drop}
 use Rattle.search.specs.Search.{Among}
 use Rattle.order.specs.Closure.{Relation, path, loop, circle}
 use Rattle.order.specs.Bound.{lonely, unjoined}
@@ -12,7 +12,7 @@ use Rattle.order.specs.Table.{mark}
 use Rattle.rolefile.specs.declared.Line.{Line}
 use Rattle.rolefile.specs.declared.Verdict.{Verdict}
 use Rattle.rolefile.specs.Line.{lineAt}
-use Rattle.rolefile.specs.Form.{fine, refusal, _then_, found, linesVerdict, unlabelledVerdict}
+use Rattle.rolefile.specs.Form.{refusal, _then_, found, linesVerdict, unlabelledVerdict}
 use Rattle.rolefile.specs.Said.{labels, roles, over, above}
 use Rattle.rolefile.specs.Section.{Leads}
 use Rattle.policy.specs.declared.build.Parts.{Parts}

@@ -1,11 +1,11 @@
 -- The tables of a policy in a list of bytes: where each stands, how it is read, and what the lines of a part put into it. Assumes nothing.
-use Prim.Native.Nat.{ℕ, zero, suc, _+_, _*_, _-_, _%_, _≤_, _<_, min}
+use Prim.Native.Nat.{ℕ, zero, suc, _+_, _*_, _-_, _%_, _≤_, min}
 use mathlib.Core.Path.{_≡_}
 use mathlib.Core.List.{List}
-use mathlib.Core.Bool.{Bool, true, false, not, _&&_, _||_, cond}
+use mathlib.Core.Bool.{Bool, not, _&&_, _||_, cond}
 use lib.Dec.{leb, eqb}
 use lib.ListN.{length, getD}
-use Rattle.search.specs.Search.{among, some, first, Among}
+use Rattle.search.specs.Search.{among, some, Among}
 use Rattle.roleset.specs.Row.{member}
 use Rattle.order.specs.Closure.{Relation}
 use Rattle.rolefile.specs.declared.Verdict.{Verdict}

@@ -1,11 +1,10 @@
 -- "The security officer, by what the file says": the numbers 11 to 16, and the verdict on a whole file. Assumes nothing.
 use Prim.Native.Nat.{ℕ}
 use mathlib.Core.List.{List}
-use mathlib.Core.Bool.{Bool, cond}
+use mathlib.Core.Bool.{cond}
 use lib.Dec.{eqb}
 use Rattle.order.specs.Closure.{circle}
 use Rattle.order.specs.Bound.{unjoined, lonely}
-use Rattle.rolefile.specs.declared.Line.{Line}
 use Rattle.rolefile.specs.declared.Verdict.{Verdict}
 use Rattle.rolefile.specs.Line.{A, lineAt, lines}
 use Rattle.rolefile.specs.Form.{fine, refusal, unless, _then_, scan, found, formVerdict}

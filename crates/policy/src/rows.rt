@@ -1,11 +1,10 @@
 // Tables of role sets: seniors, assigned roles, readers and writers.
 use rolefile::read;
-ghost use mathlib.Core.Path.{_≡_};
-ghost use mathlib.Core.Bool.{Bool, _||_, _&&_};
-ghost use Prim.Native.Nat.{ℕ, _+_, _*_, _≤_};
+ghost use mathlib.Core.Bool.{_&&_};
+ghost use Prim.Native.Nat.{_+_, _*_, _≤_};
 ghost use lib.Dec.{eqb};
 ghost use lib.ListN.{length};
-ghost use Rattle.search.specs.Search.{Among, among};
+ghost use Rattle.search.specs.Search.{among};
 ghost use Rattle.roleset.specs.Row.{member};
 ghost use Rattle.rolefile.specs.Line.{lines};
 ghost use Rattle.policy.specs.Tables.{rowOf, seniorsAt, pairs, granted, Related, Granted};

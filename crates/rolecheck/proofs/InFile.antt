@@ -1,6 +1,6 @@
 -- The report on a state whose tables describe a well-formed file, in the file's own terms. Assumes nothing.
 use Prim.Native.Nat.{ℕ, _≤_}
-use mathlib.Core.Path.{_≡_, _∙_}
+use mathlib.Core.Path.{_≡_}
 use mathlib.Core.List.{List, []}
 use mathlib.Core.Bool.{cond}
 use native.Mathlib.Omega.{arith}

@@ -1,10 +1,10 @@
 -- Reading a line field by field: a field that does not read as asked ends it, and where none does the line is what the fields say.
 -- Assumes nothing.
-use Prim.Native.Nat.{ℕ, _+_, _*_, _-_, _/_, _≤_, _<_}
+use Prim.Native.Nat.{ℕ, _+_, _≤_, _<_}
 use mathlib.Core.Path.{_≡_, refl, sym, ap, _∙_}
 use mathlib.Core.Logic.{⊎-elim}
 use mathlib.Core.List.{List, [], _∷_}
-use mathlib.Core.Bool.{Bool, true, false, _&&_, cond, false≢true}
+use mathlib.Core.Bool.{Bool, true, false, _&&_, false≢true}
 use native.Mathlib.Omega.{arith}
 use lib.Dec.{leb, eqb}
 use lib.ListN.{length, getD, List·getD-eq-default}
@@ -14,9 +14,8 @@ use Rattle.search.proofs.Truth.{and-iff, same}
 use types.Run
 use Rattle.rolefile.specs.declared.Field.{Field}
 use Rattle.rolefile.specs.declared.Field.the-variants.{Blank, Number, Bad}
-use Rattle.rolefile.specs.declared.Line.{Line}
 use Rattle.rolefile.specs.Field.{four, fieldAt}
-use Rattle.rolefile.specs.Line.{letterOf, fields, fits, value, taken, formed, noLine, lineOf, lineFrom, start, lineAt}
+use Rattle.rolefile.specs.Line.{letterOf, fields, fits, value, taken, formed, noLine, lineOf, lineFrom}
 use Rattle.rolefile.proofs.Decimals.{field-blank}
 use Rattle.rolefile.proofs.Field as field-type
 

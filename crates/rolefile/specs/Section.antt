@@ -1,13 +1,13 @@
 -- "Each letter's lines are handed on as the part of the file that starts there": the lines of one letter as a section of the file, and the numbers of a
 -- line that is known to be well formed. Assumes nothing.
-use Prim.Native.Nat.{ℕ, _+_, _*_, _-_, _%_, _≤_, _<_}
+use Prim.Native.Nat.{ℕ, _+_, _*_, _%_, _≤_, _<_}
 use mathlib.Core.Path.{_≡_}
 use mathlib.Core.List.{List}
 use mathlib.Core.Bool.{cond}
 use lib.Dec.{leb}
 use lib.ListN.{getD}
 use Rattle.search.specs.Search.{Among}
-use Rattle.rolefile.specs.Line.{start, lineAt, lines}
+use Rattle.rolefile.specs.Line.{start, lines}
 
 -- what five columns come to, each by its last four bits: a blank counts 0, and a digit its value
 abbrev pub figure : List ℕ → ℕ → ℕ

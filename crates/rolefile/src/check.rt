@@ -3,12 +3,10 @@ use super::Line;
 use super::Verdict;
 use super::read;
 ghost use mathlib.Core.Path.{_≡_};
-ghost use mathlib.Core.Bool.{_&&_, _||_, cond};
 ghost use Prim.Native.Nat.{_≤_};
-ghost use lib.ListN.{length};
-ghost use Rattle.search.specs.Search.{among, implies};
+ghost use Rattle.search.specs.Search.{among};
 ghost use Rattle.rolefile.specs.Line.{lines};
-ghost use Rattle.rolefile.specs.Form.{fine, refusal, sized, counted, firstLimit, secondLimit, ranged, before, rises, headVerdict, bodyVerdict, lineVerdict, scan, linesVerdict};
+ghost use Rattle.rolefile.specs.Form.{fine, refusal, counted, firstLimit, secondLimit, ranged, before, rises, headVerdict, bodyVerdict, lineVerdict, scan, linesVerdict};
 
 // Nothing to refuse.
 pub fn nothing() -> Verdict

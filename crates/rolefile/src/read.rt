@@ -2,13 +2,12 @@
 use super::Field;
 use super::Line;
 ghost use mathlib.Core.Path.{_≡_};
-ghost use mathlib.Core.Bool.{true, false, _&&_, cond};
-ghost use Prim.Native.Nat.{ℕ, _+_, _*_, _-_, _%_, _≤_, _<_};
-ghost use lib.Dec.{leb};
+ghost use mathlib.Core.Bool.{true, false};
+ghost use Prim.Native.Nat.{_+_, _*_, _-_, _%_, _≤_, _<_};
 ghost use lib.ListN.{length, drop};
-ghost use Rattle.rolefile.specs.Field.{isDigit, column, four, fieldAt};
+ghost use Rattle.rolefile.specs.Field.{column, four, fieldAt};
 ghost use Rattle.rolefile.specs.Section.{figure, figureOf, one, two, three, Leads};
-ghost use Rattle.rolefile.specs.Line.{letterOf, fields, fits, taken, noLine, lineOf, lineFrom, lineAt, lines};
+ghost use Rattle.rolefile.specs.Line.{letterOf, fields, fits, taken, noLine, lineOf, lineFrom, lineAt};
 
 // The number n with the digit b after it, unless n is 0 or has five digits.
 fn next_digit(n: u64, b: u8) -> Field

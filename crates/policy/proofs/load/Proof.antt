@@ -1,5 +1,4 @@
 -- Too short a state, a refusal of the check, or the copied image.
-use native.Mathlib.Omega.{arith}
 use borrow.Author.Needs.{needs}
 use denote.Ref.{now}
 use lib.ListN.{length-replicate}

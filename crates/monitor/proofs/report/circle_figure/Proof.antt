@@ -1,5 +1,5 @@
 -- A report that is done is on a whole state, where `flow_circle` says what is on a circle.
-use mathlib.Core.Path.{_≡_, sym, _∙_}
+use mathlib.Core.Path.{sym, _∙_}
 use borrow.Author.Needs.{needs}
 use Rattle.monitor.proofs.Answers.{left, kept, circle-state}
 use Rattle.monitor.proofs.report.circle_figure.Statement.{statement}

@@ -1,5 +1,5 @@
 -- A report that is done is on a whole state, where `flows` says what flows.
-use mathlib.Core.Path.{_≡_, sym, _∙_}
+use mathlib.Core.Path.{sym, _∙_}
 use borrow.Author.Needs.{needs}
 use Rattle.monitor.proofs.Answers.{left, kept, flows-state}
 use Rattle.monitor.proofs.report.flows_figure.Statement.{statement}

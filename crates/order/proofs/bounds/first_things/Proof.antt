@@ -1,12 +1,12 @@
 -- Each turn stores one mark more.
-use Prim.Native.Nat.{ℕ, _+_, _≤_, _-_}
+use Prim.Native.Nat.{_≤_, _-_}
 use mathlib.Core.Path.{_≡_}
 use native.Mathlib.Omega.{arith}
 use borrow.Author.Needs.{needs}
 use lib.ListN.{length}
 use native.Mathlib.Numerals.{add-one}
 use lib.Dec.{leb}
-use Rattle.order.proofs.Stored.{place, Upto, upto-more}
+use Rattle.order.proofs.Stored.{Upto, upto-more}
 use Rattle.order.proofs.bounds.first_things.Statement.{statement}
 use Rattle.order.proofs.bounds.first_things.Tie as tie
 

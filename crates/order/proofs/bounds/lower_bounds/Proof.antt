@@ -1,6 +1,6 @@
 -- After each turn the set holds the things that are under each of the set so far.
 use Prim.Native.Nat.{ℕ, _+_, _≤_, _-_, min}
-use mathlib.Core.Path.{_≡_, refl, sym, _∙_}
+use mathlib.Core.Path.{_≡_, sym, _∙_}
 use lib.ListN.{getD}
 use mathlib.Core.Bool.{Bool, false, _&&_, and-true, and-assoc}
 use mathlib.Core.List.{List, []}

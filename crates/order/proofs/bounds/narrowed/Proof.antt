@@ -1,5 +1,5 @@
 -- Where the thing counts, what both have; else the set as it was.
-use mathlib.Core.Path.{_∙_, sym}
+use mathlib.Core.Path.{sym}
 use mathlib.Core.Bool.{and-true}
 use borrow.Author.Needs.{needs}
 use Rattle.order.proofs.bounds.narrowed.Statement.{statement}

@@ -1,11 +1,10 @@
 -- A search among the first n things.
-use Prim.Native.Nat.{ℕ, _+_, _≤_, _-_, min}
-use mathlib.Core.Path.{_≡_, refl, sym, _∙_}
+use Prim.Native.Nat.{ℕ, _≤_, _-_, min}
+use mathlib.Core.Path.{_≡_, sym}
 use mathlib.Core.Bool.{Bool}
 use mathlib.Core.List.{List}
 use native.Mathlib.Omega.{arith}
 use borrow.Author.Needs.{needs}
-use Rattle.search.specs.Search.{first}
 use Rattle.search.proofs.Found.{first-yet, first-found, first-more}
 use Rattle.order.specs.Table.{mark}
 use Rattle.order.specs.Closure.{loop}

@@ -1,5 +1,5 @@
 -- Each round lets paths pass one thing more.
-use Prim.Native.Nat.{ℕ, _+_, _≤_, _-_, min}
+use Prim.Native.Nat.{_≤_, _-_, min}
 use mathlib.Core.Path.{_≡_}
 use native.Mathlib.Omega.{arith}
 use borrow.Author.Needs.{needs}

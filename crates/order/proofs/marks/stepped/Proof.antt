@@ -1,5 +1,5 @@
 -- Each turn stores one mark more, as the contract says it.
-use Prim.Native.Nat.{ℕ, _≤_, _-_}
+use Prim.Native.Nat.{_≤_, _-_}
 use mathlib.Core.Path.{_≡_}
 use mathlib.Core.Bool.{_&&_, _||_}
 use native.Mathlib.Omega.{arith}

@@ -9,7 +9,6 @@ use borrow.Author.Tests.{le-leb, lt-leb}
 use denote.Ref.{now}
 use lib.Dec.{leb}
 use lib.ListN.{length}
-use Rattle.search.specs.Search.{first}
 use Rattle.search.proofs.Found.{first-yet, first-found, first-more}
 use Rattle.roleset.specs.Row.{whole, member}
 use Rattle.roleset.proofs.Rows.{whole-true}

@@ -1,12 +1,10 @@
 -- Each turn places one row more; the row of the role passed was taken before the first.
-use Prim.Native.Nat.{ℕ, _+_, _*_, _≤_, _<_, _-_}
-use mathlib.Core.Path.{_≡_, refl}
-use mathlib.Core.Bool.{_&&_}
+use Prim.Native.Nat.{_+_, _≤_, _-_}
+use mathlib.Core.Path.{_≡_}
 use native.Mathlib.Omega.{arith}
 use borrow.Author.Needs.{needs}
 use denote.Ref.{now}
 use lib.ListN.{length}
-use Rattle.roleset.specs.Row.{whole, member}
 use Rattle.order.specs.Table.{related, round, Tabled}
 use Rattle.order.proofs.Seats.{seats-none, seats-more, round-row}
 use Rattle.order.proofs.rows.pass.Statement.{statement}

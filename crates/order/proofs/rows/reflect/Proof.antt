@@ -1,9 +1,8 @@
 -- Each turn puts one role into its own row.
-use Prim.Native.Nat.{ℕ, _+_, _≤_, _-_, min}
+use Prim.Native.Nat.{_+_, _≤_, _-_, min}
 use mathlib.Core.Path.{_≡_}
 use native.Mathlib.Omega.{arith}
 use borrow.Author.Needs.{needs}
-use denote.Ref.{now}
 use lib.ListN.{length}
 use Rattle.order.specs.Table.{related, reflexive, Tabled}
 use Rattle.order.proofs.Seats.{no-table, seats-none, seats-more, reflexive-row}

@@ -4,7 +4,7 @@ use native.Mathlib.Omega.{arith}
 use borrow.Author.Needs.{needs}
 use denote.Ref.{now}
 use Rattle.policy.specs.Tables.{assignByTables}
-use Rattle.policy.proofs.Readying.{good-of, counts-of, section-d, section-a}
+use Rattle.policy.proofs.Readying.{good-of, counts-of, section-a}
 use Rattle.policy.proofs.Inside.{over-between}
 use Rattle.policy.proofs.Assigning.{tables-verdict, numbers-within, scan-assignments}
 use Rattle.policy.proofs.build.judge_assignments.Statement.{statement}

@@ -1,5 +1,4 @@
 -- Four words, each where the one before ends.
-use native.Mathlib.Omega.{arith}
 use borrow.Author.Needs.{needs}
 use denote.Ref.{now}
 use Rattle.policy.proofs.Finishes.{four-words}

@@ -1,11 +1,8 @@
 -- Each card adds its own.
-use Prim.Native.Nat.{ℕ, _+_, _*_, _≤_, _<_, _-_}
+use Prim.Native.Nat.{ℕ, _≤_, _-_}
 use mathlib.Core.Path.{_≡_, sym, _∙_}
-use mathlib.Core.Bool.{_||_}
 use native.Mathlib.Omega.{arith}
 use borrow.Author.Needs.{needs}
-use denote.Ref.{now}
-use lib.ListN.{length}
 use Rattle.search.specs.Search.{Among}
 use Rattle.roleset.specs.Row.{member}
 use Rattle.policy.specs.Tables.{rowOf, gathered}

@@ -1,5 +1,5 @@
 -- A card without a label brings nothing; else its row is united with its label's.
-use Prim.Native.Nat.{ℕ, _+_, _*_, _-_}
+use Prim.Native.Nat.{_+_, _*_, _-_}
 use native.Mathlib.Nat.{zero-add}
 use lib.ListN.{getD}
 use mathlib.Core.Path.{refl}

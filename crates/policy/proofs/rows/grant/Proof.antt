@@ -1,5 +1,4 @@
 -- Numbers that are no role's, no card's or no mode's grant nothing; else one row is joined into one.
-use Prim.Native.Nat.{ℕ}
 use native.Mathlib.Omega.{arith}
 use borrow.Author.Needs.{needs}
 use denote.Ref.{now}

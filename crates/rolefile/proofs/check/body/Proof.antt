@@ -1,5 +1,4 @@
 -- The three tests in turn.
-use mathlib.Core.Path.{_≡_, sym, _∙_}
 use borrow.Author.Needs.{needs}
 use borrow.Author.Tests.{le-ltb, lt-ltb}
 use Rattle.search.proofs.Truth.{passed, failed}

@@ -1,5 +1,4 @@
 -- The three comparisons, the last field first.
-use mathlib.Core.Path.{_≡_, sym, _∙_}
 use borrow.Author.Needs.{needs}
 use Rattle.rolefile.specs.Form.{rises}
 use Rattle.rolefile.proofs.check.comes_after.Statement.{statement}

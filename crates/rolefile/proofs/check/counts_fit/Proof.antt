@@ -1,5 +1,4 @@
 -- The four tests, one after the other.
-use mathlib.Core.Path.{_≡_, sym, _∙_}
 use borrow.Author.Needs.{needs}
 use Rattle.rolefile.specs.Form.{counted}
 use Rattle.rolefile.proofs.check.counts_fit.Statement.{statement}

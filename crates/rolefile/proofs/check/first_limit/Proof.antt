@@ -1,6 +1,4 @@
 -- Each arm is a test of the definition.
-use mathlib.Core.Path.{_≡_, sym, _∙_}
-use borrow.Author.Needs.{needs}
 use borrow.Author.Tests.{ne-eqb}
 use Rattle.rolefile.specs.Form.{firstLimit}
 use Rattle.rolefile.proofs.check.first_limit.Statement.{statement}

@@ -1,5 +1,4 @@
 -- The two tests in turn.
-use mathlib.Core.Path.{_≡_, sym, _∙_}
 use borrow.Author.Needs.{needs}
 use borrow.Author.Tests.{eq-eqb, ne-eqb}
 use Rattle.search.proofs.Truth.{passed, failed}

@@ -1,12 +1,10 @@
 -- The length, line 1, and then the others.
-use Prim.Native.Nat.{ℕ}
-use mathlib.Core.Path.{_≡_, sym, _∙_}
+use mathlib.Core.Path.{_≡_, _∙_}
 use mathlib.Core.Bool.{true}
 use native.Mathlib.Omega.{arith}
 use borrow.Author.Needs.{needs}
 use denote.Ref.{now}
 use Rattle.rolefile.specs.Form.{lineVerdict, sized}
-use Rattle.rolefile.specs.Line.{lines}
 use Rattle.rolefile.proofs.Scanning.{bad-size, good-size, empty, torn, long, fitting, head-line, head-found, head-passed}
 use Rattle.rolefile.proofs.check.lines.Statement.{statement}
 use Rattle.rolefile.proofs.check.lines.Tie as tie

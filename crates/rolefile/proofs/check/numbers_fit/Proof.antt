@@ -1,5 +1,4 @@
 -- The three tests, one after the other.
-use mathlib.Core.Path.{_≡_, sym, _∙_}
 use borrow.Author.Needs.{needs}
 use Rattle.rolefile.specs.Form.{ranged}
 use Rattle.rolefile.proofs.check.numbers_fit.Statement.{statement}

@@ -1,5 +1,5 @@
 -- Each way out is by the test that `fields` makes there.
-use borrow.Author.Tests.{eq-eqb, ne-eqb}
+use borrow.Author.Tests.{ne-eqb}
 use Rattle.rolefile.specs.Line.{fields}
 use Rattle.rolefile.proofs.read.field_count.Statement.{statement}
 use Rattle.rolefile.proofs.read.field_count.Tie as tie

@@ -1,11 +1,10 @@
 -- A line that the part has, or 0.
-use Prim.Native.Nat.{ℕ, _+_, _*_, _-_, _/_}
+use Prim.Native.Nat.{_+_, _-_}
 use mathlib.Core.Path.{_≡_}
 use native.Mathlib.Omega.{arith}
 use borrow.Author.Needs.{needs}
 use borrow.Author.Tests.{le-leb, lt-leb}
 use denote.Ref.{now}
-use lib.ListN.{length}
 use Rattle.rolefile.specs.Line.{lines}
 use Rattle.rolefile.proofs.read.figure_of.Statement.{statement}
 use Rattle.rolefile.proofs.read.figure_of.Tie as tie

@@ -1,6 +1,6 @@
 -- Each arm is a test of `letterOf`.
 use Rattle.rolefile.specs.Line.{letterOf}
-use borrow.Author.Tests.{eq-eqb, ne-eqb}
+use borrow.Author.Tests.{ne-eqb}
 use Rattle.rolefile.proofs.read.letter.Statement.{statement}
 use Rattle.rolefile.proofs.read.letter.Tie as tie
 

@@ -1,6 +1,6 @@
 -- A line past the file's end has no byte 10.
-use Prim.Native.Nat.{ℕ, _*_, _-_, _/_}
-use mathlib.Core.Path.{_≡_, sym, _∙_}
+use Prim.Native.Nat.{_*_, _-_}
+use mathlib.Core.Path.{_≡_, _∙_}
 use mathlib.Core.Logic.{⊎-elim}
 use native.Mathlib.Omega.{arith}
 use denote.Ref.{now}

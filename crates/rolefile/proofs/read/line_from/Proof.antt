@@ -1,8 +1,6 @@
 -- A field that does not read as asked ends the line; where each does, the line is what they say.
-use mathlib.Core.Path.{_≡_, sym, _∙_}
+use mathlib.Core.Path.{_∙_}
 use borrow.Author.Needs.{needs}
-use denote.Ref.{now}
-use Rattle.rolefile.specs.Line.{lineFrom}
 use Rattle.rolefile.proofs.Reading.{ended, got, unread, numbered, no-first, no-second, no-third, no-fourth, no-letter, no-end, whole-line}
 use Rattle.rolefile.proofs.read.line_from.Statement.{statement}
 use Rattle.rolefile.proofs.read.line_from.Tie as tie

@@ -1,5 +1,4 @@
 -- Each way out is by the test that `column` makes there.
-use native.Mathlib.Omega.{arith}
 use borrow.Author.Needs.{needs}
 use borrow.Author.Tests.{le-leb, lt-leb}
 use Rattle.rolefile.specs.Field.{column}

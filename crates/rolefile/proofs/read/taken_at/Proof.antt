@@ -1,7 +1,6 @@
 -- By cases on whether the field is in use, and then on whether it is blank.
-use mathlib.Core.Path.{_≡_, sym, _∙_}
+use mathlib.Core.Path.{sym, _∙_}
 use borrow.Author.Needs.{needs}
-use Rattle.search.proofs.Truth.{passed, failed}
 use Rattle.rolefile.proofs.Reading.{taken-blank, taken-spoilt}
 use Rattle.rolefile.proofs.read.taken_at.Statement.{statement}
 use Rattle.rolefile.proofs.read.taken_at.Tie as tie
