@@ -3,6 +3,7 @@
 
 pub mod call;
 pub mod example;
+pub mod files;
 pub mod generate;
 pub mod laws;
 pub mod lent;
