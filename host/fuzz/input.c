@@ -25,7 +25,7 @@ static const struct {
     ENTRY(two_makers),
 };
 
-enum { KNOWN_FILES = sizeof known / sizeof known[0] };
+enum { KNOWN_FILES = sizeof known / sizeof known[0], LARGE = 255 };
 
 uint8_t next_byte(struct input *input)
 {
@@ -35,23 +35,47 @@ uint8_t next_byte(struct input *input)
     return *input->at++;
 }
 
-static uint32_t next_pair(struct input *input)
+uint32_t next_pair(struct input *input)
 {
     uint32_t low = next_byte(input);
     return low | (uint32_t)next_byte(input) << 8;
 }
 
-uint64_t next_number(struct input *input)
+size_t whole_records(const uint8_t *data, size_t size)
+{
+    if (size == 0)
+        return 0;
+    size_t room = (size - 1) / RECORD;
+    return data[0] < room ? data[0] : room;
+}
+
+/* One of the last numbers of all, or a small one with a high bit set. */
+static uint64_t wild(struct input *input)
 {
     static const unsigned high[] = {8, 16, 31, 32, 58, 62, 63};
-    uint64_t number = next_pair(input);
-    if (number < 0xf000)
-        return number;
-    unsigned way = number >> 8 & 15;
-    uint64_t small = number & 255;
+    unsigned way = next_byte(input);
+    uint64_t small = way >> 4;
+    way &= 15;
     if (way < sizeof high / sizeof high[0])
         return ((uint64_t)1 << high[way]) + small;
     return 0 - small;
+}
+
+uint64_t next_number(struct input *input, uint64_t limit)
+{
+    uint64_t number = next_byte(input);
+    if (number >= 240)
+        return wild(input);
+    if (limit + 2 > 240)
+        number = number << 8 | next_byte(input);
+    return number % (limit + 2);
+}
+
+uint64_t next_place(struct input *input)
+{
+    if (input->left > 0 && *input->at < 200)
+        return 1 + next_byte(input) % 3;
+    return next_number(input, 64);
 }
 
 /* One change to a file: a byte, a field's number, a line gone or doubled. */
@@ -84,9 +108,11 @@ static size_t change(struct input *input, uint8_t *file, size_t length)
     }
 }
 
-size_t next_file(struct input *input, uint8_t *file)
+size_t next_file(struct input *input, uint8_t *file, unsigned changes)
 {
-    size_t choice = next_byte(input) % (KNOWN_FILES + 1);
+    /* The large file, the last one, takes long: it has one byte alone. */
+    size_t choice = next_byte(input);
+    choice = choice == LARGE ? KNOWN_FILES : choice % KNOWN_FILES;
     size_t length;
     if (choice == 0) {
         length = next_pair(input);
@@ -99,7 +125,7 @@ size_t next_file(struct input *input, uint8_t *file)
     }
     length = (size_t)(known[choice - 1].end - known[choice - 1].start);
     memcpy(file, known[choice - 1].start, length);
-    for (unsigned changes = next_byte(input) & 7; changes > 0; changes--)
+    for (; changes > 0; changes--)
         length = change(input, file, length);
     return length;
 }

@@ -6,6 +6,11 @@
 
 struct model;
 
+/* What the loaded file counts; all 0 before a load. */
+struct model_counts {
+    size_t labels, roles, users, cards;
+};
+
 struct numbers {
     uint64_t first, second, third, fourth;
 };
@@ -14,7 +19,7 @@ struct model *model_new(void);
 void model_free(struct model *model);
 struct monitor_verdict model_load(struct model *model, const uint8_t *file,
                                   size_t file_len, size_t state_len);
-size_t model_cards(const struct model *model);
+struct model_counts model_counts(const struct model *model);
 struct monitor_figure model_call(struct model *model, uint64_t kind,
                                  size_t state_len, uint8_t *store,
                                  size_t store_len,

@@ -9,7 +9,7 @@
 #include <string.h>
 
 #define STATE 65536
-#define CARD 64
+#define CARD_BYTES 64
 #define MOST_WRITE 256
 
 /* The calls, by the numbers that the model knows them by. */
@@ -30,7 +30,7 @@ struct run {
 const char *__asan_default_options(void);
 const char *__asan_default_options(void)
 {
-    return "quarantine_size_mb=4:detect_leaks=0";
+    return "quarantine_size_mb=4:malloc_context_size=2:detect_leaks=0";
 }
 
 static void same(int condition, const char *what, enum side side)
@@ -59,12 +59,12 @@ static void compare(struct run *run, int state_may_change)
 /* Lends a store with exactly the bytes of the loaded file's cards. */
 static void fit_store(struct run *run)
 {
-    size_t length = CARD * model_cards(run->model);
+    size_t length = CARD_BYTES * model_counts(run->model).cards;
     free(run->cards);
     run->cards = malloc(length + 1);
     run->cards_length = length;
     for (size_t at = 0; at < length; at++)
-        run->cards[at] = (uint8_t)(at * 7 + at / CARD);
+        run->cards[at] = (uint8_t)(at * 7 + at / CARD_BYTES);
     for (enum side side = 0; side < SIDES; side++) {
         give_back(side, run->store[side]);
         run->store[side] = lend(side, STORE_SLOT, run->cards, length);
@@ -84,10 +84,10 @@ static void load_short(const struct run *run, enum side side, struct lent file,
     give_back(side, part);
 }
 
-static void load(struct run *run, unsigned lending)
+static void load(struct run *run, unsigned lending, unsigned changes)
 {
-    uint8_t file[MOST_FILE];
-    size_t length = next_file(&run->input, file);
+    static uint8_t file[MOST_FILE];
+    size_t length = next_file(&run->input, file, changes);
     struct monitor_verdict wanted =
         model_load(run->model, file, length, STATE);
     for (enum side side = 0; side < SIDES; side++) {
@@ -143,13 +143,30 @@ static struct monitor_figure ask(enum side side, enum kind kind,
     }
 }
 
-static struct numbers next_numbers(struct input *input, enum kind kind)
+/* A call's numbers, most of them in range. */
+static struct numbers next_numbers(struct run *run, enum kind kind)
 {
-    static const unsigned counts[KINDS] = {0, 3, 1, 2, 2, 4, 4, 2, 0, 2};
+    enum { NONE, LABEL, ROLE, USER, CARD, SPAN, PLACE };
+    static const uint8_t meanings[KINDS][4] = {
+        [OPEN] = {PLACE, USER, LABEL},
+        [CLOSE] = {PLACE},
+        [TAKE] = {PLACE, ROLE},
+        [DROP] = {PLACE, ROLE},
+        [READ] = {PLACE, CARD, SPAN, SPAN},
+        [WRITE] = {PLACE, CARD, SPAN, SPAN},
+        [FLOWS] = {ROLE, ROLE},
+    };
+    struct model_counts counts = model_counts(run->model);
+    const uint64_t limits[] = {0, counts.labels, counts.roles, counts.users,
+                               counts.cards, CARD_BYTES};
     struct numbers n = {0, 0, 0, 0};
     uint64_t *fields[] = {&n.first, &n.second, &n.third, &n.fourth};
-    for (unsigned at = 0; at < counts[kind]; at++)
-        *fields[at] = next_number(input);
+    for (unsigned at = 0; at < 4 && meanings[kind][at] != NONE; at++) {
+        unsigned meaning = meanings[kind][at];
+        *fields[at] = meaning == PLACE
+                          ? next_place(&run->input)
+                          : next_number(&run->input, limits[meaning]);
+    }
     if (kind == WRITE)
         n.fourth %= MOST_WRITE;
     return n;
@@ -192,7 +209,7 @@ static struct monitor_figure wanted(struct run *run, enum kind kind,
 
 static void call(struct run *run, enum kind kind, unsigned lending)
 {
-    struct numbers numbers = next_numbers(&run->input, kind);
+    struct numbers numbers = next_numbers(run, kind);
     uint8_t content[MOST_WRITE], value = 0;
     size_t length = kind == WRITE ? numbers.fourth : 0;
     if (kind == WRITE)
@@ -222,11 +239,11 @@ static void call(struct run *run, enum kind kind, unsigned lending)
 /* Changes a byte of the state by hand, the same on both sides. */
 static void spoil(struct run *run)
 {
-    struct numbers numbers = next_numbers(&run->input, SPOIL);
-    size_t at = numbers.first % STATE;
+    size_t at = next_pair(&run->input);
+    uint8_t value = next_byte(&run->input);
     for (enum side side = 0; side < SIDES; side++)
-        run->state[side].bytes[at] = (uint8_t)numbers.second;
-    run->expected[at] = (uint8_t)numbers.second;
+        run->state[side].bytes[at] = value;
+    run->expected[at] = value;
     run->spoiled = 1;
 }
 
@@ -240,7 +257,6 @@ static void begin(struct run *run)
     run->cards = malloc(1);
     for (enum side side = 0; side < SIDES; side++)
         run->store[side] = lend(side, STORE_SLOT, run->cards, 0);
-    load(run, next_byte(&run->input));
 }
 
 static void end(struct run *run)
@@ -258,13 +274,18 @@ int LLVMFuzzerTestOneInput(const uint8_t *data, size_t size)
 {
     static struct run run;
     memset(&run, 0, sizeof run);
-    run.input = (struct input){data, size};
     begin(&run);
-    while (run.input.left > 0) {
+    size_t records = whole_records(data, size);
+    size_t start = size == 0 ? 0 : 1 + RECORD * records;
+    run.input = (struct input){data + start, size - start};
+    unsigned lending = next_byte(&run.input);
+    load(&run, lending, next_byte(&run.input) & 7);
+    for (size_t at = 0; at < records; at++) {
+        run.input = (struct input){data + 1 + RECORD * at, RECORD};
         enum kind kind = next_byte(&run.input) % KINDS;
-        unsigned lending = next_byte(&run.input);
+        lending = next_byte(&run.input);
         if (kind == LOAD)
-            load(&run, lending);
+            load(&run, lending, 1);
         else if (kind == SPOIL)
             spoil(&run);
         else

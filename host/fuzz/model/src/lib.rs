@@ -20,6 +20,15 @@ pub struct Numbers {
     fourth: u64,
 }
 
+/// The counts of an H line.
+#[repr(C)]
+pub struct ModelCounts {
+    labels: usize,
+    roles: usize,
+    users: usize,
+    cards: usize,
+}
+
 /// A model that holds what a zeroed state holds.
 #[no_mangle]
 pub extern "C" fn model_new() -> *mut Model {
@@ -45,13 +54,20 @@ pub unsafe extern "C" fn model_load(
     (*model).load(from_raw_parts(file, file_len), state_len)
 }
 
-/// How many cards the loaded file has; 0 before a load.
+/// What the loaded file counts; all 0 before a load.
 ///
 /// # Safety
 /// The handle comes from `model_new`.
 #[no_mangle]
-pub unsafe extern "C" fn model_cards(model: *const Model) -> usize {
-    (*model).policy().map_or(0, |policy| policy.counts.cards)
+pub unsafe extern "C" fn model_counts(model: *const Model) -> ModelCounts {
+    let counts = (*model).policy().map(|policy| policy.counts);
+    let counts = counts.unwrap_or_default();
+    ModelCounts {
+        labels: counts.labels,
+        roles: counts.roles,
+        users: counts.users,
+        cards: counts.cards,
+    }
 }
 
 /// Makes a call, numbered as in target.c; its number, and a report's figure.
