@@ -10,7 +10,7 @@ LONG_LISTS ?= 100000
 PREFIX ?= /usr/local
 ARCHIVE = target/staticlib/libmonitor.a
 
-.PHONY: help check test prove lib install differential lists pairs long fuzz sanitize bench kit
+.PHONY: help check test prove lib install differential lists pairs long fuzz sanitize bench growth kit
 
 help:
 	@echo "make check FILE=F       check a role file: its verdict, levels, flow"
@@ -24,7 +24,8 @@ help:
 	@echo "make long               LONG_FILES=$(LONG_FILES) files and LONG_LISTS=$(LONG_LISTS) call lists, from SEED=$(SEED)"
 	@echo "make fuzz               SECONDS=$(SECONDS) of coverage-guided fuzzing with AddressSanitizer"
 	@echo "make sanitize           the C test under AddressSanitizer and under valgrind"
-	@echo "make bench              times of loads and calls beside plain Rust"
+	@echo "make bench              times of loads and calls, and their growth, beside plain Rust and a simple version"
+	@echo "make growth             times of growth alone, with the plot docs/growth.svg"
 
 kit:
 	@command -v rt >/dev/null || { echo "This needs rt, the Rattle kit's command, on the path."; exit 1; }
@@ -74,3 +75,6 @@ sanitize: lib
 
 bench: lib
 	cd host/bench && cargo run --release --offline --quiet
+
+growth: lib
+	cd host/bench && cargo run --release --offline --quiet -- --plot ../../docs/growth.svg

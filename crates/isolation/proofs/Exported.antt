@@ -2,7 +2,6 @@
 use Prim.Native.Nat.{ℕ}
 use mathlib.Core.Path.{_≡_, refl, sym, ap, _∙_}
 use mathlib.Core.List.{List, [], _∷_}
-use Rattle.policy.specs.Accepted.{Accepted}
 use Rattle.monitor.specs.Runs.{Call, opens, closes, takes, drops, reads, writes, Memory, number, part, stateAfter, storeAfter, after, run}
 use Rattle.isolation.specs.TwoRuns.{Answer, answer, Open, noneOpen, track, shared, keep, Shown, shown, SameCards, Alike}
 use Rattle.isolation.specs.Exported.{Made, Makes, IsolatedExports}
@@ -30,7 +29,7 @@ makes-run f L (c ∷ cs) t m e xs (a, n, ys, made, rest, shows) =
     let (z, w) = makes-run f L cs (track f t c) n e ys rest in
     (shows ∙ rw (z, x, y), w ∙ rw y)
 
-pub exported : (f : List ℕ) → Accepted f → IsolatedExports f
+pub exported : (f : List ℕ) → IsolatedExports f
 exported f accepted a b L label s₁ s₂ long same cs₁ cs₂ struck-alike xs₁ xs₂ e₁ e₂ makes₁ makes₂ =
     let claim = isolation f accepted a b L label s₁ s₂ long same cs₁ cs₂ struck-alike in
     let (x₁, y₁) = makes-run f L cs₁ noneOpen _ e₁ xs₁ makes₁ in

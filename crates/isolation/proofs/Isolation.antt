@@ -179,7 +179,7 @@ alike-both f L (x ∷ xs) (y ∷ ys) (z ∷ zs) (a, c, h) (b, d, k) =
     (a ∙ sym b, λ o i w u l. c o i w u l ∙ sym (d o i w u l), alike-both f L xs ys zs h k)
 
 -- demand 3
-pub isolation : (f : List ℕ) → Accepted f → Isolated f
+pub isolation : (f : List ℕ) → Isolated f
 isolation f accepted a b L label s₁ s₂ long same cs₁ cs₂ struck-alike =
     let m₁ : Memory = record { state = a .state; store = s₁ } in
     let m₂ : Memory = record { state = b .state; store = s₂ } in

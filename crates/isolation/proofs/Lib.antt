@@ -3,5 +3,6 @@ pub mod Tracking
 pub mod Low
 pub mod Isolation
 pub mod Exported
+pub mod Begins
 pub mod ByFile
 pub mod Worked

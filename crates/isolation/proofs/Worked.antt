@@ -27,6 +27,7 @@ use Rattle.monitor.specs.Cases.{line, bytes}
 use Rattle.monitor.proofs.Demand2.{loaded-runs}
 use Rattle.isolation.specs.TwoRuns.{Answer, noneOpen, grants, track, shared, struck, Shown, shown, SameCards, Start}
 use Rattle.isolation.specs.Worked.{file, firstStore, secondStore, firstDay, secondDay, low, highFirst, highSecond}
+use Rattle.isolation.proofs.Begins.{start}
 use Rattle.isolation.proofs.ByFile.{partBy, storeBy, shownBy, shown-by}
 
 abbrev answersBy : ℕ → List ℕ → List Call → List Answer
@@ -98,7 +99,7 @@ pub record Separated (a b : Start file) : Type 0 where
   pub high : (answersOf a 4 firstStore firstDay ≡ highFirst) × (answersOf b 4 secondStore secondDay ≡ highSecond)
   pub differ : highFirst ≡ highSecond → ⊥
 
--- the bytes that the seventh call shown handed back
+-- the first byte that the seventh call shown handed back
 abbrev seventh : List Answer → ℕ
 seventh xs = getD (getD xs 6 (record { number = 0; bytes = [] }) .bytes) 0 0
 
@@ -111,3 +112,7 @@ separated a b = record {
   high = (shows a 4 firstStore firstDay (one-length .0) ∙ computed .2, shows b 4 secondStore secondDay (one-length .1) ∙ computed .3);
   differ = λ e. let z : _≡_ {A = ℕ} 66 67 = ap seventh e in omega arith;
 }
+
+-- and there is such a state to start from
+pub example : let a = start file accepted in Separated a a
+example = let a = start file accepted in separated a a

@@ -1,10 +1,11 @@
--- Runs of the exported functions themselves: each call by the record that its function's contract cites. `exported` under proofs/ carries demand 3 over to them. Assumes nothing.
+-- Runs of the exported functions themselves: each call by what its function's contract cites, the read by its number call and the bytes of its part. `exported` under proofs/ carries demand 3 over to them. Assumes nothing.
 use Prim.Native.Nat.{ℕ}
 use mathlib.Core.Path.{_≡_}
 use mathlib.Core.List.{List, [], _∷_}
 use lib.ListN.{length}
 use Rattle.search.specs.Search.{Among}
 use Rattle.rolefile.specs.Said.{labels}
+use Rattle.policy.specs.Accepted.{Accepted}
 use Rattle.monitor.specs.Calls.{Opens, Closes, Takes, Drops, readNumber, readBytes, Writes}
 use Rattle.monitor.specs.Runs.{Call, opens, closes, takes, drops, reads, writes, Memory}
 use Rattle.isolation.specs.TwoRuns.{Answer, Open, noneOpen, track, shared, keep, struck, Shown, SameCards, Alike, Start}
@@ -27,7 +28,7 @@ Makes f L t m (c ∷ cs) xs e =
 
 abbrev pub IsolatedExports : List ℕ → Type 0
 IsolatedExports f =
-    (a b : Start f) (L : ℕ) → Among (labels f) L
+    Accepted f → (a b : Start f) (L : ℕ) → Among (labels f) L
     → (s₁ s₂ : List ℕ) → length s₁ ≡ length s₂ → SameCards f L s₁ s₂
     → (cs₁ cs₂ : List Call) → struck f L noneOpen cs₁ ≡ struck f L noneOpen cs₂
     → (xs₁ xs₂ : List Shown) (e₁ e₂ : Memory)

@@ -42,7 +42,7 @@ grants f t p u l = among 64 p && (isClosed (t p) && (among (users f) u && (among
 abbrev pub mark : Open → ℕ → Option ℕ → Open
 mark t p v q = cond (eqb q p) v (t q)
 
--- "A place is open from an opening that the rules grant to the next closing of that place. The label of its session is the one that this opening named"
+-- "A place is open from an opening that the rules grant" "to the next closing of that place. The label of its session is the one that this opening named"
 unfoldable pub track : List ℕ → Open → Call → Open
 track f t (opens p u l) = cond (grants f t p u l) (mark t p (some l)) t
 track f t (closes p) = mark t p none
@@ -87,7 +87,8 @@ unfoldable pub shown : List ℕ → ℕ → Open → Memory → List Call → Li
 shown f L t m [] = []
 shown f L t m (c ∷ cs) = keep (shared f L t c) (record { answer = answer m c; store = after m c .store }) (shown f L (track f t c) (after m c) cs)
 
--- "The cards under L are those whose label L dominates; of a store shorter than 64 × cards, the bytes it has of them". Stores of one length: a byte that neither has is 0 in both
+-- "The cards under L are those whose label L dominates; of a store shorter than 64 × cards, the bytes it has of them". Stores of one length, which no call changes
+-- (`store-length` under monitor/proofs): a byte that neither has is 0 in both
 abbrev pub SameCards : List ℕ → ℕ → List ℕ → List ℕ → Type 0
 SameCards f L s t = (o i : ℕ) → Among (cards f) o → dominates f L (cardLabel f o) ≡ true → i < 64 → getD s (64 * (o - 1) + i) 0 ≡ getD t (64 * (o - 1) + i) 0
 
@@ -106,7 +107,7 @@ pub record Start (f : List ℕ) : Type 0 where
   pub state : List ℕ
   pub load : Loaded f verdict before state
 
--- ---- the claim, "about two whole lists of calls": the sessions under L get the same numbers and bytes, and the cards under L are the same after each shared call and at the end
+-- ---- the claim, "about two whole lists of calls": each shared call gets the same number and bytes, and the cards under L are the same after each shared call and at the end
 
 -- two memories and the calls on them
 pub record Claim (f : List ℕ) (L : ℕ) (m₁ m₂ : Memory) (cs₁ cs₂ : List Call) : Type 0 where
@@ -115,7 +116,7 @@ pub record Claim (f : List ℕ) (L : ℕ) (m₁ m₂ : Memory) (cs₁ cs₂ : Li
 
 abbrev pub Isolated : List ℕ → Type 0
 Isolated f =
-    (a b : Start f) (L : ℕ) → Among (labels f) L
+    Accepted f → (a b : Start f) (L : ℕ) → Among (labels f) L
     → (s₁ s₂ : List ℕ) → length s₁ ≡ length s₂ → SameCards f L s₁ s₂
     → (cs₁ cs₂ : List Call) → struck f L noneOpen cs₁ ≡ struck f L noneOpen cs₂
     → Claim f L (record { state = a .state; store = s₁ }) (record { state = b .state; store = s₂ }) cs₁ cs₂

@@ -14,7 +14,7 @@ use Rattle.search.proofs.Truth.{among-iff}
 use Rattle.rolefile.specs.declared.Verdict.{Verdict}
 use Rattle.rolefile.specs.Said.{roles}
 use Rattle.rolefile.specs.WellFormed.{WellFormed}
-use Rattle.policy.specs.Tables.{readersAt, writersAt, stateSize, flowing, cardsIn}
+use Rattle.policy.specs.Tables.{readersAt, writersAt, stateSize, flowing, cardsUpTo}
 use Rattle.policy.specs.Verdict.{verdict}
 use Rattle.policy.specs.Accepted.{Accepted}
 use Rattle.policy.specs.Flow.{flows, flowCircle}
@@ -173,6 +173,25 @@ rule-not-21 f size t (writes p o k bytes) = part-not-21 f 2 size t p o k (length
 
 -- ---- from a load on
 
+same-state : (xs a b : List ℕ) (c : Call) → stateAfter (record { state = xs; store = a }) c ≡ stateAfter (record { state = xs; store = b }) c
+unfolding stateAfter
+same-state xs a b (opens p u l) = refl
+same-state xs a b (closes p) = refl
+same-state xs a b (takes p r) = refl
+same-state xs a b (drops p r) = refl
+same-state xs a b (reads p o k n) = refl
+same-state xs a b (writes p o k bytes) = refl
+
+-- the stores that the calls were lent do not bear on the state that they leave
+pub state-run : (cs : List Call) (xs a b : List ℕ) → run (record { state = xs; store = a }) cs .state ≡ run (record { state = xs; store = b }) cs .state
+unfolding run
+state-run [] xs a b = refl
+state-run (c ∷ cs) xs a b =
+    let m : Memory = record { state = xs; store = a } in
+    let n : Memory = record { state = xs; store = b } in
+    ap (λ (x : List ℕ). run (record { state = x; store = storeAfter m c }) cs .state) (same-state xs a b c)
+    ∙ state-run cs (stateAfter n c) (storeAfter m c) (storeAfter n c)
+
 module _ (f : List ℕ) (accepted : Accepted f) (xs ys : List ℕ) (v : Verdict) (enough : 65536 ≤ length xs) (load : Loaded f v xs ys) where
   form : WellFormed f
   form = accepted .ordered .form
@@ -194,13 +213,13 @@ module _ (f : List ℕ) (accepted : Accepted f) (xs ys : List ℕ) (v : Verdict)
     left-runs : Runs f (sessions f nobody cs) (length store) left
     left-runs = runs-after f form cs nobody (length store) (record { state = ys; store = store }) (loaded-runs store)
 
-    -- what each call is answered, by the file and the calls so far
-    pub answers : (c : Call) → number left c ≡ rule f (length store) (sessions f nobody cs) c
-    answers c = runs-number f form (sessions f nobody cs) (length store) left left-runs c
+    -- what each call is answered, whatever store it is lent, by the file and the calls so far
+    pub answers : (lent : List ℕ) (c : Call) → number (record { state = left .state; store = lent }) c ≡ rule f (length lent) (sessions f nobody cs) c
+    answers lent c = let r = left-runs in number-file f form (sessions f nobody cs) (r .known) (record { state = left .state; store = lent }) (r .stands) c
 
     -- "never for a state that a load and calls left"
-    pub never-21 : (c : Call) → number left c ≡ 21 → ⊥
-    never-21 c e = rule-not-21 f (length store) (sessions f nobody cs) c (sym (answers c) ∙ e)
+    pub never-21 : (lent : List ℕ) (c : Call) → number (record { state = left .state; store = lent }) c ≡ 21 → ⊥
+    never-21 lent c e = rule-not-21 f (length lent) (sessions f nobody cs) c (sym (answers lent c) ∙ e)
 
     -- the flow report
     pub flows-answers : (q r n figure : ℕ) → Flows (left .state) q r n figure
@@ -214,7 +233,7 @@ module _ (f : List ℕ) (accepted : Accepted f) (xs ys : List ℕ) (v : Verdict)
         (e, h .answer ∙ rw (← (h .number)) (by n e))
       where
         by : (n : ℕ) → n ≡ unless (among (roles f) q) 25 (unless (among (roles f) r) 25 0)
-            → _≡_ {A = ℕ} (ifDone n (cond (flowing (left .state) (cardsIn (left .state)) q r) 1 0) 0) (ifDone n (cond (flows f q r) 1 0) 0)
+            → _≡_ {A = ℕ} (ifDone n (cond (flowing (left .state) (cardsUpTo (left .state)) q r) 1 0) 0) (ifDone n (cond (flows f q r) 1 0) 0)
         by zero e =
             let (v, rest) = unless-done (among (roles f) q) 25 _ (omega arith) (sym e) in
             let (w, end) = unless-done (among (roles f) r) 25 0 (omega arith) rest in

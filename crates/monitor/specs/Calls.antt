@@ -175,8 +175,8 @@ circleNumber xs = unless (sound xs) 21 0
 -- "figure is 0 on a refusal"
 pub record Flows (xs : List ℕ) (q r n figure : ℕ) : Type 0 where
   pub number : n ≡ flowsNumber xs q r
-  pub answer : figure ≡ ifDone (flowsNumber xs q r) (cond (flowing xs (tables.cardsIn xs) q r) 1 0) 0
+  pub answer : figure ≡ ifDone (flowsNumber xs q r) (cond (flowing xs (tables.cardsUpTo xs) q r) 1 0) 0
 
 pub record Circles (xs : List ℕ) (n figure : ℕ) : Type 0 where
   pub number : n ≡ circleNumber xs
-  pub answer : figure ≡ ifDone (circleNumber xs) (circle (tables.rolesIn xs) (flowing xs (tables.cardsIn xs))) 0
+  pub answer : figure ≡ ifDone (circleNumber xs) (circle (tables.rolesUpTo xs) (flowing xs (tables.cardsUpTo xs))) 0

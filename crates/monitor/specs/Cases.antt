@@ -4,12 +4,13 @@ use Prim.Native.Nat.{ℕ, _*_}
 use Prim.Native.Char.{code}
 use Prim.Native.String.{String, [] as end, _∷_ as _▸_}
 use mathlib.Core.List.{List, [], _∷_, map}
+use mathlib.Core.Bool.{Bool, true, false}
 use mathlib.Core.Option.{Option, none, some, Option·map}
 use Rattle.rolefile.specs.declared.Verdict.{Verdict}
 use Rattle.rolefile.specs.Form.{fine, refusal}
 use Rattle.policy.specs.Policy.{rLevel, wLevel, shown}
 use Rattle.policy.specs.Verdict.{verdict}
-use Rattle.policy.specs.Flow.{flowCircle}
+use Rattle.policy.specs.Flow.{flows, flowCircle}
 use Rattle.rolefile.specs.Said.{cards}
 use Rattle.monitor.specs.Runs.{Call, opens, takes, reads, writes}
 use Rattle.monitor.specs.Rules.{Sessions, nobody, rule, next}
@@ -30,6 +31,10 @@ Row = ℕ × ℕ × ℕ
 abbrev pub row : List ℕ → ℕ → Row
 row f r = (r, shown (rLevel f r), shown (wLevel f r))
 
+-- two roles, and whether the first flows to the second: a line F or none
+abbrev pub Flow : Type 0
+Flow = ℕ × ℕ × Bool
+
 -- a session call and its number
 abbrev pub Answered : Type 0
 Answered = Call × ℕ
@@ -39,11 +44,12 @@ unfoldable pub numbered : List ℕ → Sessions → List Answered → List Answe
 numbered f t [] = []
 numbered f t (x ∷ xs) = (x .0, rule f (64 * cards f) t (x .0)) ∷ numbered f (next f t (x .0)) xs
 
--- the verdict on a file; and, as far as the document gives them, the rows of its roles, the role on a circle of flow, and session calls
+-- the verdict on a file; and, as far as the document gives them, the rows of its roles, the role on a circle of flow, flows, and session calls
 pub record Answer : Type 0 where
   pub verdict : Verdict
   pub rows : List Row
   pub circle : Option ℕ
+  pub flows : List Flow
   pub calls : List Answered
 
 -- the definitions' answer for the file f, about the roles that the document's answer is about
@@ -52,6 +58,7 @@ answer f a = record {
   verdict = verdict f;
   rows = map (λ x. row f (x .0)) (a .rows);
   circle = Option·map (λ r. flowCircle f) (a .circle);
+  flows = map (λ x. (x .0, x .1, flows f (x .0) (x .1))) (a .flows);
   calls = numbered f nobody (a .calls);
 }
 
@@ -74,7 +81,7 @@ cases =
           ∷ "P    2    2    2     "
           ∷ "A    1    2          "
           ∷ [];
-      expected = record { verdict = fine; rows = (1, 1, 0) ∷ (2, 1, 2) ∷ []; circle = some 0; calls = [] };
+      expected = record { verdict = fine; rows = (1, 1, 0) ∷ (2, 1, 2) ∷ []; circle = some 0; flows = (1, 2, false) ∷ (2, 1, false) ∷ []; calls = [] };
     }
     ∷ record {
       -- "without its D line: 12 at [1, 2]"
@@ -88,7 +95,7 @@ cases =
           ∷ "P    2    2    2     "
           ∷ "A    1    2          "
           ∷ [];
-      expected = record { verdict = refusal 12 1 2; rows = []; circle = none; calls = [] };
+      expected = record { verdict = refusal 12 1 2; rows = []; circle = none; flows = []; calls = [] };
     }
     ∷ record {
       -- "user 1 cleared to 1 instead: accepted"
@@ -103,7 +110,7 @@ cases =
           ∷ "P    2    2    2     "
           ∷ "A    1    2          "
           ∷ [];
-      expected = record { verdict = fine; rows = []; circle = none; calls = [] };
+      expected = record { verdict = fine; rows = []; circle = none; flows = []; calls = [] };
     }
     ∷ record {
       -- "and role 1 reading card 2 as well: 15 at [1, 2]"
@@ -119,7 +126,7 @@ cases =
           ∷ "P    2    2    2     "
           ∷ "A    1    2          "
           ∷ [];
-      expected = record { verdict = refusal 15 1 2; rows = []; circle = none; calls = [] };
+      expected = record { verdict = refusal 15 1 2; rows = []; circle = none; flows = []; calls = [] };
     }
     ∷ record {
       -- "role 2 writing card 1 too: w-level 1, 16 at [1, 2]"
@@ -135,7 +142,7 @@ cases =
           ∷ "P    2    2    2     "
           ∷ "A    1    2          "
           ∷ [];
-      expected = record { verdict = refusal 16 1 2; rows = (2, 1, 1) ∷ []; circle = none; calls = [] };
+      expected = record { verdict = refusal 16 1 2; rows = (2, 1, 1) ∷ []; circle = none; flows = []; calls = [] };
     }
     ∷ record {
       -- "D 1 1 in front: 11 at [1, 0]"
@@ -151,7 +158,7 @@ cases =
           ∷ "P    2    2    2     "
           ∷ "A    1    2          "
           ∷ [];
-      expected = record { verdict = refusal 11 1 0; rows = []; circle = none; calls = [] };
+      expected = record { verdict = refusal 11 1 0; rows = []; circle = none; flows = []; calls = [] };
     }
     ∷ record {
       -- "labels 1, 2, 3 with D 3 1 and D 3 2: an assigned role that writes at 1 and 2 gets 14"
@@ -166,7 +173,7 @@ cases =
           ∷ "P    1    2    2     "
           ∷ "A    1    1          "
           ∷ [];
-      expected = record { verdict = refusal 14 1 1; rows = (1, 0, 99) ∷ []; circle = none; calls = [] };
+      expected = record { verdict = refusal 14 1 1; rows = (1, 0, 99) ∷ []; circle = none; flows = []; calls = [] };
     }
     ∷ record {
       -- "one that reads there has r-level 3"
@@ -181,7 +188,7 @@ cases =
           ∷ "P    1    2    1     "
           ∷ "A    1    1          "
           ∷ [];
-      expected = record { verdict = fine; rows = (1, 3, 0) ∷ []; circle = none; calls = [] };
+      expected = record { verdict = fine; rows = (1, 3, 0) ∷ []; circle = none; flows = []; calls = [] };
     }
     ∷ record {
       -- "four labels, 2 and 3 above 1 and below 4: writing at 2 and 3 gives w-level 1"
@@ -198,7 +205,7 @@ cases =
           ∷ "P    1    2    2     "
           ∷ "A    1    1          "
           ∷ [];
-      expected = record { verdict = fine; rows = (1, 0, 1) ∷ []; circle = none; calls = [] };
+      expected = record { verdict = fine; rows = (1, 0, 1) ∷ []; circle = none; flows = []; calls = [] };
     }
     ∷ record {
       -- "user 1 at label 1 takes role 2, writes card 2: 0, reads card 2: 29", of the file above
@@ -217,6 +224,7 @@ cases =
         verdict = fine;
         rows = [];
         circle = none;
+        flows = [];
         calls =
             (opens 1 1 1, 0)
             ∷ (takes 1 2, 0)
@@ -226,17 +234,21 @@ cases =
             ∷ (reads 1 1 60 4, 0)
             ∷ (reads 1 1 60 5, 30)
             ∷ (reads 1 1 64 0, 0)
+            -- and of card 2, written
+            ∷ (writes 1 2 60 (65 ∷ 66 ∷ 67 ∷ 68 ∷ []), 0)
+            ∷ (writes 1 2 60 (65 ∷ 66 ∷ 67 ∷ 68 ∷ 69 ∷ []), 30)
+            ∷ (writes 1 2 64 [], 0)
             ∷ [];
       };
     }
     ∷ record {
       -- "only H with counts 1 0 0 0: accepted"
       file = "H    1    0    0    0" ∷ [];
-      expected = record { verdict = fine; rows = []; circle = none; calls = [] };
+      expected = record { verdict = fine; rows = []; circle = none; flows = []; calls = [] };
     }
     ∷ record {
       -- "with 33 labels: 3 at [1, 0]"
       file = "H   33    0    0    0" ∷ [];
-      expected = record { verdict = refusal 3 1 0; rows = []; circle = none; calls = [] };
+      expected = record { verdict = refusal 3 1 0; rows = []; circle = none; flows = []; calls = [] };
     }
     ∷ []

@@ -1,5 +1,5 @@
--- "Sessions" in the file's own terms: what each call is answered by the file f and by the calls so far, and nothing else. `Demand2` under proofs/ shows that the calls are
--- answered so on every state that a load of f and any calls left. Assumes nothing.
+-- "Sessions" in the file's own terms: what each call is answered by the file f, the calls so far and the length of the store it is lent, and by nothing else. `answers` under
+-- proofs/ shows that the calls are answered so on every state that a load of f and any calls left. Assumes nothing.
 use Prim.Native.Nat.{ℕ, _+_, _*_}
 use mathlib.Core.List.{List, [], _∷_}
 use mathlib.Core.Bool.{Bool, true, false, not, _&&_, _||_, cond}

@@ -11,10 +11,10 @@ use lib.Dec.{eqb}
 use borrow.Author.Tests.{eq-eqb, eqb-true}
 use Rattle.search.specs.Search.{Among}
 use Rattle.search.proofs.Truth.{among-iff, same}
-use Rattle.roleset.specs.Row.{whole, member, added, united, Placed}
-use Rattle.roleset.proofs.Rows.{other-row, whole-true, unwritten, placed-as}
+use Rattle.roleset.specs.Row.{whole, member, added, unitedWhere, Placed}
+use Rattle.roleset.proofs.Rows.{other-row, whole-true}
 use Rattle.order.specs.Closure.{Relation, via}
-use Rattle.order.specs.Table.{Rows, related, stepped, round, reflexive, Tabled}
+use Rattle.order.specs.Table.{Rows, related, round, reflexive, Tabled}
 use Rattle.order.proofs.Closure.{RowSet, rows-none, rows-more, rounds-none, rounds-more}
 use Rattle.order.proofs.Stored.{place}
 
@@ -57,17 +57,6 @@ module _ (at : ℕ) (xs : List ℕ) (fits : at + 2048 ≤ length xs) where
       rw (seat-left at (reflexive (related xs at)) xs fits i b ys l w t, among-iff 128 (i + 1) .1 (omega arith), eqb-swap b (i + 1), place i)
       (or-comm (member xs (at + 16 * i) b) (eqb (i + 1) b))
 
--- a row is stepped by uniting it where it has the role, and else by nothing
-module _ (xs other : List ℕ) (at k : ℕ) (fits : at + 16 ≤ length xs) where
-  has : (b : Bool) → b ≡ (whole xs at && member xs at k) → member xs at k ≡ b
-  has b e = sym (e ∙ rw (whole-true xs at fits))
-
-  pub step-taken : (ys : List ℕ) (b : Bool) → b ≡ (whole xs at && member xs at k) → b ≡ true → Placed at (united xs at other) xs ys → Placed at (stepped xs at k other) xs ys
-  step-taken ys b e t p = placed-as (λ r. rw (has b e, t)) p
-
-  pub step-left : (b : Bool) → b ≡ (whole xs at && member xs at k) → b ≡ false → Placed at (stepped xs at k other) xs xs
-  step-left b e f = unwritten (λ l r. rw (has b e, f) (sym (or-false (member xs at r))))
-
 -- a round of closing
 module _ (at : ℕ) (xs : List ℕ) (fits : at + 2048 ≤ length xs) where
   abbrev e : Relation
@@ -76,7 +65,7 @@ module _ (at : ℕ) (xs : List ℕ) (fits : at + 2048 ≤ length xs) where
   -- what a turn of it makes of the row of thing i + 1, given the row `other` of thing k + 1
   pub round-row : (k i b : ℕ) (ys other : List ℕ) → k < 128 → i < 128 → Among 128 b → Tabled at i (round e (k + 1)) xs ys
       → ((r : ℕ) → member other 0 r ≡ (whole xs (at + 16 * k) && member xs (at + 16 * k) r))
-      → stepped ys (at + 16 * i) (k + 1) other b ≡ round e (k + 1) (i + 1) b
+      → unitedWhere ys (at + 16 * i) (k + 1) other b ≡ round e (k + 1) (i + 1) b
   round-row k i b ys other lk li w t o =
       rw (
         seat-left at (round e (k + 1)) xs fits i b ys li w t,

@@ -37,10 +37,6 @@ reflexive e a b = eqb a b || e a b
 abbrev pub related : List ℕ → ℕ → Relation
 related xs at a b = member xs (at + 16 * (a - 1)) b
 
--- the row at `at` with the roles of another, where it has role k
-abbrev pub stepped : List ℕ → ℕ → ℕ → List ℕ → ℕ → Bool
-stepped xs at k other r = member xs at r || (member xs at k && member other 0 r)
-
 -- ys is xs with the rows 1 to n of the table at `at` as h says, and nothing else changed; a table that does not lie wholly in xs is left alone
 pub record Tabled (at n : ℕ) (h : Relation) (xs ys : List ℕ) : Type 0 where
   pub rows : at + 2048 ≤ length xs → Rows 128 n h (related xs at) (related ys at)

@@ -108,9 +108,9 @@ pub fn greatest_lower(t: &[[bool; 32]; 32], n: usize, s: [bool; 32]) -> usize
 }
 
 // The column of thing j + 1.
-fn column(t: [[bool; 32]; 32], j: usize) -> [bool; 32]
+fn column(t: &[[bool; 32]; 32], j: usize) -> [bool; 32]
     requires { ⌜ j < 32 ⌝ }
-    ensures { λ r. ⌜ ((a : ℕ) → Among 32 a → marks r a ≡ mark t a (j + 1)) ⌝ }
+    ensures { λ r. ⌜ ((a : ℕ) → Among 32 a → marks r a ≡ mark (now (t .entry)) a (j + 1)) ⌝ }
 {
     let mut r = [false; 32];
     let mut i = 0;
@@ -128,7 +128,7 @@ pub fn turned(t: [[bool; 32]; 32]) -> [[bool; 32]; 32]
     let mut r = t;
     let mut j = 0;
     while j < 32 {
-        r[j] = column(t, j);
+        r[j] = column(&t, j);
         j += 1;
     }
     r

@@ -7,20 +7,8 @@ ghost use mathlib.Core.Bool.{cond};
 ghost use Prim.Native.Nat.{ℕ, _+_, _*_, _≤_, _<_, min};
 ghost use lib.Dec.{leb};
 ghost use lib.ListN.{length};
-ghost use Rattle.search.specs.Search.{Among};
-ghost use Rattle.roleset.specs.Row.{Placed};
 ghost use Rattle.order.specs.Closure.{path, loop};
-ghost use Rattle.order.specs.Table.{related, stepped, round, reflexive, Tabled};
-
-// The row with the roles of another, where it has role k.
-fn step(s: &mut [u8], at: usize, k: usize, other: [u8; 16])
-    requires { ⌜ (at + 16 ≤ length (now s)) × Among 128 k ⌝ }
-    ensures { λ _. ⌜ Placed at (stepped (now (s .entry)) at k other) (now (s .entry)) (now (s .exit)) ⌝ }
-{
-    if roleset::has(s, at, k) {
-        roleset::unite(s, at, other);
-    }
-}
+ghost use Rattle.order.specs.Table.{related, round, reflexive, Tabled};
 
 // One round of closing: in the first n rows, the paths past role k + 1 too.
 fn pass(s: &mut [u8], at: usize, k: usize, n: usize)
@@ -30,7 +18,7 @@ fn pass(s: &mut [u8], at: usize, k: usize, n: usize)
     let other = roleset::row(s, at + 16 * k);
     let mut i = 0;
     while i < n {
-        step(s, at + 16 * i, k + 1, other);
+        roleset::unite_where(s, at + 16 * i, k + 1, other);
         i += 1;
     }
 }

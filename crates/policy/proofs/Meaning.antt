@@ -1,22 +1,25 @@
 -- What a state's tables say, where they describe a well-formed file, is what the file says: counts, dominance, role flow. Assumes nothing.
 use Prim.Native.Nat.{ℕ, _≤_, min}
 use mathlib.Core.Path.{_≡_, refl, sym, ap, _∙_}
-use mathlib.Core.Logic.{_⊎_}
+use mathlib.Core.Logic.{_↔_, _⊎_}
 use mathlib.Core.List.{List}
 use mathlib.Core.Bool.{Bool, true, false, not, _&&_}
 use native.Mathlib.Omega.{arith}
 use lib.Dec.{eqb}
+use borrow.Author.Tests.{eq-eqb}
 use Rattle.search.specs.Search.{Among, some}
-use Rattle.search.proofs.Found.{some-agree}
+use Rattle.search.proofs.Truth.{untrue, both}
+use Rattle.search.proofs.Found.{some-agree, first-none}
 use Rattle.roleset.specs.Row.{member}
-use Rattle.order.specs.Closure.{circle}
-use Rattle.order.proofs.Closure.{circle-agree}
+use Rattle.order.specs.Closure.{path, circle, OnCircle}
+use Rattle.order.proofs.Closure.{circle-finds, circle-lowest, circle-agree}
 use Rattle.rolefile.specs.Form.{header}
 use Rattle.rolefile.specs.Said.{labels, roles, users, cards, over}
 use Rattle.rolefile.specs.WellFormed.{GoodCounts, WellFormed}
 use Rattle.policy.specs.Policy.{dominates, may}
 use Rattle.policy.specs.Flow.{flows, flowCircle}
-use Rattle.policy.specs.Tables.{readersAt, writersAt, rowOf, word, marked, flowing, rolesIn, cardsIn}
+use Rattle.policy.specs.Tables.{readersAt, writersAt, rowOf, word, marked, flowing, rolesUpTo, cardsUpTo}
+use Rattle.policy.specs.Accepted.{LowestOnCircle}
 use Rattle.policy.specs.Image.{Describes}
 use Rattle.policy.proofs.Inside.{over-between}
 use Rattle.policy.proofs.Assigning.{marked-is}
@@ -31,13 +34,13 @@ module _ (f : List ℕ) (form : WellFormed f) where
 
     -- ---- "Role flow"
 
-    pub roles-file : rolesIn xs ≡ roles f
+    pub roles-file : rolesUpTo xs ≡ roles f
     roles-file = let c = counts-known in let e = tables .counted .roles in omega (arith, c .roles)
 
-    pub cards-file : cardsIn xs ≡ cards f
+    pub cards-file : cardsUpTo xs ≡ cards f
     cards-file = let c = counts-known in let e = tables .counted .cards in omega (arith, c .cards)
 
-    pub flow-file : (r q : ℕ) → Among 128 r → Among 128 q → flowing xs (cardsIn xs) r q ≡ flows f r q
+    pub flow-file : (r q : ℕ) → Among 128 r → Among 128 q → flowing xs (cardsUpTo xs) r q ≡ flows f r q
     unfolding flowing flows
     flow-file r q v w = rw cards-file (ap (λ (b : Bool). not (eqb r q) && b)
         (some-agree (λ o. member xs (rowOf writersAt o) r && member xs (rowOf readersAt o) q) (λ o. may f 2 r o && may f 1 q o) (cards f)
@@ -46,7 +49,41 @@ module _ (f : List ℕ) (form : WellFormed f) where
         let j : Among 512 o = omega arith in
         rw (tables .permitting .writers o r j v, tables .permitting .readers o q j w))))
 
-    pub circle-file : circle (rolesIn xs) (flowing xs (cardsIn xs)) ≡ flowCircle f
+    pub circle-file : circle (rolesUpTo xs) (flowing xs (cardsUpTo xs)) ≡ flowCircle f
     unfolding flowCircle
-    circle-file = rw roles-file (circle-agree (roles f) 128 (flowing xs (cardsIn xs)) (flows f) (counts-known .roles)
+    circle-file = rw roles-file (circle-agree (roles f) 128 (flowing xs (cardsUpTo xs)) (flows f) (counts-known .roles)
         (λ r q v w. let few = counts-known .roles in flow-file r q (omega arith) w))
+
+-- ---- the circle as a property: "the lowest role on a circle of two or more roles, or 0"
+
+module _ (f : List ℕ) where
+  -- no role flows to itself, so a circle has two roles or more
+  pub flows-apart : (r : ℕ) → flows f r r ≡ false
+  unfolding flows
+  flows-apart r = rw (eq-eqb r r refl)
+
+  pub flow-circle-iff : (a : ℕ) → 1 ≤ a → (flowCircle f ≡ a) ↔ LowestOnCircle (roles f) (flows f) a
+  unfolding flowCircle
+  flow-circle-iff a l = (
+    λ e.
+        let low = circle-lowest (flows f) (roles f) a l .0 e in
+        record {
+          inside = low .inside;
+          circle = circle-finds (flows f) (roles f) a (low .inside) .0 (low .holds);
+          lower = λ b w k on. both (circle-finds (flows f) (roles f) b w .1 on) (low .lower b w k);
+        },
+    λ low.
+        circle-lowest (flows f) (roles f) a l .1 (record {
+          inside = low .inside;
+          holds = circle-finds (flows f) (roles f) a (low .inside) .1 (low .circle);
+          lower = λ b w k. untrue (path (roles f) (flows f) b b) (λ e. low .lower b w k (circle-finds (flows f) (roles f) b w .0 e));
+        }),
+  )
+
+  pub no-circle-iff : (flowCircle f ≡ 0) ↔ ((a : ℕ) → Among (roles f) a → OnCircle (roles f) (flows f) a → ⊥)
+  unfolding flowCircle
+  no-circle-iff =
+      let found = first-none (λ a. path (roles f) (flows f) a a) (roles f) in (
+        λ e a w on. both (circle-finds (flows f) (roles f) a w .1 on) (found .0 e a w),
+        λ h. found .1 (λ a w. untrue (path (roles f) (flows f) a a) (λ e. h a w (circle-finds (flows f) (roles f) a w .0 e))),
+      )

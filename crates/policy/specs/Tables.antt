@@ -117,11 +117,11 @@ unfoldable pub flowing : List ℕ → ℕ → Relation
 flowing xs n r q = not (eqb r q) && some n (λ o. member xs (rowOf writersAt o) r && member xs (rowOf readersAt o) q)
 
 -- the counts that a state holds, none above its limit
-abbrev pub rolesIn : List ℕ → ℕ
-rolesIn xs = min (word xs 2) 128
+abbrev pub rolesUpTo : List ℕ → ℕ
+rolesUpTo xs = min (word xs 2) 128
 
-abbrev pub cardsIn : List ℕ → ℕ
-cardsIn xs = min (word xs 6) 512
+abbrev pub cardsUpTo : List ℕ → ℕ
+cardsUpTo xs = min (word xs 6) 512
 
 -- a whole state
 abbrev pub isState : List ℕ → Bool

@@ -10,7 +10,7 @@ ghost use Rattle.search.specs.Search.{among, some, Among};
 ghost use Rattle.roleset.specs.Row.{member, Placed};
 ghost use Rattle.order.specs.Closure.{circle};
 ghost use Rattle.order.specs.Table.{related, Tabled};
-ghost use Rattle.policy.specs.Tables.{word, byteOf, rowOf, rLevelsAt, wLevelsAt, readersAt, writersAt, flowing, rolesIn, cardsIn, isState};
+ghost use Rattle.policy.specs.Tables.{word, byteOf, rowOf, rLevelsAt, wLevelsAt, readersAt, writersAt, flowing, rolesUpTo, cardsUpTo, isState};
 
 // The number in two bytes, the lower first.
 fn word(s: &[u8], at: usize) -> usize
@@ -22,7 +22,7 @@ fn word(s: &[u8], at: usize) -> usize
 
 // How many roles the state holds.
 pub fn roles(s: &[u8]) -> usize
-    ensures { λ r. ⌜ r ≡ cond (isState (now (s .entry))) (rolesIn (now (s .entry))) 0 ⌝ }
+    ensures { λ r. ⌜ r ≡ cond (isState (now (s .entry))) (rolesUpTo (now (s .entry))) 0 ⌝ }
 {
     if s.len() < 65536 {
         return 0;
@@ -32,7 +32,7 @@ pub fn roles(s: &[u8]) -> usize
 
 // How many cards the state holds.
 pub fn cards(s: &[u8]) -> usize
-    ensures { λ r. ⌜ r ≡ cond (isState (now (s .entry))) (cardsIn (now (s .entry))) 0 ⌝ }
+    ensures { λ r. ⌜ r ≡ cond (isState (now (s .entry))) (cardsUpTo (now (s .entry))) 0 ⌝ }
 {
     if s.len() < 65536 {
         return 0;
@@ -81,7 +81,7 @@ fn passes(s: &[u8], o: usize, from: usize, to: usize) -> bool
 
 // Whether role `from` flows to role `to`.
 pub fn flows(s: &[u8], from: usize, to: usize) -> bool
-    ensures { λ r. ⌜ r ≡ (isState (now (s .entry)) && flowing (now (s .entry)) (cardsIn (now (s .entry))) from to) ⌝ }
+    ensures { λ r. ⌜ r ≡ (isState (now (s .entry)) && flowing (now (s .entry)) (cardsUpTo (now (s .entry))) from to) ⌝ }
 {
     if s.len() < 65536 {
         return false;
@@ -151,7 +151,7 @@ fn part_from_self(t: &mut [u8])
 
 // The lowest role on a circle of flow, or 0.
 pub fn flow_circle(s: &[u8]) -> usize
-    ensures { λ r. ⌜ r ≡ cond (isState (now (s .entry))) (circle (rolesIn (now (s .entry))) (flowing (now (s .entry)) (cardsIn (now (s .entry))))) 0 ⌝ }
+    ensures { λ r. ⌜ r ≡ cond (isState (now (s .entry))) (circle (rolesUpTo (now (s .entry))) (flowing (now (s .entry)) (cardsUpTo (now (s .entry))))) 0 ⌝ }
 {
     if s.len() < 65536 {
         return 0;

@@ -6,7 +6,7 @@ use mathlib.Core.Bool.{_&&_, cond}
 use lib.Dec.{leb}
 use Rattle.search.specs.Search.{among}
 use Rattle.rolefile.specs.Decimal.{blanks, columnsOf}
-use Rattle.policy.specs.Tables.{byteOf, rLevelsAt, wLevelsAt, flowing, rolesIn, cardsIn, isState}
+use Rattle.policy.specs.Tables.{byteOf, rLevelsAt, wLevelsAt, flowing, rolesUpTo, cardsUpTo, isState}
 
 -- a line: the byte of its letter, as many of three numbers as are in use, a field without use, and byte 10
 unfoldable pub line : ℕ → ℕ → ℕ → ℕ → ℕ → List ℕ
@@ -25,7 +25,7 @@ roleLines xs (suc n) = roleLines xs n ++ line 82 3 (suc n) (levelIn xs rLevelsAt
 
 -- the line F from a role to another, where the first flows to the second; 70 is the byte of F
 unfoldable pub flowLine : List ℕ → ℕ → ℕ → List ℕ
-flowLine xs from to = cond (isState xs && flowing xs (cardsIn xs) from to) (line 70 2 from to 0) []
+flowLine xs from to = cond (isState xs && flowing xs (cardsUpTo xs) from to) (line 70 2 from to 0) []
 
 -- those from a role to the first n roles
 unfoldable pub flowLines : List ℕ → ℕ → ℕ → List ℕ
@@ -34,4 +34,4 @@ flowLines xs from (suc n) = flowLines xs from n ++ flowLine xs from (suc n)
 
 -- how many roles the state holds
 abbrev pub roleCount : List ℕ → ℕ
-roleCount xs = cond (isState xs) (rolesIn xs) 0
+roleCount xs = cond (isState xs) (rolesUpTo xs) 0

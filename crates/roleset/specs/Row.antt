@@ -36,6 +36,10 @@ removed xs at role r = member xs at r && not (eqb r role)
 abbrev pub united : List ℕ → ℕ → List ℕ → ℕ → Bool
 united xs at other r = member xs at r || member other 0 r
 
+-- with another's roles where it holds the role k
+abbrev pub unitedWhere : List ℕ → ℕ → ℕ → List ℕ → ℕ → Bool
+unitedWhere xs at k other r = member xs at r || (member xs at k && member other 0 r)
+
 abbrev pub joined : List ℕ → ℕ → ℕ → ℕ → Bool
 joined xs into from r = member xs into r || (whole xs from && member xs from r)
 

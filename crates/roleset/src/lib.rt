@@ -7,7 +7,7 @@ mod inner;
 ghost use mathlib.Core.Path.{_≡_};
 ghost use mathlib.Core.Bool.{false, _&&_};
 ghost use Prim.Native.Nat.{ℕ};
-ghost use Rattle.roleset.specs.Row.{whole, member, common, Placed, added, removed, united, joined};
+ghost use Rattle.roleset.specs.Row.{whole, member, common, Placed, added, removed, united, unitedWhere, joined};
 
 // Whether the row at `at` holds the role.
 pub fn has(s: &[u8], at: usize, role: usize) -> bool
@@ -68,6 +68,15 @@ pub fn unite(s: &mut [u8], at: usize, other: [u8; 16])
     ensures { λ _. ⌜ Placed at (united (now (s .entry)) at other) (now (s .entry)) (now (s .exit)) ⌝ }
 {
     if inner::lies(s.len(), at) {
+        inner::unite(s, at, other);
+    }
+}
+
+// The same where the row at `at` holds the role.
+pub fn unite_where(s: &mut [u8], at: usize, role: usize, other: [u8; 16])
+    ensures { λ _. ⌜ Placed at (unitedWhere (now (s .entry)) at role other) (now (s .entry)) (now (s .exit)) ⌝ }
+{
+    if has(s, at, role) {
         inner::unite(s, at, other);
     }
 }

@@ -2,7 +2,7 @@
 
 use crate::calls::{run, Arguments, Kind};
 use crate::draw::Draw;
-use crate::files::{self, RoleFile};
+use crate::files::RoleFile;
 use crate::monitor::Buffers;
 use crate::plain::{self, Plain};
 use crate::seats::Seats;
@@ -14,7 +14,6 @@ const BATCH: usize = 1024;
 /// A batch of calls of one kind that all get the same answer.
 pub struct Case {
     pub what: &'static str,
-    pub file: fn() -> RoleFile,
     pub seats: Seats,
     pub kind: Kind,
     /// The number, or a report's figure.
@@ -22,7 +21,7 @@ pub struct Case {
     draw: fn(&mut Draw) -> Arguments,
 }
 
-const fn case(
+pub const fn case(
     what: &'static str,
     seats: Seats,
     kind: Kind,
@@ -31,7 +30,6 @@ const fn case(
 ) -> Case {
     Case {
         what,
-        file: files::largest,
         seats,
         kind,
         answer,
@@ -39,13 +37,7 @@ const fn case(
     }
 }
 
-const fn flowing(case: Case) -> Case {
-    Case {
-        file: files::flowing,
-        ..case
-    }
-}
-
+/// At the largest counts.
 #[rustfmt::skip]
 pub const CASES: &[Case] = &[
     case("open and close in turn", Empty, Kind::OpenClose, 0, Draw::opening),
@@ -79,22 +71,27 @@ pub const CASES: &[Case] = &[
     case("write of 8 bytes", Holding(16), Kind::Write, 29, Draw::part),
     case("write of 8 bytes", Holding(128), Kind::Write, 29, Draw::part),
     case("flows, after 512 cards", Empty, Kind::Flows, 0, Draw::two_roles),
-    flowing(case("flows, by card 512", Empty, Kind::Flows, 1, Draw::two_roles)),
     case("circle, no flow", Empty, Kind::Circle, 0, Draw::two_roles),
-    flowing(case("circle", Empty, Kind::Circle, 17, Draw::two_roles)),
+];
+
+/// With the file that has flows.
+#[rustfmt::skip]
+pub const FLOWING: &[Case] = &[
+    case("flows, by card 512", Empty, Kind::Flows, 1, Draw::two_roles),
+    case("circle", Empty, Kind::Circle, 17, Draw::two_roles),
 ];
 
 impl Case {
     /// The arguments drawn that get the answer.
-    pub fn batch(&self) -> Vec<Arguments> {
+    pub fn batch(&self, file: &RoleFile) -> Vec<Arguments> {
         if self.kind == Kind::Circle {
             return vec![[0; 4]];
         }
         let mut buffers = Buffers::zeroed();
-        plain::load(&(self.file)().bytes(), &mut buffers.state);
+        plain::load(&file.bytes(), &mut buffers.state);
         let mut plain = Plain::over(buffers.lend());
         self.seats.take(&mut plain);
-        let mut draw = Draw::new(self.seats.held());
+        let mut draw = Draw::new(file.counts, self.seats.held());
         let mut batch = Vec::new();
         while batch.len() < BATCH {
             let arguments = (self.draw)(&mut draw);

@@ -6,15 +6,23 @@ use crate::seats::roles_held;
 pub struct Draw {
     number: u64,
     turn: u16,
+    roles: u16,
+    users: u16,
+    cards: u16,
     /// How many roles each place holds.
     held: u16,
 }
 
 impl Draw {
-    pub fn new(held: u16) -> Draw {
+    /// Draws within the counts of a file.
+    pub fn new(counts: [usize; 4], held: u16) -> Draw {
+        let [_, roles, users, cards] = counts.map(|count| count as u16);
         Draw {
             number: 0x9e37_79b9_7f4a_7c15,
             turn: 0,
+            roles,
+            users,
+            cards,
             held,
         }
     }
@@ -38,16 +46,26 @@ impl Draw {
 
     /// A user and a label that every clearance dominates.
     pub fn opening(&mut self) -> Arguments {
-        [self.place(), self.between(1, 256), self.between(1, 29), 0]
+        [
+            self.place(),
+            self.between(1, self.users),
+            self.between(1, 29),
+            0,
+        ]
     }
 
     /// A user and a label that no clearance dominates.
     pub fn high_opening(&mut self) -> Arguments {
-        [self.place(), self.between(1, 256), self.between(30, 32), 0]
+        [
+            self.place(),
+            self.between(1, self.users),
+            self.between(30, 32),
+            0,
+        ]
     }
 
     pub fn role(&mut self) -> Arguments {
-        [self.place(), self.between(1, 128), 0, 0]
+        [self.place(), self.between(1, self.roles), 0, 0]
     }
 
     pub fn role_held(&mut self) -> Arguments {
@@ -59,23 +77,36 @@ impl Draw {
     pub fn role_not_held(&mut self) -> Arguments {
         let place = self.place();
         let held = roles_held(self.held, place);
-        let free: Vec<u16> = (1..=128).filter(|role| !held.contains(role)).collect();
-        [place, free[self.between(0, 127 - self.held) as usize], 0, 0]
+        let free: Vec<u16> = (1..=self.roles)
+            .filter(|role| !held.contains(role))
+            .collect();
+        [
+            place,
+            free[self.between(1, free.len() as u16) as usize - 1],
+            0,
+            0,
+        ]
     }
 
     /// A number that is no role's.
     pub fn no_role(&mut self) -> Arguments {
-        [self.place(), self.between(129, 999), 0, 0]
+        [self.place(), self.between(self.roles + 1, 999), 0, 0]
     }
 
     /// Eight bytes of a card.
     pub fn part(&mut self) -> Arguments {
-        [self.place(), self.between(1, 512), self.between(0, 56), 8]
+        [
+            self.place(),
+            self.between(1, self.cards),
+            self.between(0, 56),
+            8,
+        ]
     }
 
     /// Two different roles.
     pub fn two_roles(&mut self) -> Arguments {
-        let from = self.between(1, 128);
-        [from, 1 + (from - 1 + self.between(1, 127)) % 128, 0, 0]
+        let from = self.between(1, self.roles);
+        let step = self.between(1, self.roles - 1);
+        [from, 1 + (from - 1 + step) % self.roles, 0, 0]
     }
 }

@@ -1,5 +1,7 @@
 //! Role files: the largest one, edits of it that are refused, and small ones.
 
+use crate::sizes::LARGEST;
+
 /// The lines of a role file by their letters.
 #[derive(Clone)]
 pub struct RoleFile {
@@ -45,6 +47,16 @@ impl RoleFile {
         bytes
     }
 
+    /// How many lines it has.
+    pub fn lines(&self) -> usize {
+        1 + self.dominance.len()
+            + self.seniority.len()
+            + self.clearances.len()
+            + self.card_labels.len()
+            + self.permissions.len()
+            + self.assignments.len()
+    }
+
     /// The bytes after an edit.
     fn edited(&self, edit: impl FnOnce(&mut RoleFile)) -> Vec<u8> {
         let mut file = self.clone();
@@ -54,44 +66,8 @@ impl RoleFile {
 }
 
 /// The largest counts and 2,900 lines, accepted.
-///
-/// Labels 1 to 28 are a tree that grows upward, 29 is over its leaves, 31 and 32 over 29, and 30
-/// over both. Roles are a chain with shortcuts. Roles read in the tree and write above it, and
-/// every user is cleared to 29, so each assignment passes.
 pub fn largest() -> RoleFile {
-    let mut dominance: Vec<_> = (2..=28).map(|a| [a, a / 2]).collect();
-    dominance.extend((15..=28).map(|leaf| [29, leaf]));
-    dominance.extend([[30, 31], [30, 32], [31, 29], [32, 29]]);
-
-    let mut seniority: Vec<_> = (2..=128).map(|r| [r, r - 1]).collect();
-    seniority.extend((3..=128).map(|r| [r, r / 2]));
-
-    let mut permissions = Vec::new();
-    for r in 1..=128 {
-        let reads = if r <= 41 { 8 } else { 7 };
-        permissions.extend((0..reads).map(|j| [r, 1 + (37 * r + 56 * j) % 448, 1]));
-        permissions.extend((0..3).map(|j| [r, 449 + (5 * r + 21 * j) % 64, 2]));
-    }
-
-    let mut assignments = Vec::new();
-    for u in 1..=256 {
-        assignments.extend([[u, 1 + 3 * u % 128], [u, 1 + (3 * u + 64) % 128]]);
-    }
-
-    seniority.sort_unstable();
-    permissions.sort_unstable();
-    assignments.sort_unstable();
-    RoleFile {
-        counts: [32, 128, 256, 512],
-        dominance,
-        seniority,
-        clearances: (1..=256).map(|u| [u, 29]).collect(),
-        card_labels: (1..=512)
-            .map(|o| [o, if o <= 448 { 1 + o % 28 } else { 29 + o % 4 }])
-            .collect(),
-        permissions,
-        assignments,
-    }
+    LARGEST.file()
 }
 
 /// The largest file, but role 1 reads the last card: so do its seniors, which is all roles, and each

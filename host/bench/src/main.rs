@@ -1,24 +1,66 @@
 //! Times of the proved monitor beside plain Rust and a simple version.
 
+mod call_rows;
 mod calls;
 mod cases;
 mod draw;
 mod files;
+mod growth;
+mod growth_table;
+mod load_rows;
 mod loads;
 mod monitor;
 mod plain;
+mod plot;
 mod proved;
 mod seats;
-mod sessions;
 mod simple;
+mod sizes;
+mod table;
 mod timing;
 mod verdict;
+mod versions;
+
+use growth::{Point, Way, WAYS};
+use std::env::args;
+
+const ROUNDS: usize = 2000;
+
+fn report_growth(rounds: usize) -> Vec<(Way, Vec<Point>)> {
+    println!("growth, {rounds} rounds, least of rounds");
+    println!("{}", growth_table::HEADINGS);
+    let report = |way: Way| {
+        let points = growth::measure(&way, rounds);
+        growth_table::print(&way, &points);
+        (way, points)
+    };
+    WAYS.map(report).into()
+}
+
+fn report(rounds: usize) {
+    println!("{rounds} rounds, times in nanoseconds");
+    println!("{}", table::HEADINGS);
+    load_rows::report(rounds);
+    call_rows::report(rounds);
+    println!();
+    report_growth(rounds);
+}
+
+/// Writes the plot of growth.
+fn report_plot(file: &str, rounds: usize) {
+    let svg = plot::svg(&report_growth(rounds));
+    std::fs::write(file, svg).expect("the plot is written");
+}
 
 fn main() {
-    let rounds = std::env::args()
-        .nth(1)
-        .map_or(2000, |text| text.parse().expect("a count of rounds"));
-    loads::report(rounds);
-    println!();
-    sessions::report(rounds);
+    let arguments: Vec<String> = args().skip(1).collect();
+    let arguments: Vec<&str> = arguments.iter().map(String::as_str).collect();
+    let rounds = |text: &str| text.parse().expect("a count of rounds");
+    match arguments[..] {
+        [] => report(ROUNDS),
+        ["--plot", file] => report_plot(file, ROUNDS),
+        ["--plot", file, text] => report_plot(file, rounds(text)),
+        [text] => report(rounds(text)),
+        _ => panic!("give [ROUNDS] or --plot FILE [ROUNDS]"),
+    }
 }

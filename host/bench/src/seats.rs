@@ -11,6 +11,8 @@ pub enum Seats {
     Low,
     /// A session at label 29 with so many roles.
     Holding(u16),
+    /// A session at label 29 with all roles that its user may take, by these counts.
+    Entitled { users: u16, roles: u16 },
 }
 
 /// Users that may take every role: they are assigned to role 128, the senior of all.
@@ -34,21 +36,37 @@ impl Seats {
         }
     }
 
+    /// The user at a place, the label and the roles to take; none without a session.
+    fn at(self, place: u16) -> Option<(u16, u64, Vec<u16>)> {
+        match self {
+            Seats::Empty => None,
+            Seats::Low => Some((place, 11, vec![])),
+            Seats::Holding(held) => {
+                let all = held == 128;
+                let user = if all {
+                    OF_ALL_ROLES[place as usize % 4]
+                } else {
+                    place
+                };
+                Some((user, 29, roles_held(held, place)))
+            }
+            Seats::Entitled { users, roles } => {
+                Some((1 + place % users, 29, (1..=roles).collect()))
+            }
+        }
+    }
+
     /// Opens the sessions and takes their roles.
     pub fn take(self, monitor: &mut impl Monitor) {
         for place in 1..=64u16 {
-            let user = match self {
-                Seats::Holding(128) => OF_ALL_ROLES[place as usize % 4],
-                _ => place,
-            };
-            let (label, roles) = match self {
-                Seats::Empty => continue,
-                Seats::Low => (11, vec![]),
-                Seats::Holding(held) => (29, roles_held(held, place)),
+            let Some((user, label, roles)) = self.at(place) else {
+                continue;
             };
             assert_eq!(monitor.open(place.into(), user.into(), label), 0);
             for role in roles {
-                assert_eq!(monitor.take(place.into(), role.into()), 0);
+                let answer = monitor.take(place.into(), role.into());
+                let refusable = matches!(self, Seats::Entitled { .. });
+                assert!(answer == 0 || refusable && answer == 27);
             }
         }
     }

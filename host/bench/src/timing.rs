@@ -1,11 +1,7 @@
-//! Times of loads, one call a sample, the two loads in turn.
+//! Times of the three versions, in nanoseconds.
 
-use crate::plain::STATE;
-use crate::verdict::Verdict;
-use std::hint::black_box;
-use std::time::Instant;
-
-pub type Load = fn(&[u8], &mut [u8]) -> Verdict;
+/// The simple version is slow: it has a sample in one of so many rounds.
+pub const SIMPLE_PART: usize = 16;
 
 /// The median and the least of samples.
 #[derive(Clone, Copy)]
@@ -19,30 +15,47 @@ impl Times {
         median: 0.0,
         least: 0.0,
     };
+
+    fn of(mut samples: Vec<f64>) -> Times {
+        samples.sort_unstable_by(f64::total_cmp);
+        Times {
+            median: samples[samples.len() / 2],
+            least: samples[0],
+        }
+    }
+
+    /// What this has over an earlier time.
+    pub fn over(self, earlier: Times) -> Times {
+        Times {
+            median: self.median - earlier.median,
+            least: self.least - earlier.least,
+        }
+    }
 }
 
-/// Each file's times by each load, in microseconds. A round has every file once with every load, so that a busy
-/// machine slows all alike.
-pub fn measure(loads: [Load; 2], files: &[&[u8]], rounds: usize) -> Vec<[Times; 2]> {
-    let mut state = vec![0u8; STATE];
-    let mut samples = vec![[Vec::new(), Vec::new()]; files.len()];
-    for _ in 0..rounds {
-        for (file, samples) in files.iter().zip(&mut samples) {
-            for (load, samples) in loads.iter().zip(samples) {
-                let start = Instant::now();
-                black_box(load(black_box(file), black_box(&mut state)));
-                samples.push(start.elapsed().as_nanos() as f64 / 1000.0);
+/// Of proved, plain and simple.
+pub type Three<T> = [T; 3];
+
+/// The samples of versions in this order: proved, plain, simple.
+#[derive(Clone)]
+pub struct Samples<const N: usize>([Vec<f64>; N]);
+
+impl<const N: usize> Samples<N> {
+    pub fn none() -> Samples<N> {
+        Samples(std::array::from_fn(|_| Vec::new()))
+    }
+
+    /// Adds what each version takes in this round, one after the other, so that a busy machine slows
+    /// all alike.
+    pub fn add(&mut self, round: usize, mut sample: impl FnMut(usize) -> f64) {
+        for (version, samples) in self.0.iter_mut().enumerate() {
+            if version < 2 || round.is_multiple_of(SIMPLE_PART) {
+                samples.push(sample(version));
             }
         }
     }
-    samples.into_iter().map(|pair| pair.map(times)).collect()
-}
 
-/// The median and the least.
-pub fn times(mut samples: Vec<f64>) -> Times {
-    samples.sort_unstable_by(f64::total_cmp);
-    Times {
-        median: samples[samples.len() / 2],
-        least: samples[0],
+    pub fn times(self) -> [Times; N] {
+        self.0.map(Times::of)
     }
 }

@@ -10,10 +10,10 @@ use Rattle.order.proofs.bounds.column.Statement.{statement}
 use Rattle.order.proofs.bounds.column.Tie as tie
 
 abbrev Inv-loop : tie.InvT-loop
-Inv-loop j t r₀ i₀ r i = (i ≤ 32) × (length r ≡ 32) × Upto i (λ a. mark t a (j + 1)) r
+Inv-loop t j r₀ i₀ r i = (i ≤ 32) × (length r ≡ 32) × Upto i (λ a. mark t a (j + 1)) r
 
 abbrev μ-loop : tie.MeasureT-loop
-μ-loop j t r₀ i₀ r i = 32 - i
+μ-loop t j r₀ i₀ r i = 32 - i
 
 loop-again : tie.Need-loop-again Inv-loop μ-loop
 loop-again c =

@@ -19,7 +19,7 @@ abbrev μ-loop : tie.MeasureT-loop
 
 loop-again : tie.Need-loop-again Inv-loop μ-loop
 loop-again c =
-    let w = c .before .before .loop in (
+    let w = c .before .before .before .loop in (
       search needs,
       search needs,
       rows-more 32 _ _ (w .j) _ _ (search needs) (w .inv .2) (set-row _ (w .r) (w .j) (c .column .result) (search needs) (c .column .ensures)),

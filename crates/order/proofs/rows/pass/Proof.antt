@@ -27,7 +27,7 @@ loop-again c =
     let t = w .inv .2 in (
       search needs,
       search needs,
-      seats-more (a .at) _ xs (search needs) (w .i) _ (w .s) _ (search needs) (w .inv .1) t (c .before .before .step .ensures)
+      seats-more (a .at) _ xs (search needs) (w .i) _ (w .s) _ (search needs) (w .inv .1) t (c .before .before .unite-where .ensures)
           (λ b v. round-row (a .at) xs (search needs) (a .k) (w .i) b (w .s) _ (search needs) (search needs) v t (turn .before .row .ensures)),
     )
 

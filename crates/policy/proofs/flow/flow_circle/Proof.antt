@@ -4,7 +4,7 @@ use mathlib.Core.Path.{_≡_}
 use native.Mathlib.Omega.{arith}
 use borrow.Author.Needs.{needs}
 use denote.Ref.{now}
-use Rattle.policy.specs.Tables.{rolesIn, cardsIn}
+use Rattle.policy.specs.Tables.{rolesUpTo, cardsUpTo}
 use Rattle.policy.proofs.Flowing.{no-state, a-state, of-state, refused, answered, flow-circles}
 use Rattle.policy.proofs.flow.flow_circle.Statement.{statement}
 use Rattle.policy.proofs.flow.flow_circle.Tie as tie
@@ -13,10 +13,10 @@ returns : tie.Need-returns
 returns c = refused _ (no-state (now (c .before .before .args .s)) (search needs))
 
 -- the counts that the table is made by
-cards-are : (c : tie.After-cards) → c .cards .result ≡ cardsIn (now (c .before .before .before .before .args .s))
+cards-are : (c : tie.After-cards) → c .cards .result ≡ cardsUpTo (now (c .before .before .before .before .args .s))
 cards-are c = of-state (now (c .before .before .before .before .args .s)) (search needs) (c .cards .ensures)
 
-roles-are : (c : tie.After-cards) → min (c .before .roles .result) 128 ≡ rolesIn (now (c .before .before .before .before .args .s))
+roles-are : (c : tie.After-cards) → min (c .before .roles .result) 128 ≡ rolesUpTo (now (c .before .before .before .before .args .s))
 roles-are c = omega (arith, of-state (now (c .before .before .before .before .args .s)) (search needs) (c .before .roles .ensures))
 
 flow-table-requires : tie.Need-flow-table-requires

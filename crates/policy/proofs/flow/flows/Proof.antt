@@ -9,21 +9,21 @@ use borrow.Author.Needs.{needs}
 use denote.Ref.{now}
 use Rattle.search.specs.Search.{some}
 use Rattle.search.proofs.Found.{some-found, some-more, some-yet}
-use Rattle.policy.specs.Tables.{cardsIn, isState, stateSize, flowing}
+use Rattle.policy.specs.Tables.{cardsUpTo, isState, stateSize, flowing}
 use Rattle.policy.proofs.Flowing.{no-state, a-state, of-state, passing, flow-self, flow-other}
 use Rattle.policy.proofs.flow.flows.Statement.{statement}
 use Rattle.policy.proofs.flow.flows.Tie as tie
 
 abbrev Inv-loop : tie.InvT-loop
-Inv-loop s from to n o₀ o = (n ≡ cardsIn s) × (o ≤ n) × (some o (passing s from to) ≡ false)
+Inv-loop s from to n o₀ o = (n ≡ cardsUpTo s) × (o ≤ n) × (some o (passing s from to) ≡ false)
 
 abbrev μ-loop : tie.MeasureT-loop
 μ-loop s from to n o₀ o = n - o
 
 -- what is found in a state
 module _ (xs : List ℕ) (from to : ℕ) (whole : stateSize ≤ length xs) (b : Bool) where
-  found : (from ≡ to → ⊥) → b ≡ some (cardsIn xs) (passing xs from to) → b ≡ (isState xs && flowing xs (cardsIn xs) from to)
-  found ne e = rw (a-state xs whole, flow-other xs (cardsIn xs) from to ne) e
+  found : (from ≡ to → ⊥) → b ≡ some (cardsUpTo xs) (passing xs from to) → b ≡ (isState xs && flowing xs (cardsUpTo xs) from to)
+  found ne e = rw (a-state xs whole, flow-other xs (cardsUpTo xs) from to ne) e
 
 returns : tie.Need-returns Inv-loop μ-loop
 returns c = rw (no-state (now (c .before .before .args .s)) (search needs))
@@ -31,7 +31,7 @@ returns c = rw (no-state (now (c .before .before .args .s)) (search needs))
 returns-2 : tie.Need-returns-2 Inv-loop μ-loop
 returns-2 c =
     let a = c .before .before .before .args in
-    rw (a-state (now (a .s)) (search needs), flow-self (now (a .s)) (cardsIn (now (a .s))) (a .from) (a .to) (c .if2 .taken))
+    rw (a-state (now (a .s)) (search needs), flow-self (now (a .s)) (cardsUpTo (now (a .s))) (a .from) (a .to) (c .if2 .taken))
 
 loop-holds : tie.Need-loop-holds Inv-loop μ-loop
 loop-holds c =
@@ -44,7 +44,7 @@ returns-3 c =
     let a = turn .before .before .before .before .before .args in
     let w = turn .loop in
     found (now (a .s)) (a .from) (a .to) (search needs) _ (turn .before .before .if2 .left)
-    (some-found (passing (now (a .s)) (a .from) (a .to)) (cardsIn (now (a .s))) (w .o) (omega arith) (rw (c .before .passes .ensures) at (c .if3 .taken)))
+    (some-found (passing (now (a .s)) (a .from) (a .to)) (cardsUpTo (now (a .s))) (w .o) (omega arith) (rw (c .before .passes .ensures) at (c .if3 .taken)))
 
 loop-again : tie.Need-loop-again Inv-loop μ-loop
 loop-again c =
@@ -60,7 +60,7 @@ returns-4 : tie.Need-returns-4 Inv-loop μ-loop
 returns-4 c =
     let a = c .before .before .before .before .before .before .args in
     let w = c .before .loop in
-    let all : w .o ≡ cardsIn (now (a .s)) = omega arith in
+    let all : w .o ≡ cardsUpTo (now (a .s)) = omega arith in
     found (now (a .s)) (a .from) (a .to) (search needs) _ (c .before .before .before .if2 .left) (sym (rw all at (w .inv .2)))
 
 pub flows-spec : {M : Type 1} → statement M

@@ -8,17 +8,17 @@ use borrow.Author.Needs.{needs}
 use denote.Ref.{now}
 use lib.ListN.{take}
 use Rattle.search.proofs.Truth.{passed, failed}
-use Rattle.policy.specs.Tables.{isState, cardsIn, flowing}
+use Rattle.policy.specs.Tables.{isState, cardsUpTo, flowing}
 use Rattle.rolecheck.specs.Report.{line, flowLine}
 use Rattle.rolecheck.proofs.report.flow_line.Statement.{statement}
 use Rattle.rolecheck.proofs.report.flow_line.Tie as tie
 
 module _ (xs : List ℕ) (from to : ℕ) where
-  no-line : (isState xs && flowing xs (cardsIn xs) from to) ≡ false → flowLine xs from to ≡ []
+  no-line : (isState xs && flowing xs (cardsUpTo xs) from to) ≡ false → flowLine xs from to ≡ []
   unfolding flowLine
   no-line e = rw e
 
-  its-line : (isState xs && flowing xs (cardsIn xs) from to) ≡ true → line 70 2 from to 0 ≡ flowLine xs from to
+  its-line : (isState xs && flowing xs (cardsUpTo xs) from to) ≡ true → line 70 2 from to 0 ≡ flowLine xs from to
   unfolding flowLine
   its-line e = rw e
 

@@ -1,0 +1,77 @@
+//! The rows of loads.
+
+use crate::loads::{agree, measure, ALL, PROVED_AND_PLAIN};
+use crate::plain::STATE;
+use crate::table::Row;
+use crate::timing::{Three, Times};
+use crate::{files, proved};
+
+const EXAMPLE: &[u8] = include_bytes!("../../../examples/two-makers.role");
+
+fn print_load(what: &str, [proved, plain, simple]: Three<Times>) {
+    let row = Row {
+        proved,
+        plain,
+        simple: Some(simple),
+        held: None,
+        answer: Some(0),
+        what,
+    };
+    row.print();
+}
+
+/// Checks for accepted files that the loads agree, times them and prints the rows.
+fn report_accepted(rounds: usize) {
+    let (largest, smallest) = (files::largest().bytes(), files::smallest());
+    let names = [
+        "load of 2,900 lines",
+        "load of two-makers.role, 2,064 lines",
+        "load of one line",
+    ];
+    let files: [&[u8]; 3] = [&largest, EXAMPLE, &smallest];
+    files.iter().for_each(|file| agree(file, 0));
+    for (what, times) in names.iter().zip(measure(ALL, &files, rounds)) {
+        print_load(what, times);
+    }
+}
+
+/// Checks for the files of the stages that the loads agree, times proved and plain and prints the
+/// differences. A stage of the simple load is lost in the scatter of its times.
+fn report_stages(rounds: usize) {
+    let mut stages = files::stages();
+    stages.push(("assigned roles, and copying", 0, files::largest().bytes()));
+    for (_, number, file) in &stages {
+        agree(file, *number);
+    }
+    let files: Vec<&[u8]> = stages.iter().map(|(_, _, file)| file.as_slice()).collect();
+    let mut before = [Times::NONE; 2];
+    for ((what, ..), after) in stages.iter().zip(measure(PROVED_AND_PLAIN, &files, rounds)) {
+        let row = Row {
+            proved: after[0].over(before[0]),
+            plain: after[1].over(before[1]),
+            simple: None,
+            held: None,
+            answer: None,
+            what,
+        };
+        row.print();
+        before = after;
+    }
+}
+
+/// Checks that the loads agree on refused files.
+fn agree_on_refused() {
+    for (number, file) in files::refused() {
+        agree(&file, number);
+    }
+    let mut short = [0; STATE - 1];
+    assert_eq!(proved::load(&files::smallest(), &mut short).number, 7);
+}
+
+pub fn report(rounds: usize) {
+    agree_on_refused();
+    println!("loads");
+    report_accepted(rounds);
+    println!("stages of the 2,900 lines, as differences between files refused after each");
+    report_stages(rounds);
+}
