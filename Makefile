@@ -5,10 +5,13 @@ LISTS ?= 5000
 PAIRS ?= 20000
 MUTANTS ?= 80
 SEED ?= 7
+SECONDS ?= 60
+LONG_FILES ?= 1000000
+LONG_LISTS ?= 100000
 PREFIX ?= /usr/local
 ARCHIVE = target/staticlib/libmonitor.a
 
-.PHONY: help check test prove lib install differential lists pairs sanitize bench growth mutation kit
+.PHONY: help check test prove lib install differential lists pairs long fuzz sanitize bench growth mutation kit
 
 help:
 	@echo "make check FILE=F       check a role file: its verdict, levels, flow"
@@ -19,6 +22,8 @@ help:
 	@echo "make differential       COUNT=$(COUNT) random files against the second checker, from SEED=$(SEED)"
 	@echo "make lists              LISTS=$(LISTS) random call lists against the model, from SEED=$(SEED)"
 	@echo "make pairs              PAIRS=$(PAIRS) random pairs of runs side by side, from SEED=$(SEED)"
+	@echo "make long               LONG_FILES=$(LONG_FILES) files and LONG_LISTS=$(LONG_LISTS) call lists, from SEED=$(SEED)"
+	@echo "make fuzz               SECONDS=$(SECONDS) of coverage-guided fuzzing with AddressSanitizer"
 	@echo "make sanitize           the C test under AddressSanitizer and under valgrind"
 	@echo "make bench              times of loads and calls, and their growth, beside plain Rust and a simple version"
 	@echo "make growth             times of growth alone, with the plot docs/growth.svg"
@@ -56,6 +61,16 @@ lists: lib
 
 pairs: lib
 	MONITOR_LIB=$(CURDIR)/$(ARCHIVE) cargo run --release --offline --quiet --manifest-path host/monitor/Cargo.toml -- --pairs $(PAIRS) $(SEED)
+
+# The load of every file, and one of fifty through the checking program too.
+long: lib
+	rt check rolecheck >/dev/null
+	MONITOR_LIB=$(CURDIR)/$(ARCHIVE) cargo build --release --offline --quiet --manifest-path host/monitor/Cargo.toml
+	host/monitor/target/release/files $(LONG_FILES) $(SEED) target/bin/rolecheck 50
+	host/monitor/target/release/long $(LONG_LISTS) $(SEED)
+
+fuzz: kit
+	$(MAKE) -C host/fuzz run SECONDS=$(SECONDS) SEED=$(SEED)
 
 sanitize: lib
 	$(MAKE) -C host/c asan valgrind LIB=$(CURDIR)/$(ARCHIVE)

@@ -11,8 +11,8 @@ use std::collections::BTreeSet;
 /// The largest counts: labels, roles, users, cards.
 const LIMITS: [usize; 4] = [32, 128, 256, 512];
 
-/// The numbers a file's check can come to, acceptance and number 1 apart.
-pub const BENT_NUMBERS: [usize; 11] = [2, 3, 4, 5, 6, 11, 12, 13, 14, 15, 16];
+/// The numbers a file's check can come to, acceptance apart.
+pub const BENT_NUMBERS: [usize; 12] = [1, 2, 3, 4, 5, 6, 11, 12, 13, 14, 15, 16];
 
 /// How large a file is made.
 #[derive(Clone, Copy, Debug, PartialEq, Eq)]
@@ -609,19 +609,50 @@ fn any_size(random: &mut Random) -> Size {
 pub fn bent(random: &mut Random, number: usize) -> Vec<u8> {
     loop {
         let size = any_size(random);
-        let mut file = accepted(random, size);
-        let bytes = if number >= 6 {
-            bend_file(random, &mut file, number);
-            write(&file)
-        } else {
-            let mut lines = split(&write(&file));
-            bend_lines(random, &mut lines, number);
-            lines.concat()
-        };
-        if check(&bytes).number() == number {
+        if let Some(bytes) = bent_once(random, number, size) {
             return bytes;
         }
     }
+}
+
+/// The same with a small file only, which takes less time.
+pub fn bent_small(random: &mut Random, number: usize) -> Vec<u8> {
+    loop {
+        let size = random.pick(&[Size::Tiny, Size::Small]);
+        if let Some(bytes) = bent_once(random, number, size) {
+            return bytes;
+        }
+    }
+}
+
+/// One try at a file of this size that gets this number.
+fn bent_once(random: &mut Random, number: usize, size: Size) -> Option<Vec<u8>> {
+    let mut file = accepted(random, size);
+    let bytes = match number {
+        1 => bend_length(random, write(&file)),
+        2..=5 => {
+            let mut lines = split(&write(&file));
+            bend_lines(random, &mut lines, number);
+            lines.concat()
+        }
+        _ => {
+            bend_file(random, &mut file, number);
+            write(&file)
+        }
+    };
+    (check(&bytes).number() == number).then_some(bytes)
+}
+
+/// A length of 0, not a multiple of 22, or above 63,800.
+fn bend_length(random: &mut Random, mut bytes: Vec<u8>) -> Vec<u8> {
+    let some = random.between(1, LINE_LENGTH - 1);
+    match random.below(4) {
+        0 => bytes.clear(),
+        1 => bytes.truncate(bytes.len() - some),
+        2 => bytes.extend(random_bytes(random, some)),
+        _ => bytes.resize(MOST_BYTES + LINE_LENGTH * some, b' '),
+    }
+    bytes
 }
 
 /// An accepted file with one wrong byte, so that it gets number 2. The steps go
@@ -1523,6 +1554,8 @@ mod tests {
         for seed in 0..10 {
             for number in BENT_NUMBERS {
                 let bytes = bent(&mut Random::new(seed), number);
+                assert_eq!(check(&bytes).number(), number);
+                let bytes = bent_small(&mut Random::new(seed), number);
                 assert_eq!(check(&bytes).number(), number);
             }
         }

@@ -5,7 +5,9 @@ pub mod check;
 pub mod generate;
 pub mod line;
 pub mod order;
+pub mod product;
 pub mod random;
+pub mod tally;
 
 pub use check::{check, Accepted, Level, Outcome, Refusal, RoleLevels};
 

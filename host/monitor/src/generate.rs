@@ -3,7 +3,9 @@
 
 use crate::call::{Call, Kind};
 use crate::model::{Mode, Model, Part, Policy, CARD_BYTES, PLACES, STATE_BYTES};
-use second_checker::generate::{accepted, bent, mixed, sparse_flow, write, Size, BENT_NUMBERS};
+use second_checker::generate::{
+    accepted, bent, bent_small, mixed, sparse_flow, write, Size, BENT_NUMBERS,
+};
 use second_checker::line::LINE_LENGTH;
 use second_checker::random::Random;
 use std::collections::BTreeSet;
@@ -33,15 +35,15 @@ fn accepted_file_of_any_size(random: &mut Random) -> Vec<u8> {
     write(&accepted(random, size))
 }
 
-/// A role file of any kind: accepted, bent or torn.
+/// A role file of any kind: accepted, bent or torn. Most are bent, each number
+/// as often as another: a refused load leaves the sessions open.
 pub fn any_file(random: &mut Random) -> Vec<u8> {
-    match random.below(10) {
+    let number = random.pick(&BENT_NUMBERS);
+    match random.below(100) {
         0..=4 => accepted_file(random),
-        5..=7 => {
-            let number = random.pick(&BENT_NUMBERS);
-            bent(random, number)
-        }
-        _ => mixed(random.next(), random.next() % 50),
+        5..=9 => mixed(random.next(), random.next() % 50),
+        10..=14 => bent(random, number),
+        _ => bent_small(random, number),
     }
 }
 
@@ -175,7 +177,7 @@ impl Caller {
             store,
         };
         if kind == Kind::Load {
-            if random.percent(40) {
+            if random.percent(10) {
                 lending.state = LentState::First(short_length(random, STATE_BYTES));
             }
             let file = any_file(random);
@@ -220,13 +222,13 @@ impl Caller {
             return random.pick(&[Kind::Take, Kind::Take, Kind::Open]);
         }
         match random.below(1_000) {
-            0..=11 => Kind::Load,
-            12..=149 => Kind::Open,
-            150..=219 => Kind::Close,
-            220..=419 => Kind::Take,
-            420..=479 => Kind::Drop,
-            480..=699 => Kind::Read,
-            700..=919 => Kind::Write,
+            0..=99 => Kind::Load,
+            100..=219 => Kind::Open,
+            220..=289 => Kind::Close,
+            290..=469 => Kind::Take,
+            470..=529 => Kind::Drop,
+            530..=724 => Kind::Read,
+            725..=919 => Kind::Write,
             920..=979 => Kind::Flows,
             _ => Kind::Circle,
         }

@@ -19,10 +19,7 @@ impl Lent {
         let start = CANARIES + random.below(16);
         let length = content.len();
         let end = start + length;
-        let mut whole = vec![0; end + CANARIES];
-        for index in (0..start).chain(end..end + CANARIES) {
-            whole[index] = canary[index % 8];
-        }
+        let mut whole = canary.repeat((end + CANARIES).div_ceil(8));
         whole[start..end].copy_from_slice(content);
         Lent {
             whole,
@@ -43,7 +40,15 @@ impl Lent {
     /// Whether the bytes around the buffer are what they were.
     pub fn canaries_unchanged(&self) -> bool {
         let end = self.start + self.length;
-        let is_canary = |index: usize| self.whole[index] == self.canary[index % 8];
-        (0..self.start).all(is_canary) && (end..self.whole.len()).all(is_canary)
+        self.are_canaries(0, self.start) && self.are_canaries(end, self.whole.len())
+    }
+
+    /// Whether the bytes from one index up to another are canary bytes.
+    fn are_canaries(&self, from: usize, to: usize) -> bool {
+        let mut canary = self.canary;
+        canary.rotate_left(from % 8);
+        self.whole[from..to]
+            .chunks(8)
+            .all(|chunk| *chunk == canary[..chunk.len()])
     }
 }

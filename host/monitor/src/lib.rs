@@ -1,8 +1,10 @@
 //! Host tests for the monitor's C library: an independent model of document
 //! 01, wrappers over the C functions, and random calls made on both.
 
+pub mod answer;
 pub mod call;
 pub mod example;
+pub mod files;
 pub mod generate;
 pub mod laws;
 pub mod lent;

@@ -4,22 +4,7 @@
 //! pointer to const: a library that writes there all the same is then seen by
 //! a comparison.
 
-/// `struct monitor_verdict`: 0, or the number and its place.
-#[repr(C)]
-#[derive(Clone, Copy, Debug, Default, PartialEq, Eq)]
-pub struct Verdict {
-    pub number: u64,
-    pub first: u64,
-    pub second: u64,
-}
-
-/// `struct monitor_figure`: figure is 0 on a refusal.
-#[repr(C)]
-#[derive(Clone, Copy, Debug, Default, PartialEq, Eq)]
-pub struct Figure {
-    pub number: u64,
-    pub figure: u64,
-}
+pub use crate::answer::{Figure, Verdict};
 
 /// The library the tests are linked with.
 pub const UNDER_TEST: &str = env!("LIBRARY_UNDER_TEST");

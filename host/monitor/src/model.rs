@@ -4,7 +4,7 @@
 //! "Other calls check in order of number, each as far as it applies to that
 //! call." So each call below is a row of checks, left at the first that fails.
 
-use crate::library::{Figure, Verdict};
+use crate::answer::{Figure, Verdict};
 use second_checker::check::{read, Counts, Level, Meaning, RoleFile, READ, WRITE};
 use second_checker::{check, Outcome};
 use std::collections::BTreeSet;

@@ -1,0 +1,102 @@
+//! Counts of the files of a run: by number, by lines and by what they say.
+
+use crate::line::{LINE_LENGTH, MOST_LINES};
+use crate::{Level, Outcome};
+use std::collections::BTreeMap;
+
+/// Numbers that must be seen for a run to pass.
+const WANTED: [usize; 13] = [0, 1, 2, 3, 4, 5, 6, 11, 12, 13, 14, 15, 16];
+
+/// Rough size classes by the lines begun.
+const CLASSES: [(&str, usize); 8] = [
+    ("empty", 0),
+    ("1 line", 1),
+    ("2 to 9", 9),
+    ("10 to 99", 99),
+    ("100 to 999", 999),
+    ("1,000 to 2,899", MOST_LINES - 1),
+    ("2,900", MOST_LINES),
+    ("above 2,900", usize::MAX),
+];
+
+#[derive(Default)]
+pub struct Tally {
+    /// How often each number was seen.
+    numbers: BTreeMap<usize, usize>,
+    classes: [usize; CLASSES.len()],
+    files: usize,
+    /// Of the accepted files.
+    with_assignments: usize,
+    with_flow: usize,
+    with_circle: usize,
+    with_undefined: usize,
+}
+
+impl Tally {
+    /// Counts a file with its outcome.
+    pub fn count(&mut self, file: &[u8], outcome: &Outcome) {
+        self.files += 1;
+        *self.numbers.entry(outcome.number()).or_default() += 1;
+        let lines = file.len().div_ceil(LINE_LENGTH);
+        let class = CLASSES.iter().position(|(_, most)| lines <= *most).unwrap();
+        self.classes[class] += 1;
+        if let Outcome::Accepted(accepted) = outcome {
+            let undefined = |level: Level| level == Level::Undefined;
+            // A lines come last.
+            let assigned = file[file.len() - LINE_LENGTH] == b'A';
+            self.with_assignments += usize::from(assigned);
+            self.with_flow += usize::from(!accepted.flows.is_empty());
+            self.with_circle += usize::from(accepted.circle.is_some());
+            self.with_undefined += usize::from(
+                accepted
+                    .roles
+                    .iter()
+                    .any(|levels| undefined(levels.write_level)),
+            );
+        }
+    }
+
+    /// Adds the counts of another tally.
+    pub fn add(&mut self, other: &Tally) {
+        self.files += other.files;
+        for (number, seen) in &other.numbers {
+            *self.numbers.entry(*number).or_default() += seen;
+        }
+        for (class, files) in self.classes.iter_mut().zip(other.classes) {
+            *class += files;
+        }
+        self.with_assignments += other.with_assignments;
+        self.with_flow += other.with_flow;
+        self.with_circle += other.with_circle;
+        self.with_undefined += other.with_undefined;
+    }
+
+    /// The numbers wanted that were never seen.
+    pub fn unseen(&self) -> Vec<usize> {
+        WANTED
+            .into_iter()
+            .filter(|number| !self.numbers.contains_key(number))
+            .collect()
+    }
+
+    /// The counts, a row for each number and for each size.
+    pub fn table(&self) -> String {
+        let mut table = format!("{} files\nnumber    files  percent", self.files);
+        for number in 0..=16 {
+            let seen = self.numbers.get(&number).copied().unwrap_or(0);
+            if WANTED.contains(&number) || seen > 0 {
+                let percent = 100.0 * seen as f64 / self.files.max(1) as f64;
+                table.push_str(&format!("\n{number:>6} {seen:>8} {percent:>8.2}"));
+            }
+        }
+        table.push_str("\nlines              files");
+        for ((name, _), files) in CLASSES.iter().zip(self.classes) {
+            table.push_str(&format!("\n{name:<15} {files:>8}"));
+        }
+        table.push_str(&format!(
+            "\naccepted: {} with assignments, {} with role flow, {} with a circle, {} with an undefined w-level",
+            self.with_assignments, self.with_flow, self.with_circle, self.with_undefined
+        ));
+        table
+    }
+}

@@ -1,0 +1,126 @@
+//! The model of ../monitor for C: a handle for what a state holds, and the
+//! calls by it. It takes the model's file, not its package, whose build links
+//! an archive.
+
+#[path = "../../../monitor/src/answer.rs"]
+pub mod answer;
+#[path = "../../../monitor/src/model.rs"]
+pub mod model;
+
+use answer::{Figure, Verdict};
+use model::{Model, Part};
+use std::slice::{from_raw_parts, from_raw_parts_mut};
+
+/// A call's numbers as target.c hands them in, whatever the call uses of them.
+#[repr(C)]
+pub struct Numbers {
+    first: u64,
+    second: u64,
+    third: u64,
+    fourth: u64,
+}
+
+/// The counts of an H line.
+#[repr(C)]
+pub struct ModelCounts {
+    labels: usize,
+    roles: usize,
+    users: usize,
+    cards: usize,
+}
+
+/// A model that holds what a zeroed state holds.
+#[no_mangle]
+pub extern "C" fn model_new() -> *mut Model {
+    Box::into_raw(Box::default())
+}
+
+/// # Safety
+/// The handle comes from `model_new` and is not used again.
+#[no_mangle]
+pub unsafe extern "C" fn model_free(model: *mut Model) {
+    drop(Box::from_raw(model));
+}
+
+/// # Safety
+/// The handle comes from `model_new`; the file has so many bytes.
+#[no_mangle]
+pub unsafe extern "C" fn model_load(
+    model: *mut Model,
+    file: *const u8,
+    file_len: usize,
+    state_len: usize,
+) -> Verdict {
+    (*model).load(from_raw_parts(file, file_len), state_len)
+}
+
+/// What the loaded file counts; all 0 before a load.
+///
+/// # Safety
+/// The handle comes from `model_new`.
+#[no_mangle]
+pub unsafe extern "C" fn model_counts(model: *const Model) -> ModelCounts {
+    let counts = (*model).policy().map(|policy| policy.counts);
+    let counts = counts.unwrap_or_default();
+    ModelCounts {
+        labels: counts.labels,
+        roles: counts.roles,
+        users: counts.users,
+        cards: counts.cards,
+    }
+}
+
+/// Makes a call, numbered as in target.c; its number, and a report's figure.
+/// A write that is done puts `value`, `value` + 1 and so on into the store.
+///
+/// # Safety
+/// The handle comes from `model_new`; the store has so many bytes.
+#[no_mangle]
+pub unsafe extern "C" fn model_call(
+    model: *mut Model,
+    kind: u64,
+    state: usize,
+    store: *mut u8,
+    store_len: usize,
+    numbers: &Numbers,
+    value: u8,
+) -> Figure {
+    let store = from_raw_parts_mut(store, store_len);
+    call(&mut *model, kind, state, store, numbers, value)
+}
+
+fn call(
+    model: &mut Model,
+    kind: u64,
+    state: usize,
+    store: &mut [u8],
+    numbers: &Numbers,
+    value: u8,
+) -> Figure {
+    let &Numbers {
+        first,
+        second,
+        third,
+        fourth,
+    } = numbers;
+    let part = Part {
+        place: first,
+        card: second,
+        offset: third,
+        length: fourth,
+    };
+    let number = match kind {
+        1 => model.open(state, first, second, third),
+        2 => model.close(state, first),
+        3 => model.take(state, first, second),
+        4 => model.drop(state, first, second),
+        5 => model.read(state, store, part).0,
+        6 => {
+            let bytes: Vec<u8> = (0..fourth).map(|at| value.wrapping_add(at as u8)).collect();
+            model.write(state, store, first, second, third, &bytes)
+        }
+        7 => return model.flows(state, first, second),
+        _ => return model.circle(state),
+    };
+    Figure { number, figure: 0 }
+}
