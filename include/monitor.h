@@ -156,6 +156,18 @@ struct monitor_figure monitor_flows(const uint8_t *state, size_t state_len,
  */
 struct monitor_figure monitor_circle(const uint8_t *state, size_t state_len);
 
+/*
+ * What a translator ends up with: figure 1 where a session of the user at the
+ * label could be granted a read (mode 1) or a write (mode 2) of the card, that
+ * is, where some role that the user may take at that label gives it, directly
+ * or by inheritance; else 0. Answers 21; 25 for a user, label, card or mode out
+ * of range; 26 where the clearance doesn't dominate the label; or 0. It
+ * looks at no place and changes nothing.
+ */
+struct monitor_figure monitor_can(const uint8_t *state, size_t state_len,
+                                  uint64_t user, uint64_t label, uint64_t card,
+                                  uint64_t mode);
+
 #ifdef __cplusplus
 }
 #endif

@@ -11,6 +11,7 @@ use Rattle.search.specs.Search.{among, Among}
 use Rattle.search.proofs.Truth.{and-iff, among-iff, passed, failed}
 use Rattle.policy.specs.Tables.{isState}
 use Rattle.monitor.specs.Session.{sound, labelsIn, rolesIn, usersIn, cardsIn}
+use Rattle.monitor.specs.Rights.{canNumber}
 use Rattle.monitor.specs.Calls.{unless, ifDone, openNumber, closeNumber, takeNumber, dropNumber, partNumber, flowsNumber, circleNumber}
 
 -- ---- a row of tests whose answers r are those of calls: a call's `ensures` is r ≡ t
@@ -183,3 +184,21 @@ flows-state xs q r h = le-leb _ _ (sound-of xs (unless-done _ _ _ (omega arith) 
 pub circle-state : (xs : List ℕ) → circleNumber xs ≡ 0 → isState xs ≡ true
 unfolding circleNumber
 circle-state xs h = le-leb _ _ (sound-of xs (unless-done _ _ _ (omega arith) h .0) .long)
+
+-- what a question that is done tells of the state and of its numbers
+pub record Asked (xs : List ℕ) (u l o m : ℕ) : Type 0 where
+  pub sound : Sound xs
+  pub user : Among 256 u
+  pub card : Among 512 o
+
+pub can-room : (xs : List ℕ) (u l o m : ℕ) → canNumber xs u l o m ≡ 0 → Asked xs u l o m
+unfolding canNumber
+can-room xs u l o m h =
+    let a = unless-done _ _ _ (omega arith) h in
+    let b = unless-done _ _ _ (omega arith) (a .1) in
+    let c = unless-done _ _ _ (omega arith) (b .1) in
+    let d = unless-done _ _ _ (omega arith) (c .1) in
+    let s = sound-of xs (a .0) in
+    let v = among-iff (usersIn xs) u .0 (b .0) in
+    let w = among-iff (cardsIn xs) o .0 (d .0) in
+    record { sound = s; user = omega (arith, s .users); card = omega (arith, s .cards) }

@@ -79,7 +79,7 @@ module _ (f : List ℕ) (form : WellFormed f) (t : Sessions) (known : Orderly f 
       by none e k = rw e
       by (some s) a k = rw (a .used) (h s a k)
 
-  cleared-file : (u l : ℕ) → Among (users f) u → Among (labels f) l → cleared xs u l ≡ dominates f (clearance f u) l
+  pub cleared-file : (u l : ℕ) → Among (users f) u → Among (labels f) l → cleared xs u l ≡ dominates f (clearance f u) l
   unfolding cleared
   cleared-file u l v w =
       let few = counts-known f form .users in
@@ -98,7 +98,7 @@ module _ (f : List ℕ) (form : WellFormed f) (t : Sessions) (known : Orderly f 
       both : ℕ → Bool
       both r = member xs a r && member xs b r
 
-  entitled-file : (u r : ℕ) → Among (users f) u → Among (roles f) r → entitled xs u r ≡ belongs f u r
+  pub entitled-file : (u r : ℕ) → Among (users f) u → Among (roles f) r → entitled xs u r ≡ belongs f u r
   unfolding entitled belongs
   entitled-file u r v w =
       let c = counts-known f form in
@@ -109,7 +109,7 @@ module _ (f : List ℕ) (form : WellFormed f) (t : Sessions) (known : Orderly f 
       (λ q i. rw (stands .tables .assigning u q (omega arith) i, stands .tables .seniors r q (omega arith) i, le-leb r (roles f) (w .1)))
       (λ q e. assigned-known f (form .good) u q (and-iff (assigned f u q) (senior f q r) .0 e .0) .1)
 
-  fitting-file : (l r : ℕ) → Among (labels f) l → Among (roles f) r → fitting xs l r ≡ suits f l r
+  pub fitting-file : (l r : ℕ) → Among (labels f) l → Among (roles f) r → fitting xs l r ≡ suits f l r
   unfolding fitting suits rLevel wLevel
   fitting-file l r v w =
       let c = counts-known f form in

@@ -8,3 +8,4 @@ pub mod Demand2
 pub mod History
 pub mod Grants
 pub mod Cases
+pub mod Able

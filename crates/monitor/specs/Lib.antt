@@ -4,3 +4,4 @@ pub mod Runs
 pub mod Rules
 pub mod Granted
 pub mod Cases
+pub mod Rights

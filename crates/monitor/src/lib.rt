@@ -4,6 +4,7 @@
 // No exported function asks anything of its caller: every number is legal and every slice may be empty.
 mod cards;
 mod report;
+mod rights;
 mod rules;
 mod sessions;
 mod state;
@@ -11,6 +12,7 @@ mod state;
 use rolefile::Verdict;
 ghost use mathlib.Core.Path.{_≡_};
 ghost use Rattle.policy.specs.Image.{Loaded};
+ghost use Rattle.monitor.specs.Rights.{Cans};
 ghost use Rattle.monitor.specs.Calls.{Opens, Closes, Takes, Drops, readNumber, Reads, Writes, Flows, Circles};
 
 // The answer of a load, as C has it.
@@ -134,5 +136,16 @@ pub extern "C" fn monitor_circle(state: &[u8]) -> Figure
 {
     let number = report::circle_number(state);
     let figure = report::circle_figure(state, number);
+    Figure { number, figure }
+}
+
+// Whether a session of the user at the label could be granted a read (mode 1) or a write (mode 2)
+// of the card, 1 or 0: 21, 25, 26.
+#[no_mangle]
+pub extern "C" fn monitor_can(state: &[u8], user: u64, label: u64, card: u64, mode: u64) -> Figure
+    ensures { λ r. ⌜ Cans (now (state .entry)) user label card mode (r .number) (r .figure) ⌝ }
+{
+    let number = rights::can_number(state, user, label, card, mode);
+    let figure = rights::can_figure(state, user, label, card, mode, number);
     Figure { number, figure }
 }

@@ -1,0 +1,229 @@
+-- `monitor_can` by the file, and by the session calls: its figure is 1 exactly when some role lets an opening, a taking and a use of the card through. Assumes nothing.
+use Prim.Native.Nat.{ℕ, zero, suc, _+_, _*_, _≤_}
+use mathlib.Core.Path.{_≡_, refl, sym, ap, _∙_}
+use mathlib.Core.Logic.{_↔_, inr, ⊎-elim}
+use mathlib.Core.List.{List, []}
+use mathlib.Core.Bool.{Bool, true, false, _&&_, _||_, cond, false≢true}
+use mathlib.Core.Option.{some, Option·some-injective}
+use native.Mathlib.Omega.{arith}
+use lib.Dec.{leb, eqb}
+use lib.ListN.{length}
+use borrow.Author.Tests.{le-leb, eqb-true, eq-eqb}
+use Rattle.search.specs.Search as search
+use Rattle.search.specs.Search.{among, Among}
+use Rattle.search.proofs.Truth.{or-iff, and-iff, among-iff}
+use Rattle.search.proofs.Found.{some-iff, some-agree}
+use Rattle.roleset.specs.Row.{member}
+use Rattle.rolefile.specs.declared.Verdict.{Verdict}
+use Rattle.rolefile.specs.Said.{labels, roles, users, cards, clearance}
+use Rattle.rolefile.specs.WellFormed.{WellFormed}
+use Rattle.policy.specs.Policy.{dominates, may}
+use Rattle.policy.specs.Tables.{rowOf, readersAt, writersAt}
+use Rattle.policy.specs.Accepted.{Accepted}
+use Rattle.policy.specs.Image.{Loaded}
+use Rattle.policy.proofs.Meaning.{counts-known}
+use Rattle.monitor.specs.Session.{labelsIn, usersIn, cardsIn, cleared, entitled, fitting}
+use Rattle.monitor.specs.Calls.{unless, ifDone}
+use Rattle.monitor.specs.Runs.{Call, opens, takes, reads, writes, Memory, after}
+use Rattle.monitor.specs.Rules.{Session, Sessions, nobody, belongs, suits, uses, openRule, takeRule, partRule, rule, newcomer, holding, next}
+use Rattle.monitor.specs.Rights.{canNumber, tableOf, serves, could, Cans, canRule, mayCome, useOf, Granting}
+use Rattle.monitor.proofs.Answers.{unless-done}
+use Rattle.monitor.proofs.Orderly.{Orderly, opening, seated-done, taking, part-done}
+use Rattle.monitor.proofs.Stands.{Stands}
+use Rattle.monitor.proofs.InFile.{test-same, test-passed, sound-file, cleared-file, entitled-file, fitting-file}
+use Rattle.monitor.proofs.History.{put-at}
+use Rattle.monitor.proofs.Demand2.{Runs, runs-next, runs-number, loaded-runs}
+
+-- ---- by the file
+
+module _ (f : List ℕ) (form : WellFormed f) (t : Sessions) (known : Orderly f t) (xs : List ℕ) (stands : Stands f t xs) where
+  number-by : (u l o m : ℕ) → canNumber xs u l o m ≡ canRule f u l o m
+  unfolding canNumber canRule
+  number-by u l o m =
+      test-passed 21 (sound-file f form t known xs stands)
+      ∙ test-same (among (usersIn xs) u) (among (users f) u) 25 (rw (stands .tables .counted .users)) (λ user.
+      test-same (among (labelsIn xs) l) (among (labels f) l) 25 (rw (stands .tables .counted .labels)) (λ label.
+      test-same (among (cardsIn xs) o) (among (cards f) o) 25 (rw (stands .tables .counted .cards)) (λ card.
+      test-same (among 2 m) (among 2 m) 25 refl (λ mode.
+      test-same (cleared xs u l) (dominates f (clearance f u) l) 26
+      (cleared-file f form t known xs stands u l (among-iff (users f) u .0 user) (among-iff (labels f) l .0 label)) (λ dominated. refl)))))
+
+  -- the table of a mode says who may
+  table-says : (m : ℕ) → Among 2 m → (o r : ℕ) → Among 512 o → Among 128 r → member xs (rowOf (tableOf m) o) r ≡ may f m r o
+  table-says zero w o r i j = absurd (omega arith)
+  table-says (suc zero) w o r i j = stands .tables .permitting .readers o r i j
+  table-says (suc (suc zero)) w o r i j = stands .tables .permitting .writers o r i j
+  table-says (suc (suc (suc m))) w o r i j = absurd (omega arith)
+
+  could-by : (u l o m : ℕ) → Among (users f) u → Among (labels f) l → Among (cards f) o → Among 2 m → could xs u l o (tableOf m) ≡ mayCome f u l o m
+  unfolding could mayCome serves
+  could-by u l o m user label card mode =
+      rw (stands .tables .counted .roles)
+      (some-agree (λ r. entitled xs u r && (fitting xs l r && member xs (rowOf (tableOf m) o) r)) (λ r. belongs f u r && (suits f l r && may f m r o)) (roles f)
+      (λ r w.
+      let few-roles = counts-known f form .roles in
+      let few-cards = counts-known f form .cards in
+      rw (entitled-file f form t known xs stands u r user w, fitting-file f form t known xs stands l r label w, table-says m mode o r (omega arith) (omega arith))))
+
+-- ---- by the session calls
+
+-- what a question that is done tells
+pub record Able (f : List ℕ) (u l o m : ℕ) : Type 0 where
+  pub user : Among (users f) u
+  pub label : Among (labels f) l
+  pub card : Among (cards f) o
+  pub mode : Among 2 m
+  pub cleared : dominates f (clearance f u) l ≡ true
+
+can-done : (f : List ℕ) (u l o m : ℕ) → canRule f u l o m ≡ 0 → Able f u l o m
+unfolding canRule
+can-done f u l o m h =
+    let (a, x) = unless-done (among (users f) u) 25 _ (omega arith) h in
+    let (b, y) = unless-done (among (labels f) l) 25 _ (omega arith) x in
+    let (c, z) = unless-done (among (cards f) o) 25 _ (omega arith) y in
+    let (d, v) = unless-done (among 2 m) 25 _ (omega arith) z in
+    let (e, w) = unless-done (dominates f (clearance f u) l) 26 _ (omega arith) v in
+    record {
+      user = among-iff (users f) u .0 a;
+      label = among-iff (labels f) l .0 b;
+      card = among-iff (cards f) o .0 c;
+      mode = among-iff 2 m .0 d;
+      cleared = e;
+    }
+
+able-done : (f : List ℕ) (u l o m : ℕ) → Able f u l o m → canRule f u l o m ≡ 0
+unfolding canRule unless
+able-done f u l o m a =
+    rw (
+      among-iff (users f) u .1 (a .user),
+      among-iff (labels f) l .1 (a .label),
+      among-iff (cards f) o .1 (a .card),
+      among-iff 2 m .1 (a .mode),
+      a .cleared,
+    )
+
+module _ (f : List ℕ) (size p u l : ℕ) (place : Among 64 p) (enough : 64 * cards f ≤ size) where
+  abbrev one : Sessions
+  one = next f nobody (opens p u l)
+
+  abbrev two : ℕ → Sessions
+  two r = next f one (takes p r)
+
+  -- who sits at the place after the opening, and after the taking
+  module _ (opened : openRule f nobody p u l ≡ 0) where
+    sits-one : one p ≡ some (newcomer u l)
+    unfolding next ifDone
+    sits-one = rw opened (put-at nobody p (some (newcomer u l)) p refl)
+
+    sits-two : (r : ℕ) → takeRule f one p r ≡ 0 → two r p ≡ some (holding r (newcomer u l))
+    unfolding next ifDone
+    sits-two r taken = rw taken (put-at one p _ p refl ∙ rw sits-one)
+
+  -- the use of a card
+  use-rule : (m o : ℕ) (t : Sessions) → Among 2 m → rule f size t (useOf m p o) ≡ partRule f m t size p o 0 0
+  unfolding rule
+  use-rule zero o t w = absurd (omega arith)
+  use-rule (suc zero) o t w = refl
+  use-rule (suc (suc zero)) o t w = refl
+  use-rule (suc (suc (suc m))) o t w = absurd (omega arith)
+
+  holds-one : (m o r : ℕ) → uses f m (holding r (newcomer u l)) o ≡ true → may f m r o ≡ true
+  unfolding uses
+  holds-one m o r h =
+      let (q, w, e) = some-iff (λ q. holding r (newcomer u l) .held q && may f m q o) (roles f) .0 h in
+      let (held, gives) = and-iff (holding r (newcomer u l) .held q) (may f m q o) .0 e in
+      ⊎-elim (λ x. absurd (false≢true x)) (λ x. rw (eqb-true q r x) at gives) (or-iff false (eqb q r) .0 held)
+
+  holds-use : (m o r : ℕ) → Among (roles f) r → may f m r o ≡ true → uses f m (holding r (newcomer u l)) o ≡ true
+  unfolding uses
+  holds-use m o r w h =
+      some-iff (λ q. holding r (newcomer u l) .held q && may f m q o) (roles f) .1
+      (r, w, and-iff (holding r (newcomer u l) .held r) (may f m r o) .1 (or-iff false (eqb r r) .1 (inr (eq-eqb r r refl)), h))
+
+  -- the three rules
+  pub record Rules (o m r : ℕ) : Type 0 where
+    pub opened : openRule f nobody p u l ≡ 0
+    pub taken : takeRule f one p r ≡ 0
+    pub used : partRule f m (two r) size p o 0 0 ≡ 0
+
+  come : (o m : ℕ) → Able f u l o m → mayCome f u l o m ≡ true → (r : ℕ) × Rules o m r
+  unfolding mayCome openRule takeRule partRule unless
+  come o m a h =
+      let (r, w, e) = some-iff (λ r. belongs f u r && (suits f l r && may f m r o)) (roles f) .0 h in
+      let (b, x) = and-iff (belongs f u r) (suits f l r && may f m r o) .0 e in
+      let (s, g) = and-iff (suits f l r) (may f m r o) .0 x in
+      let opened : openRule f nobody p u l ≡ 0 = rw (among-iff 64 p .1 place, among-iff (users f) u .1 (a .user), among-iff (labels f) l .1 (a .label), a .cleared) in
+      let taken : takeRule f one p r ≡ 0 = rw (among-iff 64 p .1 place, sits-one opened, among-iff (roles f) r .1 w, b, s) in (
+        r,
+        record {
+          opened = opened;
+          taken = taken;
+          used = rw (among-iff 64 p .1 place, sits-two opened r taken, among-iff (cards f) o .1 (a .card), holds-use m o r w g, le-leb (64 * cards f) size enough);
+        },
+      )
+
+  came : (o m r : ℕ) → Among 2 m → Rules o m r → Able f u l o m × (mayCome f u l o m ≡ true)
+  unfolding mayCome takeRule
+  came o m r mode x =
+      let op = opening f nobody p u l (x .opened) in
+      let (w, b, s) = taking f r (newcomer u l) (unless-done (among 64 p) 22 _ (omega arith) (rw (sits-one (x .opened)) at (x .taken)) .1) in
+      let part = part-done f m (two r) size p o 0 0 (x .used) in
+      let who : part .session ≡ holding r (newcomer u l) =
+      Option·some-injective (part .session) (holding r (newcomer u l)) (sym (part .sits) ∙ sits-two (x .opened) r (x .taken)) in
+      let same : uses f m (holding r (newcomer u l)) o ≡ true = ap (λ (s : Session). uses f m s o) (sym who) ∙ part .used in (
+        record { user = op .user; label = op .label; card = part .card; mode = mode; cleared = op .cleared },
+        some-iff (λ r. belongs f u r && (suits f l r && may f m r o)) (roles f) .1
+            (r, w, and-iff (belongs f u r) (suits f l r && may f m r o) .1 (b, and-iff (suits f l r) (may f m r o) .1 (s, holds-one m o r same))),
+      )
+
+-- a figure is 1 exactly when the question is done and the answer is yes
+figure-one : (n : ℕ) (b : Bool) → (ifDone n (cond {A = ℕ} b 1 0) 0 ≡ 1) ↔ ((n ≡ 0) × (b ≡ true))
+unfolding ifDone
+figure-one zero true = (λ e. (refl, refl), λ e. refl)
+figure-one zero false = (λ e. absurd (omega arith), λ (e, b). absurd (false≢true b))
+figure-one (suc n) b = (λ e. absurd (omega arith), λ (e, b). absurd (omega arith))
+
+-- from the state that a load left, at any place and with a store that has all cards
+module _ (f : List ℕ) (accepted : Accepted f) (xs ys : List ℕ) (v : Verdict) (long : 65536 ≤ length xs) (load : Loaded f v xs ys)
+    (store : List ℕ) (enough : 64 * cards f ≤ length store) (p : ℕ) (place : Among 64 p) (u l o m : ℕ) (mode : Among 2 m) where
+  form : WellFormed f
+  form = accepted .ordered .form
+
+  abbrev start : Memory
+  start = record { state = ys; store = store }
+
+  runs : Runs f nobody (length store) start
+  runs = loaded-runs f accepted xs ys v long load store
+
+  runs-one : Runs f (next f nobody (opens p u l)) (length store) (after start (opens p u l))
+  runs-one = runs-next f form nobody (length store) start runs (opens p u l)
+
+  runs-two : (r : ℕ) → Runs f (next f (next f nobody (opens p u l)) (takes p r)) (length store) (after (after start (opens p u l)) (takes p r))
+  runs-two r = runs-next f form (next f nobody (opens p u l)) (length store) (after start (opens p u l)) runs-one (takes p r)
+
+  granting : (r : ℕ) → Rules f (length store) p u l place enough o m r ↔ Granting start p u l o m r
+  unfolding rule
+  granting r =
+      let a = runs-number f form nobody (length store) start runs (opens p u l) in
+      let b = runs-number f form _ (length store) _ runs-one (takes p r) in
+      let c = runs-number f form _ (length store) _ (runs-two r) (useOf m p o) ∙ use-rule f (length store) p u l place enough m o _ mode in (
+        λ x. record { opened = a ∙ x .opened; taken = b ∙ x .taken; used = c ∙ x .used },
+        λ x. record { opened = sym a ∙ x .opened; taken = sym b ∙ x .taken; used = sym c ∙ x .used },
+      )
+
+  same : Able f u l o m → could ys u l o (tableOf m) ≡ mayCome f u l o m
+  same a = could-by f form nobody (runs .known) ys (runs .stands) u l o m (a .user) (a .label) (a .card) (a .mode)
+
+  pub can-iff : (n figure : ℕ) → Cans ys u l o m n figure → (figure ≡ 1) ↔ ((r : ℕ) × Granting start p u l o m r)
+  can-iff n figure h =
+      let by = number-by f form nobody (runs .known) ys (runs .stands) u l o m in
+      let one = figure-one (canNumber ys u l o m) (could ys u l o (tableOf m)) in (
+        λ e.
+            let (z, held) = one .0 (sym (h .answer) ∙ e) in
+            let a = can-done f u l o m (sym by ∙ z) in
+            let (r, x) = come f (length store) p u l place enough o m a (sym (same a) ∙ held) in
+            (r, granting r .0 x),
+        λ (r, x).
+            let (a, held) = came f (length store) p u l place enough o m r mode (granting r .1 x) in
+            h .answer ∙ one .1 (by ∙ able-done f u l o m a, same a ∙ held),
+      )

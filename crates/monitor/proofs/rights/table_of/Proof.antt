@@ -1,0 +1,14 @@
+-- By the mode.
+use borrow.Author.Needs.{needs}
+use borrow.Author.Tests.{eq-eqb, ne-eqb}
+use Rattle.monitor.proofs.rights.table_of.Statement.{statement}
+use Rattle.monitor.proofs.rights.table_of.Tie as tie
+
+returns : tie.Need-returns
+returns c = rw (eq-eqb (c .before .args .mode) 1 (c .if1 .taken))
+
+returns-2 : tie.Need-returns-2
+returns-2 c = rw (ne-eqb (c .before .args .mode) 1 (c .if1 .left))
+
+pub table-of-spec : {M : Type 1} → statement M
+table-of-spec = tie.close (tie.spec returns returns-2)

@@ -1,0 +1,68 @@
+-- What a user could do at a label: whether some role that the user may take there gives a read or a write of a card. By the state's bytes, as `monitor_can` answers, and by the
+-- file. `can-file` and `can-iff` under proofs/ tie the two, and the session calls. Assumes nothing.
+use Prim.Native.Nat.{ℕ}
+use mathlib.Core.Path.{_≡_}
+use mathlib.Core.List.{List, []}
+use mathlib.Core.Bool.{Bool, _&&_, cond}
+use lib.Dec.{eqb}
+use Rattle.search.specs.Search.{among, some}
+use Rattle.roleset.specs.Row.{member}
+use Rattle.rolefile.specs.Said.{labels, roles, users, cards, clearance}
+use Rattle.policy.specs.Policy.{dominates, may}
+use Rattle.policy.specs.Tables.{rowOf, readersAt, writersAt}
+use Rattle.monitor.specs.Session.{sound, labelsIn, rolesIn, usersIn, cardsIn, cleared, entitled, fitting}
+use Rattle.monitor.specs.Calls.{unless, ifDone}
+use Rattle.monitor.specs.Runs.{Call, opens, takes, reads, writes, Memory, number, after}
+use Rattle.monitor.specs.Rules.{belongs, suits}
+
+-- ---- by the state's bytes
+
+unfoldable pub canNumber : List ℕ → ℕ → ℕ → ℕ → ℕ → ℕ
+canNumber xs u l o m =
+    unless (sound xs) 21
+    (unless (among (usersIn xs) u) 25
+    (unless (among (labelsIn xs) l) 25
+    (unless (among (cardsIn xs) o) 25
+    (unless (among 2 m) 25
+    (unless (cleared xs u l) 26
+    0)))))
+
+-- the table of those who may read (m = 1) or write (m = 2)
+abbrev pub tableOf : ℕ → ℕ
+tableOf m = cond (eqb m 1) readersAt writersAt
+
+-- the user may take role r at the label, and it gives the card by the table at `at`
+unfoldable pub serves : List ℕ → ℕ → ℕ → ℕ → ℕ → ℕ → Bool
+serves xs u l o at r = entitled xs u r && (fitting xs l r && member xs (rowOf at o) r)
+
+unfoldable pub could : List ℕ → ℕ → ℕ → ℕ → ℕ → Bool
+could xs u l o at = some (rolesIn xs) (serves xs u l o at)
+
+pub record Cans (xs : List ℕ) (u l o m n figure : ℕ) : Type 0 where
+  pub number : n ≡ canNumber xs u l o m
+  pub answer : figure ≡ ifDone (canNumber xs u l o m) (cond (could xs u l o (tableOf m)) 1 0) 0
+
+-- ---- by the file
+
+unfoldable pub canRule : List ℕ → ℕ → ℕ → ℕ → ℕ → ℕ
+canRule f u l o m =
+    unless (among (users f) u) 25
+    (unless (among (labels f) l) 25
+    (unless (among (cards f) o) 25
+    (unless (among 2 m) 25
+    (unless (dominates f (clearance f u) l) 26
+    0))))
+
+unfoldable pub mayCome : List ℕ → ℕ → ℕ → ℕ → ℕ → Bool
+mayCome f u l o m = some (roles f) (λ r. belongs f u r && (suits f l r && may f m r o))
+
+-- ---- by the session calls: a use of the card, of no bytes
+
+abbrev pub useOf : ℕ → ℕ → ℕ → Call
+useOf m p o = cond (eqb m 1) (reads p o 0 0) (writes p o 0 [])
+
+-- from the memory m₀, opening place p, taking role r there and using the card are answered 0, 0, 0
+pub record Granting (m₀ : Memory) (p u l o m r : ℕ) : Type 0 where
+  pub opened : number m₀ (opens p u l) ≡ 0
+  pub taken : number (after m₀ (opens p u l)) (takes p r) ≡ 0
+  pub used : number (after (after m₀ (opens p u l)) (takes p r)) (useOf m p o) ≡ 0

@@ -1,0 +1,89 @@
+// What a user could do at a label.
+use super::rules;
+use super::state;
+ghost use mathlib.Core.Path.{_≡_};
+ghost use mathlib.Core.Bool.{cond};
+ghost use Prim.Native.Nat.{_≤_};
+ghost use lib.ListN.{length};
+ghost use Rattle.search.specs.Search.{Among};
+ghost use Rattle.monitor.specs.Session.{rolesIn};
+ghost use Rattle.monitor.specs.Calls.{ifDone};
+ghost use Rattle.monitor.specs.Rights as rights;
+
+pub fn can_number(s: &[u8], user: u64, label: u64, card: u64, mode: u64) -> u64
+    ensures { λ r. ⌜ r ≡ rights.canNumber (now (s .entry)) user label card mode ⌝ }
+{
+    if !state::sound(s) {
+        return 21;
+    }
+    if !state::counted(s, 4, user) {
+        return 25;
+    }
+    if !state::counted(s, 0, label) {
+        return 25;
+    }
+    if !state::counted(s, 6, card) {
+        return 25;
+    }
+    if !state::among(2, mode) {
+        return 25;
+    }
+    if !rules::cleared(s, user, label) {
+        return 26;
+    }
+    0
+}
+
+// Whether the user may take the role at the label, and the role has the card by the table at `at`.
+fn serves(s: &[u8], user: u64, label: u64, card: u64, at: u64, role: u64) -> bool
+    requires { ⌜ (65536 ≤ length (now s)) × (at ≤ 20496) × Among 256 user × Among 512 card × Among 128 role ⌝ }
+    ensures { λ r. ⌜ r ≡ rights.serves (now (s .entry)) user label card at role ⌝ }
+{
+    if !rules::entitled(s, user, role) {
+        return false;
+    }
+    if !rules::fitting(s, label, role) {
+        return false;
+    }
+    let row = at + 16 * (card - 1);
+    roleset::has(s, row as usize, role as usize)
+}
+
+// Whether one of the state's roles serves.
+fn could(s: &[u8], user: u64, label: u64, card: u64, at: u64) -> bool
+    requires { ⌜ (65536 ≤ length (now s)) × (rolesIn (now s) ≤ 128) × (at ≤ 20496) × Among 256 user × Among 512 card ⌝ }
+    ensures { λ r. ⌜ r ≡ rights.could (now (s .entry)) user label card at ⌝ }
+{
+    let n = state::word(s, 2);
+    let mut i = 0;
+    while i < n {
+        if serves(s, user, label, card, at, i + 1) {
+            return true;
+        }
+        i += 1;
+    }
+    false
+}
+
+// Where the table of a mode starts.
+fn table_of(mode: u64) -> u64
+    ensures { λ r. ⌜ r ≡ rights.tableOf mode ⌝ }
+{
+    if mode == 1 {
+        return 12304;
+    }
+    20496
+}
+
+pub fn can_figure(s: &[u8], user: u64, label: u64, card: u64, mode: u64, number: u64) -> u64
+    requires { ⌜ number ≡ rights.canNumber (now s) user label card mode ⌝ }
+    ensures { λ r. ⌜ r ≡ ifDone (rights.canNumber (now (s .entry)) user label card mode) (cond (rights.could (now (s .entry)) user label card (rights.tableOf mode)) 1 0) 0 ⌝ }
+{
+    if number != 0 {
+        return 0;
+    }
+    if could(s, user, label, card, table_of(mode)) {
+        return 1;
+    }
+    0
+}
