@@ -38,7 +38,7 @@
  *
  * The translator, by a session call:
  *   24  no session at the place (close, take, drop, read, write)
- *   26  clearance does not dominate the label asked (open)
+ *   26  clearance does not dominate the label asked (open, can)
  *   27  neither the role nor a senior of it is assigned to the user (take)
  *   28  a level of the role forbids it at this label (take)
  *   29  no role held gives this read or write (read, write)
@@ -51,8 +51,8 @@
  *       (every call but load)
  *   22  place not 1 to 64 (open, close, take, drop, read, write)
  *   23  place in use (open)
- *   25  user, label, role or card number out of range (open, take, drop, read,
- *       write, flows)
+ *   25  user, label, role, card or mode number out of range (open, take, drop,
+ *       read, write, flows, can)
  *   31  store shorter than 64 * cards (read, write)
  */
 #ifndef MONITOR_H

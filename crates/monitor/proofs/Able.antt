@@ -140,13 +140,13 @@ module _ (f : List ℕ) (size p u l : ℕ) (place : Among 64 p) (enough : 64 * c
       some-iff (λ q. holding r (newcomer u l) .held q && may f m q o) (roles f) .1
       (r, w, and-iff (holding r (newcomer u l) .held r) (may f m r o) .1 (or-iff false (eqb r r) .1 (inr (eq-eqb r r refl)), h))
 
-  -- the three rules
-  pub record Rules (o m r : ℕ) : Type 0 where
+  -- the three calls let through, by the rules
+  pub record Let (o m r : ℕ) : Type 0 where
     pub opened : openRule f nobody p u l ≡ 0
     pub taken : takeRule f one p r ≡ 0
     pub used : partRule f m (two r) size p o 0 0 ≡ 0
 
-  come : (o m : ℕ) → Able f u l o m → mayCome f u l o m ≡ true → (r : ℕ) × Rules o m r
+  come : (o m : ℕ) → Able f u l o m → mayCome f u l o m ≡ true → (r : ℕ) × Let o m r
   unfolding mayCome openRule takeRule partRule unless
   come o m a h =
       let (r, w, e) = some-iff (λ r. belongs f u r && (suits f l r && may f m r o)) (roles f) .0 h in
@@ -162,7 +162,7 @@ module _ (f : List ℕ) (size p u l : ℕ) (place : Among 64 p) (enough : 64 * c
         },
       )
 
-  came : (o m r : ℕ) → Among 2 m → Rules o m r → Able f u l o m × (mayCome f u l o m ≡ true)
+  came : (o m r : ℕ) → Among 2 m → Let o m r → Able f u l o m × (mayCome f u l o m ≡ true)
   unfolding mayCome takeRule
   came o m r mode x =
       let op = opening f nobody p u l (x .opened) in
@@ -201,7 +201,7 @@ module _ (f : List ℕ) (accepted : Accepted f) (xs ys : List ℕ) (v : Verdict)
   runs-two : (r : ℕ) → Runs f (next f (next f nobody (opens p u l)) (takes p r)) (length store) (after (after start (opens p u l)) (takes p r))
   runs-two r = runs-next f form (next f nobody (opens p u l)) (length store) (after start (opens p u l)) runs-one (takes p r)
 
-  granting : (r : ℕ) → Rules f (length store) p u l place enough o m r ↔ Granting start p u l o m r
+  granting : (r : ℕ) → Let f (length store) p u l place enough o m r ↔ Granting start p u l o m r
   unfolding rule
   granting r =
       let a = runs-number f form nobody (length store) start runs (opens p u l) in
