@@ -490,6 +490,49 @@ static void role_flow(void)
     free(state);
 }
 
+/* What user 1 of the example could be granted. Role 2 is assigned; its r-level
+   is 1 and its w-level is 2, so it may be taken at both labels. It writes card
+   2, and reads card 1 by role 1. */
+static void what_a_user_can(void)
+{
+    uint8_t *state = bytes_of(STATE_BYTES, 0);
+    uint8_t *before = bytes_of(STATE_BYTES, 0);
+    about = "what a user can";
+    verdict(load(example, state), 0, 0, 0, "the example: accepted");
+    memcpy(before, state, STATE_BYTES);
+    figure(monitor_can(state, STATE_BYTES, 1, 1, 2, 2), 0, 1,
+           "at label 1, write card 2");
+    figure(monitor_can(state, STATE_BYTES, 1, 1, 2, 1), 0, 0,
+           "at label 1, not read card 2");
+    figure(monitor_can(state, STATE_BYTES, 1, 1, 1, 1), 0, 1,
+           "at label 1, read card 1");
+    figure(monitor_can(state, STATE_BYTES, 1, 1, 1, 2), 0, 0,
+           "at label 1, not write card 1");
+    figure(monitor_can(state, STATE_BYTES, 1, 2, 2, 2), 0, 1,
+           "at label 2, write card 2");
+    figure(monitor_can(state, STATE_BYTES, 2, 1, 2, 2), 25, 0, "25: user 2");
+    figure(monitor_can(state, STATE_BYTES, 1, 3, 2, 2), 25, 0, "25: label 3");
+    figure(monitor_can(state, STATE_BYTES, 1, 1, 3, 2), 25, 0, "25: card 3");
+    figure(monitor_can(state, STATE_BYTES, 1, 1, 2, 0), 25, 0, "25: mode 0");
+    figure(monitor_can(state, STATE_BYTES, 1, 1, 2, 3), 25, 0, "25: mode 3");
+    figure(monitor_can(state, STATE_BYTES, FARTHEST, FARTHEST, FARTHEST,
+                       FARTHEST),
+           25, 0, "25: all numbers too high");
+    check(memcmp(before, state, STATE_BYTES) == 0,
+          "every byte of the state is as it was");
+
+    verdict(load(cleared_to_1, state), 0, 0, 0,
+            "user 1 cleared to 1 instead: accepted");
+    figure(monitor_can(state, STATE_BYTES, 1, 1, 2, 2), 0, 1,
+           "at label 1, write card 2");
+    figure(monitor_can(state, STATE_BYTES, 1, 2, 2, 2), 26, 0,
+           "26: at label 2, figure 0");
+    figure(monitor_can(state, STATE_BYTES, 1, 2, 2, 3), 25, 0,
+           "25 before 26: at label 2, mode 3");
+    free(state);
+    free(before);
+}
+
 /* Every call with no state, with a state one byte short, and with NULL. */
 static void short_buffers(void)
 {
@@ -537,6 +580,9 @@ static void short_buffers(void)
                21, "write: 21");
         figure(monitor_flows(state, length, 1, 2), 21, 0, "flows: 21");
         figure(monitor_circle(state, length), 21, 0, "circle: 21");
+        figure(monitor_can(state, length, 1, 1, 2, 2), 21, 0, "can: 21");
+        figure(monitor_can(state, length, 0, 0, 0, 0), 21, 0,
+               "can: 21 before 25");
     }
     about = "a state one byte short";
     check(memcmp(short_by_one, whole, STATE_BYTES - 1) == 0,
@@ -585,6 +631,7 @@ int main(void)
     every_number();
     order_of_numbers();
     role_flow();
+    what_a_user_can();
     short_buffers();
     printf("%u passed, %u failed\n", passed, failed);
     return failed == 0 ? 0 : 1;

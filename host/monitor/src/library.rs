@@ -57,6 +57,14 @@ pub mod c {
         ) -> u64;
         pub fn monitor_flows(state: *const u8, state_len: usize, from: u64, to: u64) -> Figure;
         pub fn monitor_circle(state: *const u8, state_len: usize) -> Figure;
+        pub fn monitor_can(
+            state: *const u8,
+            state_len: usize,
+            user: u64,
+            label: u64,
+            card: u64,
+            mode: u64,
+        ) -> Figure;
     }
 }
 
@@ -138,4 +146,8 @@ pub fn flows(state: &mut [u8], from: u64, to: u64) -> Figure {
 
 pub fn circle(state: &mut [u8]) -> Figure {
     unsafe { c::monitor_circle(state.as_mut_ptr(), state.len()) }
+}
+
+pub fn can(state: &mut [u8], user: u64, label: u64, card: u64, mode: u64) -> Figure {
+    unsafe { c::monitor_can(state.as_mut_ptr(), state.len(), user, label, card, mode) }
 }

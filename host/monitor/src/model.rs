@@ -64,6 +64,12 @@ impl Policy {
         }
     }
 
+    /// "a label that the clearance dominates"
+    pub fn is_cleared(&self, user: usize, label: usize) -> bool {
+        let clearance = self.meaning.clearance[user];
+        self.meaning.dominance.over(clearance, label)
+    }
+
     /// "the user is assigned to it or to a senior of it"
     pub fn is_member(&self, user: usize, role: usize) -> bool {
         self.assigned
@@ -100,6 +106,12 @@ impl Policy {
             Mode::Read => &self.meaning.may_read[role],
             Mode::Write => &self.meaning.may_write[role],
         }
+    }
+
+    /// The roles that a session of the user at the label may take.
+    pub fn roles_to_take(&self, user: usize, label: usize) -> impl Iterator<Item = usize> + '_ {
+        (1..=self.counts.roles)
+            .filter(move |&role| self.is_member(user, role) && self.levels_allow(role, label))
     }
 }
 
@@ -191,8 +203,7 @@ impl Model {
         let user = in_range(user, policy.counts.users)?;
         let label = in_range(label, policy.counts.labels)?;
         // "26: clearance doesn't dominate the label asked"
-        let clearance = policy.meaning.clearance[user];
-        if !policy.meaning.dominance.over(clearance, label) {
+        if !policy.is_cleared(user, label) {
             return Err(26);
         }
         let session = Session {
@@ -295,6 +306,33 @@ impl Model {
     /// 21
     pub fn circling(&self, state_length: usize) -> Result<usize, u64> {
         Ok(self.usable(state_length)?.circle)
+    }
+
+    /// 21, 25, 26: whether a session of the user at the label could be granted
+    /// a read or a write of the card.
+    pub fn granting(
+        &self,
+        state_length: usize,
+        user: u64,
+        label: u64,
+        card: u64,
+        mode: u64,
+    ) -> Result<bool, u64> {
+        let policy = self.usable(state_length)?;
+        let user = in_range(user, policy.counts.users)?;
+        let label = in_range(label, policy.counts.labels)?;
+        let card = in_range(card, policy.counts.cards)?;
+        let mode = mode_in_range(mode)?;
+        // "26 where the clearance doesn't dominate the label"
+        if !policy.is_cleared(user, label) {
+            return Err(26);
+        }
+        // "some role that the user may take at that label gives it, directly
+        // or by inheritance"
+        let granted = policy
+            .roles_to_take(user, label)
+            .any(|role| policy.cards(role, mode).contains(&card));
+        Ok(granted)
     }
 
     // -----------------------------------------------------------------------
@@ -420,6 +458,11 @@ impl Model {
     pub fn circle(&self, state_length: usize) -> Figure {
         figure(self.circling(state_length).map(|role| role as u64))
     }
+
+    pub fn can(&self, state_length: usize, user: u64, label: u64, card: u64, mode: u64) -> Figure {
+        let granting = self.granting(state_length, user, label, card, mode);
+        figure(granting.map(u64::from))
+    }
 }
 
 /// "22: place not 1 to 64"
@@ -437,6 +480,15 @@ fn in_range(number: u64, count: usize) -> Result<usize, u64> {
         Ok(number as usize)
     } else {
         Err(25)
+    }
+}
+
+/// "25 for a user, label, card or mode out of range"
+fn mode_in_range(mode: u64) -> Result<Mode, u64> {
+    match mode {
+        1 => Ok(Mode::Read),
+        2 => Ok(Mode::Write),
+        _ => Err(25),
     }
 }
 

@@ -268,6 +268,24 @@ fn in_range(number: u64, count: usize) -> Result<usize, u64> {
     Ok(number as usize)
 }
 
+/// 25: where the cards that each role may read, or may write, are marked.
+fn permissions_of(mode: u64) -> Result<usize, u64> {
+    match mode {
+        1 => Ok(MAY_READ),
+        2 => Ok(MAY_WRITE),
+        _ => Err(25),
+    }
+}
+
+/// 26
+fn cleared(state: &[u8], user: usize, label: usize) -> Result<(), u64> {
+    let clearance = usize::from(state[CLEARANCE + user - 1]);
+    if !dominates(state, clearance, label) {
+        return Err(26);
+    }
+    Ok(())
+}
+
 /// 27
 fn membership(state: &[u8], user: usize, role: usize) -> Result<(), u64> {
     let member = (1..=roles(state)).any(|senior| {
@@ -339,10 +357,7 @@ fn open(state: &mut [u8], place: u64, user: u64, label: u64) -> Result<(), u64> 
     }
     let user = in_range(user, users(state))?;
     let label = in_range(label, labels(state))?;
-    let clearance = usize::from(state[CLEARANCE + user - 1]);
-    if !dominates(state, clearance, label) {
-        return Err(26);
-    }
+    cleared(state, user, label)?;
     let at = session_at(place);
     state[at..at + SESSION].fill(0);
     put_two_bytes(state, at, user);
@@ -409,6 +424,21 @@ fn flows(state: &[u8], from: u64, to: u64) -> Result<u64, u64> {
 fn circle(state: &[u8]) -> Result<u64, u64> {
     usable(state)?;
     Ok(two_bytes(state, CIRCLE) as u64)
+}
+
+fn can(state: &[u8], user: u64, label: u64, card: u64, mode: u64) -> Result<u64, u64> {
+    usable(state)?;
+    let user = in_range(user, users(state))?;
+    let label = in_range(label, labels(state))?;
+    let card = in_range(card, cards(state))?;
+    let permissions = permissions_of(mode)?;
+    cleared(state, user, label)?;
+    let granted = (1..=roles(state)).any(|role| {
+        marked(state, permissions, CARD_ROW, role, card)
+            && membership(state, user, role).is_ok()
+            && levels_allow(state, role, label).is_ok()
+    });
+    Ok(u64::from(granted))
 }
 
 // ---------------------------------------------------------------------------
@@ -555,4 +585,18 @@ pub unsafe extern "C" fn monitor_flows(
 #[no_mangle]
 pub unsafe extern "C" fn monitor_circle(state: *const u8, state_len: usize) -> Figure {
     figure(circle(lent(state, state_len)))
+}
+
+/// # Safety
+/// Every pointer names as many bytes as its length says.
+#[no_mangle]
+pub unsafe extern "C" fn monitor_can(
+    state: *const u8,
+    state_len: usize,
+    user: u64,
+    label: u64,
+    card: u64,
+    mode: u64,
+) -> Figure {
+    figure(can(lent(state, state_len), user, label, card, mode))
 }
