@@ -1,12 +1,12 @@
 -- `monitor_can` by the file, and by the session calls: its figure is 1 exactly when some role lets an opening, a taking and a use of the card through. Assumes nothing.
-use Prim.Native.Nat.{ℕ, zero, suc, _+_, _*_, _≤_}
+use Prim.Native.Nat.{ℕ, zero, suc, _*_, _≤_}
 use mathlib.Core.Path.{_≡_, refl, sym, ap, _∙_}
 use mathlib.Core.Logic.{_↔_, inr, ⊎-elim}
-use mathlib.Core.List.{List, []}
-use mathlib.Core.Bool.{Bool, true, false, _&&_, _||_, cond, false≢true}
+use mathlib.Core.List.{List}
+use mathlib.Core.Bool.{Bool, true, false, _&&_, cond, false≢true}
 use mathlib.Core.Option.{some, Option·some-injective}
 use native.Mathlib.Omega.{arith}
-use lib.Dec.{leb, eqb}
+use lib.Dec.{eqb}
 use lib.ListN.{length}
 use borrow.Author.Tests.{le-leb, eqb-true, eq-eqb}
 use Rattle.search.specs.Search as search
@@ -18,17 +18,17 @@ use Rattle.rolefile.specs.declared.Verdict.{Verdict}
 use Rattle.rolefile.specs.Said.{labels, roles, users, cards, clearance}
 use Rattle.rolefile.specs.WellFormed.{WellFormed}
 use Rattle.policy.specs.Policy.{dominates, may}
-use Rattle.policy.specs.Tables.{rowOf, readersAt, writersAt}
+use Rattle.policy.specs.Tables.{rowOf}
 use Rattle.policy.specs.Accepted.{Accepted}
 use Rattle.policy.specs.Image.{Loaded}
 use Rattle.policy.proofs.Meaning.{counts-known}
 use Rattle.monitor.specs.Session.{labelsIn, usersIn, cardsIn, cleared, entitled, fitting}
 use Rattle.monitor.specs.Calls.{unless, ifDone}
-use Rattle.monitor.specs.Runs.{Call, opens, takes, reads, writes, Memory, after}
+use Rattle.monitor.specs.Runs.{opens, takes, Memory, after}
 use Rattle.monitor.specs.Rules.{Session, Sessions, nobody, belongs, suits, uses, openRule, takeRule, partRule, rule, newcomer, holding, next}
 use Rattle.monitor.specs.Rights.{canNumber, tableOf, serves, could, Cans, canRule, mayCome, useOf, Granting}
 use Rattle.monitor.proofs.Answers.{unless-done}
-use Rattle.monitor.proofs.Orderly.{Orderly, opening, seated-done, taking, part-done}
+use Rattle.monitor.proofs.Orderly.{Orderly, opening, taking, part-done}
 use Rattle.monitor.proofs.Stands.{Stands}
 use Rattle.monitor.proofs.InFile.{test-same, test-passed, sound-file, cleared-file, entitled-file, fitting-file}
 use Rattle.monitor.proofs.History.{put-at}

@@ -1,5 +1,4 @@
 -- By the mode.
-use borrow.Author.Needs.{needs}
 use borrow.Author.Tests.{eq-eqb, ne-eqb}
 use Rattle.monitor.proofs.rights.table_of.Statement.{statement}
 use Rattle.monitor.proofs.rights.table_of.Tie as tie
