@@ -1,4 +1,5 @@
 pub mod Answers
+pub mod Known
 pub mod Holding
 pub mod Frames
 pub mod Orderly

@@ -5,3 +5,4 @@ pub mod Rules
 pub mod Granted
 pub mod Cases
 pub mod Rights
+pub mod Review

@@ -4,6 +4,7 @@
 // No exported function asks anything of its caller: every number is legal and every slice may be empty.
 mod cards;
 mod report;
+pub mod review;
 mod rights;
 mod rules;
 mod sessions;

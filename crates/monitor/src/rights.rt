@@ -45,8 +45,7 @@ fn serves(s: &[u8], user: u64, label: u64, card: u64, at: u64, role: u64) -> boo
     if !rules::fitting(s, label, role) {
         return false;
     }
-    let row = at + 16 * (card - 1);
-    roleset::has(s, row as usize, role as usize)
+    rules::in_row(s, at, card, role)
 }
 
 // Whether one of the state's roles serves.
@@ -66,7 +65,7 @@ fn could(s: &[u8], user: u64, label: u64, card: u64, at: u64) -> bool
 }
 
 // Where the table of a mode starts.
-fn table_of(mode: u64) -> u64
+pub fn table_of(mode: u64) -> u64
     ensures { λ r. ⌜ r ≡ rights.tableOf mode ⌝ }
 {
     if mode == 1 {

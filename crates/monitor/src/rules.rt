@@ -4,8 +4,10 @@ ghost use mathlib.Core.Path.{_≡_};
 ghost use mathlib.Core.Bool.{_||_};
 ghost use Prim.Native.Nat.{_+_, _*_, _≤_};
 ghost use lib.Dec.{leb, eqb};
+ghost use lib.ListN.{length};
 ghost use Rattle.search.specs.Search.{Among};
-ghost use Rattle.policy.specs.Tables.{marked};
+ghost use Rattle.roleset.specs.Row.{member};
+ghost use Rattle.policy.specs.Tables as tables;
 ghost use Rattle.monitor.specs.Session as session;
 
 // Whether the user's clearance dominates the label.
@@ -28,7 +30,7 @@ pub fn entitled(s: &[u8], user: u64, role: u64) -> bool
 
 // Whether label a dominates label b, one of which is a level: a free level, 0, always passes.
 fn passes(s: &[u8], level: u64, a: u64, b: u64) -> bool
-    ensures { λ r. ⌜ r ≡ (eqb level 0 || marked (now (s .entry)) a b) ⌝ }
+    ensures { λ r. ⌜ r ≡ (eqb level 0 || tables.marked (now (s .entry)) a b) ⌝ }
 {
     if level == 0 {
         return true;
@@ -72,6 +74,15 @@ pub fn gives(s: &[u8], at: u64, place: u64, card: u64) -> bool
     let held = 61456 + 20 * (place - 1) + 4;
     let row = at + 16 * (card - 1);
     roleset::meet(s, held as usize, row as usize)
+}
+
+// Whether thing x's row of the table at `at` holds the role.
+pub fn in_row(s: &[u8], at: u64, x: u64, role: u64) -> bool
+    requires { ⌜ (65536 ≤ length (now s)) × (at ≤ 20496) × Among 512 x ⌝ }
+    ensures { λ r. ⌜ r ≡ member (now (s .entry)) (tables.rowOf at x) role ⌝ }
+{
+    let row = at + 16 * (x - 1);
+    roleset::has(s, row as usize, role as usize)
 }
 
 // Whether n bytes from the offset on lie in a card.

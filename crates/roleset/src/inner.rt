@@ -107,11 +107,11 @@ fn half(s: &[u8], at: usize) -> u64
     quarter(s, at) + 4294967296 * quarter(s, at + 4)
 }
 
-pub fn meet(s: &[u8], a: usize, b: usize) -> bool
-    requires { ⌜ (a + 16 ≤ length (now s)) × (b + 16 ≤ length (now s)) ⌝ }
-    ensures { λ met. ⌜ met ≡ some 128 (λ r. member (now (s .entry)) a r && member (now (s .entry)) b r) ⌝ }
+pub fn meet(s: &[u8], a: usize, t: &[u8], b: usize) -> bool
+    requires { ⌜ (a + 16 ≤ length (now s)) × (b + 16 ≤ length (now t)) ⌝ }
+    ensures { λ met. ⌜ met ≡ some 128 (λ r. member (now (s .entry)) a r && member (now (t .entry)) b r) ⌝ }
 {
-    let first = half(s, a) & half(s, b);
-    let second = half(s, a + 8) & half(s, b + 8);
+    let first = half(s, a) & half(t, b);
+    let second = half(s, a + 8) & half(t, b + 8);
     (first | second) != 0
 }

@@ -7,6 +7,7 @@ mod inner;
 ghost use mathlib.Core.Path.{_≡_};
 ghost use mathlib.Core.Bool.{false, _&&_};
 ghost use Prim.Native.Nat.{ℕ};
+ghost use Rattle.search.specs.Search.{some};
 ghost use Rattle.roleset.specs.Row.{whole, member, common, Placed, added, removed, united, unitedWhere, joined};
 
 // Whether the row at `at` holds the role.
@@ -99,5 +100,15 @@ pub fn meet(s: &[u8], a: usize, b: usize) -> bool
     if !inner::lies(s.len(), b) {
         return false;
     }
-    inner::meet(s, a, b)
+    inner::meet(s, a, s, b)
+}
+
+// Whether the row at `at` has a role in common with a row that was taken by value.
+pub fn meet_row(s: &[u8], at: usize, other: [u8; 16]) -> bool
+    ensures { λ r. ⌜ r ≡ (whole (now (s .entry)) at && some 128 (λ q. member (now (s .entry)) at q && member other 0 q)) ⌝ }
+{
+    if !inner::lies(s.len(), at) {
+        return false;
+    }
+    inner::meet(s, at, &other, 0)
 }

@@ -20,16 +20,16 @@ use Rattle.roleset.proofs.Rows.{bit-member}
 use Rattle.roleset.proofs.inner.meet.Statement.{statement}
 use Rattle.roleset.proofs.inner.meet.Tie as tie
 
-module _ (xs : List ℕ) (a b : ℕ) (bytes : (i : ℕ) → getD xs i 0 < 256) where
+module _ (xs ys : List ℕ) (a b : ℕ) (bytes : (i : ℕ) → getD xs i 0 < 256) (others : (i : ℕ) → getD ys i 0 < 256) where
   abbrev Shared : ℕ → Bool
-  Shared r = member xs a r && member xs b r
+  Shared r = member xs a r && member ys b r
 
   -- the bits that byte k of the one row shares with byte k of the other, and those of two halves
   abbrev Both : ℕ → ℕ
-  Both k = bitAnd (getD xs (a + k) 0) (getD xs (b + k) 0)
+  Both k = bitAnd (getD xs (a + k) 0) (getD ys (b + k) 0)
 
   abbrev Halves : ℕ → ℕ → ℕ
-  Halves at to = bitAnd (littleEndian 8 (λ k. getD xs (at + k) 0)) (littleEndian 8 (λ k. getD xs (to + k) 0))
+  Halves at to = bitAnd (littleEndian 8 (λ k. getD xs (at + k) 0)) (littleEndian 8 (λ k. getD ys (to + k) 0))
 
   abbrev Apart : Type 0
   Apart = (k : ℕ) → k < 16 → Both k ≡ 0
@@ -37,8 +37,8 @@ module _ (xs : List ℕ) (a b : ℕ) (bytes : (i : ℕ) → getD xs i 0 < 256) w
   halves-apart : (bitOr (Halves a b) (Halves (a + 8) (b + 8)) ≡ 0) ↔ Apart
   halves-apart =
       let either = or-none (Halves a b) (Halves (a + 8) (b + 8)) in
-      let low = bytes-apart 8 (λ k. getD xs (a + k) 0) (λ k. getD xs (b + k) 0) (λ k. bytes (a + k)) (λ k. bytes (b + k)) in
-      let high = bytes-apart 8 (λ k. getD xs (a + 8 + k) 0) (λ k. getD xs (b + 8 + k) 0) (λ k. bytes (a + 8 + k)) (λ k. bytes (b + 8 + k)) in (
+      let low = bytes-apart 8 (λ k. getD xs (a + k) 0) (λ k. getD ys (b + k) 0) (λ k. bytes (a + k)) (λ k. others (b + k)) in
+      let high = bytes-apart 8 (λ k. getD xs (a + 8 + k) 0) (λ k. getD ys (b + 8 + k) 0) (λ k. bytes (a + 8 + k)) (λ k. others (b + 8 + k)) in (
         λ e k l. elim (decLt k 8) [
           | yes m ↦ low .0 (either .0 e .0) k m
           | no m ↦
@@ -55,11 +55,11 @@ module _ (xs : List ℕ) (a b : ℕ) (bytes : (i : ℕ) → getD xs i 0 < 256) w
         ),
       )
 
-  byte-shares : (k j : ℕ) → k < 16 → j < 8 → (bit (getD xs (a + k) 0) j && bit (getD xs (b + k) 0) j) ≡ Shared (8 * k + j + 1)
-  byte-shares k j l m = rw (bit-member xs a k j l m, bit-member xs b k j l m)
+  byte-shares : (k j : ℕ) → k < 16 → j < 8 → (bit (getD xs (a + k) 0) j && bit (getD ys (b + k) 0) j) ≡ Shared (8 * k + j + 1)
+  byte-shares k j l m = rw (bit-member xs a k j l m, bit-member ys b k j l m)
 
-  byte-apart : (k : ℕ) → (Both k ≡ 0) ↔ ((j : ℕ) → j < 8 → (bit (getD xs (a + k) 0) j && bit (getD xs (b + k) 0) j) ≡ false)
-  byte-apart k = and-none (getD xs (a + k) 0) (getD xs (b + k) 0) (bytes (a + k)) (bytes (b + k))
+  byte-apart : (k : ℕ) → (Both k ≡ 0) ↔ ((j : ℕ) → j < 8 → (bit (getD xs (a + k) 0) j && bit (getD ys (b + k) 0) j) ≡ false)
+  byte-apart k = and-none (getD xs (a + k) 0) (getD ys (b + k) 0) (bytes (a + k)) (others (b + k))
 
   rows-apart : Apart ↔ None Shared 128
   rows-apart = (
@@ -82,9 +82,11 @@ module _ (xs : List ℕ) (a b : ℕ) (bytes : (i : ℕ) → getD xs i 0 < 256) w
 
 returns : tie.Need-returns
 returns c =
-    let start = c .before .before .before .before .before .args in
+    let second = c .before .before .before .before in
+    let first = second .before in
+    let start = first .before .args in
     rw (c .before .before .before .half .ensures, c .before .before .half2 .ensures, c .before .half3 .ensures, c .half4 .ensures)
-    (met (start .s .now) (start .a) (start .b) (λ i. c .before .before .before .before .shared-slice-known .given i .fits))
+    (met (start .s .now) (start .t .now) (start .a) (start .b) (λ i. first .shared-slice-known .given i .fits) (λ i. second .shared-slice-known2 .given i .fits))
 
 pub meet-spec : {M : Type 1} → statement M
 meet-spec =

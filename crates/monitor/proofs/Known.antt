@@ -1,0 +1,76 @@
+-- Rows of tests whose answers are those of calls, and what it tells that a state knows a number. Assumes nothing.
+use Prim.Native.Nat.{ℕ, _≤_}
+use mathlib.Core.Path.{_≡_, refl}
+use mathlib.Core.List.{List}
+use mathlib.Core.Bool.{Bool, true, false, not, _&&_, cond}
+use native.Mathlib.Omega.{arith}
+use lib.ListN.{length}
+use Rattle.search.specs.Search.{among, Among}
+use Rattle.search.proofs.Truth.{and-iff, among-iff, passed, failed}
+use Rattle.policy.specs.Tables.{word}
+use Rattle.monitor.specs.Session.{sound, entitled, fitting}
+use Rattle.monitor.specs.Review.{known, isLabel, isRole, isUser, isCard, counted, entitledTo, mayOpen, mayTake}
+use Rattle.monitor.proofs.Answers.{Sound, sound-of}
+
+-- the test that fails, and one before it; a call's `ensures` is r ≡ t
+module _ (t rest : Bool) {r : Bool} (e : r ≡ t) where
+  pub fails : not r ≡ true → false ≡ (t && rest)
+  fails h = rw (failed e h)
+
+  pub holds : {x : Bool} → not r ≡ false → x ≡ rest → x ≡ (t && rest)
+  holds h k = rw (passed e h) k
+
+pub ruleset tests = (fails, holds)
+
+-- a number within a limit is within a higher one
+pub wider : (m n : ℕ) {x : ℕ} → m ≤ n → Among m x → Among n x
+wider m n l a = omega arith
+
+module _ (xs : List ℕ) where
+  inside : (at x : ℕ) → known xs at x ≡ true → Sound xs × Among (word xs at) x
+  inside at x h = let a = and-iff _ _ .0 h in (sound-of xs (a .0), among-iff _ _ .0 (a .1))
+
+  pub long : (at x : ℕ) → known xs at x ≡ true → 65536 ≤ length xs
+  long at x h = inside at x h .0 .long
+
+  pub few-roles : counted xs 2 ≤ 128
+  few-roles = few (sound xs) refl
+    where
+      few : (b : Bool) → sound xs ≡ b → cond b (word xs 2) 0 ≤ 128
+      few true e = sound-of xs e .roles
+      few false e = omega arith
+
+  -- with a limit to how many there are
+  within : (n at x : ℕ) → n ≤ 512 → known xs at x ≡ true → (Sound xs → word xs at ≤ n) → Among n x
+  within n at x l h few = let a = inside at x h in let most = few (a .0) in omega arith
+
+  pub label : (l : ℕ) → isLabel xs l ≡ true → Among 32 l
+  label l h = within 32 0 l (omega arith) h (λ s. s .labels .1)
+
+  pub role : (r : ℕ) → isRole xs r ≡ true → Among 128 r
+  role r h = within 128 2 r (omega arith) h (λ s. s .roles)
+
+  pub user : (u : ℕ) → isUser xs u ≡ true → Among 256 u
+  user u h = within 256 4 u (omega arith) h (λ s. s .users)
+
+  pub card : (o : ℕ) → isCard xs o ≡ true → Among 512 o
+  card o h = within 512 6 o (omega arith) h (λ s. s .cards)
+
+  pub entitled-role : (u r : ℕ) → entitledTo xs u r ≡ true → Among 128 r
+  unfolding entitledTo
+  entitled-role u r h = role r (and-iff (isRole xs r) (entitled xs u r) .0 (and-iff (isUser xs u) (isRole xs r && entitled xs u r) .0 h .1) .0)
+
+  pub may-role : (u l r : ℕ) → mayTake xs u l r ≡ true → Among 128 r
+  unfolding mayTake
+  may-role u l r h = entitled-role u r (and-iff (entitledTo xs u r) (fitting xs l r) .0 (and-iff (mayOpen xs u l) (entitledTo xs u r && fitting xs l r) .0 h .1) .0)
+
+  -- a role that may be taken is one that the state counts
+  pub may-known : (u l r : ℕ) → mayTake xs u l r ≡ true → r ≤ counted xs 2
+  unfolding mayTake entitledTo
+  may-known u l r h =
+      let a = and-iff (mayOpen xs u l) (isUser xs u && (isRole xs r && entitled xs u r) && fitting xs l r) .0 h .1 in
+      let b = and-iff (isUser xs u && (isRole xs r && entitled xs u r)) (fitting xs l r) .0 a .0 in
+      let d = and-iff (isUser xs u) (isRole xs r && entitled xs u r) .0 b .1 in
+      let e = and-iff (isRole xs r) (entitled xs u r) .0 d .0 in
+      let s = and-iff (sound xs) (among (word xs 2) r) .0 e in
+      rw (s .0) (among-iff (word xs 2) r .0 (s .1) .1)

@@ -1,0 +1,26 @@
+-- None of a user that the state does not know.
+use Prim.Native.Nat.{ℕ, _≤_, _<_}
+use native.Mathlib.Omega.{arith}
+use borrow.Author.Needs.{needs}
+use Rattle.search.proofs.Truth.{passed, failed}
+use Rattle.monitor.specs.Review.{clearanceOf}
+use Rattle.monitor.proofs.Known.{user}
+use Rattle.monitor.proofs.review.clearance.Statement.{statement}
+use Rattle.monitor.proofs.review.clearance.Tie as tie
+
+below : {u : ℕ} → u ≤ 256 → u < 65536
+below l = omega arith
+
+returns : tie.Need-returns
+unfolding clearanceOf
+returns c = rw (failed (c .before .known .ensures) (c .if1 .taken))
+
+byte-of-requires : tie.Need-byte-of-requires
+byte-of-requires c κs = let u = user _ _ (passed (c .before .known .ensures) (c .if1 .left)) in (omega arith, below (u .1), u .0)
+
+returns-2 : tie.Need-returns-2
+unfolding clearanceOf
+returns-2 c = rw (passed (c .before .before .known .ensures) (c .before .if1 .left)) (c .byte-of .ensures .0)
+
+pub clearance-spec : {M : Type 1} → statement M
+clearance-spec = tie.close (tie.spec (λ c κs. search needs) returns byte-of-requires returns-2)

@@ -1,0 +1,190 @@
+// What a state says of its users, labels, roles and cards, for reports.
+//
+// Every public function takes any slice and any numbers. Of a state that 21 refuses, and of a number
+// out of its range, nothing holds.
+use super::rights;
+use super::rules;
+use super::state;
+ghost use mathlib.Core.Path.{_≡_};
+ghost use Prim.Native.Nat.{ℕ, _<_};
+ghost use mathlib.Core.Bool.{_&&_, _||_};
+ghost use lib.Dec.{eqb};
+ghost use Rattle.search.specs.Search.{among};
+ghost use Rattle.roleset.specs.Row.{member, Placed};
+ghost use Rattle.monitor.specs.Review as review;
+
+// How many things the count at `at` tells of.
+fn counted(s: &[u8], at: u64) -> u64
+    requires { ⌜ at < 65536 ⌝ }
+    ensures { λ r. ⌜ r ≡ review.counted (now (s .entry)) at ⌝ }
+{
+    if !state::sound(s) {
+        return 0;
+    }
+    state::word(s, at)
+}
+
+// How many labels the state has.
+pub fn labels(s: &[u8]) -> u64
+    ensures { λ r. ⌜ r ≡ review.counted (now (s .entry)) 0 ⌝ }
+{
+    counted(s, 0)
+}
+
+// How many roles.
+pub fn roles(s: &[u8]) -> u64
+    ensures { λ r. ⌜ r ≡ review.counted (now (s .entry)) 2 ⌝ }
+{
+    counted(s, 2)
+}
+
+// How many users.
+pub fn users(s: &[u8]) -> u64
+    ensures { λ r. ⌜ r ≡ review.counted (now (s .entry)) 4 ⌝ }
+{
+    counted(s, 4)
+}
+
+// How many cards.
+pub fn cards(s: &[u8]) -> u64
+    ensures { λ r. ⌜ r ≡ review.counted (now (s .entry)) 6 ⌝ }
+{
+    counted(s, 6)
+}
+
+// Whether x is one of the things that the count at `at` tells of.
+fn known(s: &[u8], at: u64, x: u64) -> bool
+    requires { ⌜ at < 65536 ⌝ }
+    ensures { λ r. ⌜ r ≡ review.known (now (s .entry)) at x ⌝ }
+{
+    if !state::sound(s) {
+        return false;
+    }
+    state::counted(s, at, x)
+}
+
+// The user's clearance, or 0.
+pub fn clearance(s: &[u8], user: u64) -> u64
+    ensures { λ r. ⌜ r ≡ review.clearanceOf (now (s .entry)) user ⌝ }
+{
+    if !known(s, 4, user) {
+        return 0;
+    }
+    state::byte_of(s, 1040, user)
+}
+
+// Whether label a dominates label b.
+pub fn dominates(s: &[u8], a: u64, b: u64) -> bool
+    ensures { λ r. ⌜ r ≡ review.over (now (s .entry)) a b ⌝ }
+{
+    if !known(s, 0, a) {
+        return false;
+    }
+    if !known(s, 0, b) {
+        return false;
+    }
+    state::dominates(s, a, b)
+}
+
+// Whether role q is a senior of role r, or the same.
+pub fn senior(s: &[u8], q: u64, r: u64) -> bool
+    ensures { λ b. ⌜ b ≡ review.seniorTo (now (s .entry)) q r ⌝ }
+{
+    if !known(s, 2, q) {
+        return false;
+    }
+    if !known(s, 2, r) {
+        return false;
+    }
+    rules::in_row(s, 2064, r, q)
+}
+
+// Whether the user is assigned to the role itself.
+pub fn assigned(s: &[u8], user: u64, role: u64) -> bool
+    ensures { λ r. ⌜ r ≡ review.assignedTo (now (s .entry)) user role ⌝ }
+{
+    if !known(s, 4, user) {
+        return false;
+    }
+    if !known(s, 2, role) {
+        return false;
+    }
+    rules::in_row(s, 4112, user, role)
+}
+
+// Whether the user is assigned to the role or to a senior of it.
+pub fn entitled(s: &[u8], user: u64, role: u64) -> bool
+    ensures { λ r. ⌜ r ≡ review.entitledTo (now (s .entry)) user role ⌝ }
+{
+    if !known(s, 4, user) {
+        return false;
+    }
+    if !known(s, 2, role) {
+        return false;
+    }
+    rules::entitled(s, user, role)
+}
+
+// Whether the user may open a session at the label.
+pub fn may_open(s: &[u8], user: u64, label: u64) -> bool
+    ensures { λ r. ⌜ r ≡ review.mayOpen (now (s .entry)) user label ⌝ }
+{
+    if !known(s, 4, user) {
+        return false;
+    }
+    if !known(s, 0, label) {
+        return false;
+    }
+    rules::cleared(s, user, label)
+}
+
+// Whether the user may take the role in a session at the label.
+pub fn may_take(s: &[u8], user: u64, label: u64, role: u64) -> bool
+    ensures { λ r. ⌜ r ≡ review.mayTake (now (s .entry)) user label role ⌝ }
+{
+    if !may_open(s, user, label) {
+        return false;
+    }
+    if !entitled(s, user, role) {
+        return false;
+    }
+    rules::fitting(s, label, role)
+}
+
+// Puts the role into a row where it may be taken.
+fn put_where(row: &mut [u8], role: usize, may: bool)
+    ensures { λ _. ⌜ Placed 0 (λ r. member (now (row .entry)) 0 r || (may && (among 128 role && eqb r role))) (now (row .entry)) (now (row .exit)) ⌝ }
+{
+    if may {
+        roleset::add(row, 0, role);
+    }
+}
+
+// The roles that the user may take in a session at the label.
+pub fn roles_at(s: &[u8], user: u64, label: u64) -> [u8; 16]
+    ensures { λ row. ⌜ ((r : ℕ) → member row 0 r ≡ review.mayTake (now (s .entry)) user label r) ⌝ }
+{
+    let n = roles(s);
+    let mut row = [0u8; 16];
+    let mut i = 0;
+    while i < n {
+        let may = may_take(s, user, label, i + 1);
+        put_where(&mut row, i as usize + 1, may);
+        i += 1;
+    }
+    row
+}
+
+// Whether one of the roles of a row gives the read (mode 1) or the write (mode 2) of the card.
+pub fn give(s: &[u8], mode: u64, card: u64, row: [u8; 16]) -> bool
+    ensures { λ r. ⌜ r ≡ review.giveCard (now (s .entry)) mode card (member row 0) ⌝ }
+{
+    if !known(s, 6, card) {
+        return false;
+    }
+    if !state::among(2, mode) {
+        return false;
+    }
+    let at = rights::table_of(mode) + 16 * (card - 1);
+    roleset::meet_row(s, at as usize, row)
+}
