@@ -1,0 +1,85 @@
+// Text put into a buffer: bytes, and numbers in columns or in their fewest digits.
+//
+// A buffer that is too short for a text holds as much of its start as there is room for.
+ghost use mathlib.Core.Path.{_≡_};
+ghost use mathlib.Core.Bool.{true, cond};
+ghost use Prim.Native.Nat.{_+_, _-_, _%_, _≤_, _<_};
+ghost use lib.Dec.{ltb};
+ghost use lib.ListN.{length};
+ghost use Rattle.rolefile.specs.Decimal.{digits, columnsOf};
+ghost use Rattle.text.specs.Text.{Puts};
+
+// Puts bytes into `out` after its first `at` bytes, as far as there is room, and answers how many
+// are then in use.
+pub fn put(out: &mut [u8], at: usize, bytes: &[u8]) -> usize
+    ensures { λ r. ⌜ Puts (now (bytes .entry)) at (now (out .entry)) r (now (out .exit)) ⌝ }
+{
+    if out.len() <= at {
+        return out.len();
+    }
+    let mut i = 0;
+    while i < bytes.len() {
+        if out.len() <= at + i {
+            return out.len();
+        }
+        out[at + i] = bytes[i];
+        i += 1;
+    }
+    at + i
+}
+
+// The last digit of n, or a blank for a place that the number does not reach.
+fn digit(n: u64) -> u8
+    ensures { λ r. ⌜ r ≡ cond (ltb n 1) 32 (48 + n % 10) ⌝ }
+{
+    if n < 1 {
+        return 32;
+    }
+    48 + (n % 10) as u8
+}
+
+// The five columns of a number below 100,000, or blanks for a field without use.
+pub fn columns(used: bool, n: u64) -> [u8; 5]
+    ensures { λ r. ⌜ 5 ≡ length r ⌝ }
+    ensures { λ r. ⌜ (n < 100000 → r ≡ columnsOf used n) ⌝ }
+{
+    if !used {
+        return [32; 5];
+    }
+    [
+        digit(n / 10000),
+        digit(n / 1000),
+        digit(n / 100),
+        digit(n / 10),
+        48 + (n % 10) as u8,
+    ]
+}
+
+// How many of its five columns a number below 100,000 leaves blank.
+fn blanks(n: u64) -> usize
+    ensures { λ r. ⌜ r ≤ 4 ⌝ }
+    ensures { λ r. ⌜ (n < 100000 → r ≡ 5 - length (digits n)) ⌝ }
+{
+    if n < 10 {
+        return 4;
+    }
+    if n < 100 {
+        return 3;
+    }
+    if n < 1000 {
+        return 2;
+    }
+    if n < 10000 {
+        return 1;
+    }
+    0
+}
+
+// Puts a number below 100,000 in its fewest digits, as `put` does.
+pub fn number(out: &mut [u8], at: usize, n: u64) -> usize
+    ensures { λ r. ⌜ (length (now (out .exit)) ≡ length (now (out .entry))) × (r ≤ length (now (out .exit))) × (n < 100000 → Puts (digits n) at (now (out .entry)) r (now (out .exit))) ⌝ }
+{
+    let text = columns(true, n);
+    let from = blanks(n);
+    put(out, at, &text[from..])
+}
