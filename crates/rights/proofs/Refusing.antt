@@ -1,26 +1,28 @@
 -- The report on a refused file is short: a buffer of 256 bytes holds it whole. Assumes nothing.
-use Prim.Native.Nat.{ℕ, _*_, _-_, _≤_, _<_}
-use mathlib.Core.List.{List, _++_, map}
+use Prim.Native.Nat.{ℕ, _≤_, _<_}
+use mathlib.Core.List.{List, _++_}
 use mathlib.Core.Bool.{_&&_}
 use native.Mathlib.Omega.{arith}
 use lib.Dec.{leb}
 use lib.ListN.{length, take, drop, length-append, length-map, length-take}
 use borrow.Author.Tests.{ltb-true}
+use Rattle.search.specs.Search.{among}
 use Rattle.search.proofs.Truth.{and-iff}
-use Rattle.rights.specs.Refusal.{formReason, policyReason, reason, shown, hasLine, lineShown, lineRow, placeRows, reasonRow, fits, refusalText}
+use Rattle.rolefile.specs.Line.{start, lines, textAt}
+use Rattle.rights.specs.Refusal.{formReason, policyReason, reason, lineRow, placeRows, reasonRow, fits, refusalText}
 use Rattle.rights.proofs.Lengths.{most, where-most, few-digits, five-columns}
 
 reason-most : (n : ℕ) → length (reason n) ≤ 80
 unfolding reason formReason policyReason
 reason-most n = search most depth 14 fits 5000
 
-shown-most : (f : List ℕ) (k : ℕ) → length (lineShown f k) ≤ 21
-unfolding lineShown
-shown-most f k = where-most (hasLine f k) (map shown (take 21 (drop (22 * (k - 1)) f))) (λ e. simp (length-map, length-take) (omega arith))
+text-most : (f : List ℕ) (k : ℕ) → length (textAt f k) ≤ 21
+unfolding textAt
+text-most f k = where-most (among (lines f) k) (take 21 (drop (start k) f)) (λ e. omega (arith, length-take 21 (drop (start k) f)))
 
 row-most : (f : List ℕ) (number k : ℕ) → k < 100000 → length (lineRow f number k) ≤ 45
 unfolding lineRow
-row-most f number k l = where-most (leb 2 number && leb number 5) _ (λ e. simp length-append (omega (arith, five-columns k l, shown-most f k)))
+row-most f number k l = where-most (leb 2 number && leb number 5) _ (λ e. simp (length-append, length-map) (omega (arith, five-columns k l, text-most f k)))
 
 place-most : (number first second : ℕ) → number < 100000 → first < 100000 → second < 100000 → length (placeRows number first second) ≤ 64
 unfolding placeRows

@@ -6,11 +6,11 @@
 --     line     7  text       D    3    1
 --
 -- Assumes nothing.
-use Prim.Native.Nat.{ℕ, _*_, _-_}
+use Prim.Native.Nat.{ℕ}
 use mathlib.Core.List.{List, [], _++_, map}
 use mathlib.Core.Bool.{Bool, true, _&&_, cond}
 use lib.Dec.{leb, ltb, eqb}
-use lib.ListN.{length, take, drop}
+use Rattle.rolefile.specs.Line.{textAt}
 use Rattle.rolefile.specs.Decimal.{digits, columnsOf}
 use Rattle.text.specs.Text.{ascii}
 
@@ -42,18 +42,10 @@ reason number = cond (leb number 10) (formReason number) (policyReason number)
 unfoldable pub shown : ℕ → ℕ
 shown b = cond (leb 32 b && leb b 126) b 63
 
--- the file has line k, of 22 bytes
-abbrev pub hasLine : List ℕ → ℕ → Bool
-hasLine f k = leb 1 k && leb (22 * k) (length f)
-
--- line k without its last byte, or nothing where the file has no such line
-unfoldable pub lineShown : List ℕ → ℕ → List ℕ
-lineShown f k = cond (hasLine f k) (map shown (take 21 (drop (22 * (k - 1)) f))) []
-
 -- the line of the report on line k, for the numbers whose place is a line
 unfoldable pub lineRow : List ℕ → ℕ → ℕ → List ℕ
 lineRow f number k =
-    cond (leb 2 number && leb number 5) (ascii "line " ++ (columnsOf true k ++ (ascii "  text       " ++ (lineShown f k ++ ascii "\n")))) []
+    cond (leb 2 number && leb number 5) (ascii "line " ++ (columnsOf true k ++ (ascii "  text       " ++ (map shown (textAt f k) ++ ascii "\n")))) []
 
 -- the lines of the number and its place
 unfoldable pub placeRows : ℕ → ℕ → ℕ → List ℕ

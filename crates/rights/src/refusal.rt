@@ -3,7 +3,7 @@
 ghost use mathlib.Core.Path.{_≡_};
 ghost use mathlib.Core.List.{map};
 ghost use Prim.Native.Nat.{_+_, _≤_, _<_};
-ghost use lib.ListN.{length, take, drop};
+ghost use lib.ListN.{length};
 ghost use Rattle.text.specs.Text.{Puts};
 ghost use Rattle.rights.specs.Refusal as refusal;
 
@@ -100,33 +100,19 @@ fn shown(b: u8) -> u8
     b
 }
 
-// Puts the 21 bytes of `file` after its first `from`, as they are shown, in the same way.
-fn bytes_shown(file: &[u8], from: usize, out: &mut [u8], at: usize) -> usize
-    requires { ⌜ (from + 21 ≤ length (now file)) × (at ≤ length (now out)) ⌝ }
-    ensures { λ r. ⌜ Puts (map refusal.shown (take 21 (drop from (now (file .entry))))) at (now (out .entry)) r (now (out .exit)) ⌝ }
+// Puts bytes as they are shown, in the same way.
+fn bytes_shown(bytes: &[u8], out: &mut [u8], at: usize) -> usize
+    requires { ⌜ at ≤ length (now out) ⌝ }
+    ensures { λ r. ⌜ Puts (map refusal.shown (now (bytes .entry))) at (now (out .entry)) r (now (out .exit)) ⌝ }
 {
     let mut used = at;
     let mut i = 0;
-    while i < 21 {
-        let one = [shown(file[from + i])];
+    while i < bytes.len() {
+        let one = [shown(bytes[i])];
         used = text::put(out, used, &one);
         i += 1;
     }
     used
-}
-
-// Puts line k as it is shown, or nothing where the file has no such line.
-fn line_shown(file: &[u8], k: u64, out: &mut [u8], at: usize) -> usize
-    requires { ⌜ (k < 100000) × (at ≤ length (now out)) ⌝ }
-    ensures { λ r. ⌜ Puts (refusal.lineShown (now (file .entry)) k) at (now (out .entry)) r (now (out .exit)) ⌝ }
-{
-    if k < 1 {
-        return at;
-    }
-    if file.len() < 22 * k as usize {
-        return at;
-    }
-    bytes_shown(file, 22 * (k as usize - 1), out, at)
 }
 
 // Puts the line of the report on line k, for the numbers whose place is a line.
@@ -144,7 +130,7 @@ fn line_row(file: &[u8], number: u64, k: u64, out: &mut [u8], at: usize) -> usiz
     let field = text::columns(true, k);
     used = text::put(out, used, &field);
     used = text::put(out, used, b"  text       ");
-    used = line_shown(file, k, out, used);
+    used = bytes_shown(rolefile::read::text(file, k as usize), out, used);
     text::put(out, used, b"\n")
 }
 
