@@ -127,14 +127,14 @@ module _ (f : List ℕ) (form : WellFormed f) (t : Sessions) (orderly : Orderly 
         rw (card o i, among-iff 2 m .1 j, stands .tables .counted .roles)
         (same (search.some 128 gives) (search.some (roles f) (serves xs u l o (tableOf m)))
         (λ h.
-            let (r, k, e) = some-iff gives 128 .0 h in
-            let may = and-iff (member xs (rowOf (tableOf m) o) r) (mayTake xs u l r) .0 e .1 in
-            let most = rw review-roles at (may-known xs u l r may) in
-            let one : Among (roles f) r = omega arith in
-            some-of (serves xs u l o (tableOf m)) (roles f) r one (sym (serves-as r one) ∙ e))
+        let (r, k, e) = some-iff gives 128 .0 h in
+        let may = and-iff (member xs (rowOf (tableOf m) o) r) (mayTake xs u l r) .0 e .1 in
+        let most = rw review-roles at (may-known xs u l r may) in
+        let one : Among (roles f) r = omega arith in
+        some-of (serves xs u l o (tableOf m)) (roles f) r one (sym (serves-as r one) ∙ e))
         (λ h.
-            let (r, k, e) = some-iff (serves xs u l o (tableOf m)) (roles f) .0 h in
-            some-of gives 128 r (omega (arith, few)) (serves-as r k ∙ e)))
+        let (r, k, e) = some-iff (serves xs u l o (tableOf m)) (roles f) .0 h in
+        some-of gives 128 r (omega (arith, few)) (serves-as r k ∙ e)))
 
     pub review-gives : giveCard xs m o (mayTake xs u l) ≡ mayCome f u l o m
     review-gives = review-can ∙ could-by f form t orderly xs stands u l o m v w i j
