@@ -1,5 +1,6 @@
 pub mod Answers
 pub mod Known
+pub mod Filled
 pub mod Holding
 pub mod Frames
 pub mod Orderly

@@ -151,8 +151,8 @@ pub fn may_take(s: &[u8], user: u64, label: u64, role: u64) -> bool
     rules::fitting(s, label, role)
 }
 
-// Puts the role into a row where it may be taken.
-fn put_where(row: &mut [u8], role: usize, may: bool)
+// Puts the role into a row where it belongs there, as where it may be taken.
+pub fn put_where(row: &mut [u8], role: usize, may: bool)
     ensures { λ _. ⌜ Placed 0 (λ r. member (now (row .entry)) 0 r || (may && (among 128 role && eqb r role))) (now (row .entry)) (now (row .exit)) ⌝ }
 {
     if may {

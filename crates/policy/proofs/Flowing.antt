@@ -98,19 +98,19 @@ apart-row t u i q long same l w done = rw (row-left (apart t) t u i long same l 
 
 -- a table that says which role may write one of the first m cards that which role may read
 module _ (xs t : List ℕ) (m : ℕ) (said : (r q : ℕ) → Among 128 r → Among 128 q → related t 0 r q ≡ some m (passing xs r q)) where
-  apart-flows : (r q : ℕ) → Among 128 r → Among 128 q → apart t r q ≡ flowing xs m r q
+  -- has the flow among the first m cards, once no role is related to itself
+  pub apart-flows : (r q : ℕ) → Among 128 r → Among 128 q → apart t r q ≡ flowing xs m r q
   apart-flows r q v w = elim (ℕ-discrete r q) [
     | yes e ↦ rw (eq-eqb q r (sym e)) (and-false (related t 0 r q) ∙ sym (flow-self xs m r q e))
     | no e ↦ rw (ne-eqb q r (λ i. e (sym i))) (and-true (related t 0 r q) ∙ said r q v w ∙ sym (flow-other xs m r q e))
   ]
 
-  -- its circles, once no role is related to itself, as the lowest on one is answered for n roles
-  pub flow-circles : (u v : List ℕ) (n r : ℕ) → 2048 ≤ length t → length u ≡ length t → length v ≡ length u → n ≤ 128
-      → Tabled 0 128 (apart t) t u → Tabled 0 n (path n (related u 0)) u v
-      → r ≡ cond (leb (0 + 2048) (length v)) (loop n (related v 0)) 0 → r ≡ circle n (flowing xs m)
-  flow-circles u v n r long same kept l once closed e =
-      e
-      ∙ rw (le-leb (0 + 2048) (length v) (omega arith)) (first-agree (λ a. related v 0 a a) (λ a. path n (related u 0) a a) n
-      (λ a w. closed .rows (omega arith) .done a a w (omega arith)))
-      ∙ circle-agree n 128 (related u 0) (flowing xs m) l
-      (λ a b v w. once .rows (omega arith) .done a b (omega arith) w ∙ apart-flows a b (omega arith) w)
+-- the circles of flow by a table that has it, as the lowest on one is answered for n roles
+pub flow-circles : (xs t v : List ℕ) (m n r : ℕ) → ((r q : ℕ) → Among 128 r → Among 128 q → related t 0 r q ≡ flowing xs m r q)
+    → 2048 ≤ length t → length v ≡ length t → n ≤ 128 → Tabled 0 n (path n (related t 0)) t v
+    → r ≡ cond (leb (0 + 2048) (length v)) (loop n (related v 0)) 0 → r ≡ circle n (flowing xs m)
+flow-circles xs t v m n r has long kept l closed e =
+    e
+    ∙ rw (le-leb (0 + 2048) (length v) (omega arith)) (first-agree (λ a. related v 0 a a) (λ a. path n (related t 0) a a) n
+    (λ a w. closed .rows (omega arith) .done a a w (omega arith)))
+    ∙ circle-agree n 128 (related t 0) (flowing xs m) l (λ a b v w. has a b (omega arith) w)

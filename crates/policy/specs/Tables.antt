@@ -127,6 +127,10 @@ cardsUpTo xs = min (word xs 6) 512
 abbrev pub isState : List ℕ → Bool
 isState xs = leb stateSize (length xs)
 
+-- role flow in a state; what is too short for one has none
+abbrev pub flowsIn : List ℕ → Relation
+flowsIn xs r q = isState xs && flowing xs (cardsUpTo xs) r q
+
 -- ---- 14 to 16 by the tables
 
 unfoldable pub assignByTables : List ℕ → ℕ → ℕ → Verdict

@@ -10,7 +10,7 @@ ghost use Rattle.search.specs.Search.{among, some, Among};
 ghost use Rattle.roleset.specs.Row.{member, Placed};
 ghost use Rattle.order.specs.Closure.{circle};
 ghost use Rattle.order.specs.Table.{related, Tabled};
-ghost use Rattle.policy.specs.Tables.{word, byteOf, rowOf, rLevelsAt, wLevelsAt, readersAt, writersAt, flowing, rolesUpTo, cardsUpTo, isState};
+ghost use Rattle.policy.specs.Tables.{word, byteOf, rowOf, rLevelsAt, wLevelsAt, readersAt, writersAt, flowing, rolesUpTo, cardsUpTo, isState, flowsIn};
 
 // The number in two bytes, the lower first.
 fn word(s: &[u8], at: usize) -> usize
@@ -149,6 +149,18 @@ fn part_from_self(t: &mut [u8])
     }
 }
 
+// Role flow as a table of role sets: row r has the roles that r flows to.
+pub fn table(s: &[u8]) -> [u8; 2048]
+    ensures { λ t. ⌜ ((r q : ℕ) → Among 128 r → Among 128 q → related t 0 r q ≡ flowsIn (now (s .entry)) r q) ⌝ }
+{
+    if s.len() < 65536 {
+        return [0u8; 2048];
+    }
+    let mut t = flow_table(s, cards(s));
+    part_from_self(&mut t);
+    t
+}
+
 // The lowest role on a circle of flow, or 0.
 pub fn flow_circle(s: &[u8]) -> usize
     ensures { λ r. ⌜ r ≡ cond (isState (now (s .entry))) (circle (rolesUpTo (now (s .entry))) (flowing (now (s .entry)) (cardsUpTo (now (s .entry))))) 0 ⌝ }
@@ -157,8 +169,7 @@ pub fn flow_circle(s: &[u8]) -> usize
         return 0;
     }
     let n = roles(s);
-    let mut t = flow_table(s, cards(s));
-    part_from_self(&mut t);
+    let mut t = table(s);
     order::rows::paths(&mut t, 0, n);
     order::rows::lowest_loop(&t, 0, n)
 }

@@ -4,3 +4,5 @@ pub mod Lengths
 pub mod Putting
 pub mod Refusing
 pub mod Whole
+pub mod Drawing
+pub mod Drawn

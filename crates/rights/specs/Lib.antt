@@ -3,3 +3,4 @@ pub mod Rights
 pub mod Refusal
 pub mod Arguments
 pub mod Reading
+pub mod Graph

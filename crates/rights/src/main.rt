@@ -1,5 +1,6 @@
 // Prints what a role file means for its users, or why it is refused.
 mod arguments;
+mod graph;
 mod list;
 mod refusal;
 mod user;
@@ -162,32 +163,63 @@ fn print_refusal(file: &[u8], verdict: rolefile::Verdict) {
     print(&out, n);
 }
 
-// Prints what is asked of the file of the first n bytes.
-fn print_answer(file: &[u8]) {
+// Prints the policy as a graph.
+fn print_graph(s: &[u8]) {
+    let mut out = graph::buffer();
+    let n = graph::graph(s, &mut out);
+    print(&out, n);
+}
+
+// Prints what is asked of a file: its graph, or what it means for its users.
+fn print_answer(file: &[u8], drawn: bool) {
     let mut state = io::large_buffer();
     let verdict = policy::load(file, &mut state);
     if verdict.number != 0 {
         print_refusal(file, verdict);
         return;
     }
+    if drawn {
+        print_graph(&state);
+        return;
+    }
     print_rights(&state);
 }
 
-// Reads the file of the name and prints what is asked.
-fn answer(name: &[u8]) {
+// Reads the file that argument i names, and prints what is asked of it.
+fn answer(i: usize, drawn: bool) {
+    let mut name = io::buffer();
+    let named = os::arg(i, &mut name);
+    if os::errno() != 0 {
+        os::fail(b"rights");
+        return;
+    }
     let mut file = io::large_buffer();
-    let Got::Bytes(n) = read_file(name, &mut file) else {
+    let Got::Bytes(n) = read_file(&name[..named], &mut file) else {
         return;
     };
-    print_answer(&file[..n]);
+    print_answer(&file[..n], drawn);
+}
+
+// Whether the first argument is the word that asks for the graph.
+fn asks_graph() -> bool {
+    let mut name = io::buffer();
+    let n = os::arg(1, &mut name);
+    arguments::is_dot(&name[..n])
 }
 
 fn main() {
-    if os::arg_count() < 2 {
+    let n = os::arg_count();
+    if n < 2 {
         print_usage();
         return;
     }
-    let mut name = io::buffer();
-    let n = os::arg(1, &mut name);
-    answer(&name[..n]);
+    if !asks_graph() {
+        answer(1, false);
+        return;
+    }
+    if n != 3 {
+        print_usage();
+        return;
+    }
+    answer(2, true);
 }

@@ -3,7 +3,7 @@
 ghost use mathlib.Core.Path.{_≡_};
 ghost use mathlib.Core.List.{map};
 ghost use Prim.Native.Nat.{_+_, _≤_, _<_};
-ghost use lib.ListN.{length};
+ghost use lib.ListN.{length, take};
 ghost use Rattle.text.specs.Text.{Puts};
 ghost use Rattle.rights.specs.Refusal as refusal;
 
@@ -158,8 +158,8 @@ fn reason_row(number: u64, out: &mut [u8], at: usize) -> usize
 }
 
 // Puts the report on a file that was refused with a number and the two numbers of its place, none
-// above 99,999, at the start of `out`, and answers how many bytes it is.
-pub fn refusal(file: &[u8], number: u64, first: u64, second: u64, out: &mut [u8]) -> usize
+// above 99,999, at the start of `out`, and answers how many bytes are then in use.
+fn told(file: &[u8], number: u64, first: u64, second: u64, out: &mut [u8]) -> usize
     ensures { λ r. ⌜ Puts (refusal.refusalText (now (file .entry)) number first second) 0 (now (out .entry)) r (now (out .exit)) ⌝ }
 {
     if 99999 < number {
@@ -174,4 +174,12 @@ pub fn refusal(file: &[u8], number: u64, first: u64, second: u64, out: &mut [u8]
     let mut used = place_rows(number, first, second, out);
     used = reason_row(number, out, used);
     line_row(file, number, first, out, used)
+}
+
+// The same, whole where `out` has 256 bytes.
+pub fn refusal(file: &[u8], number: u64, first: u64, second: u64, out: &mut [u8]) -> usize
+    ensures { λ r. ⌜ r ≤ length (now (out .exit)) ⌝ }
+    ensures { λ r. ⌜ (256 ≤ length (now (out .entry)) → take r (now (out .exit)) ≡ refusal.refusalText (now (file .entry)) number first second) ⌝ }
+{
+    told(file, number, first, second, out)
 }

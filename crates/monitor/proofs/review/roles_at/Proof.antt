@@ -1,20 +1,19 @@
 -- Each turn tests one role more.
-use Prim.Native.Nat.{ℕ, _+_, _-_, _≤_}
-use mathlib.Core.Path.{_≡_, refl, sym, ap, _∙_}
+use Prim.Native.Nat.{ℕ, _-_, _≤_}
+use mathlib.Core.Path.{_≡_, sym, _∙_}
 use mathlib.Core.List.{List}
-use mathlib.Core.Bool.{false, _&&_, _||_, and-true, and-false, or-false}
+use mathlib.Core.Bool.{false, _&&_}
 use native.Mathlib.Omega.{arith}
-use native.Mathlib.Decide.{ℕ-discrete, decLt}
 use borrow.Author.Needs.{needs}
-use borrow.Author.Tests.{leb-true, le-leb, lt-leb, eq-eqb, ne-eqb}
+use borrow.Author.Tests.{leb-true, le-leb}
 use denote.Ref.{now}
-use lib.Dec.{leb, eqb}
+use lib.Dec.{leb}
 use lib.ListN.{length}
-use Rattle.search.specs.Search.{among}
-use Rattle.search.proofs.Truth.{and-iff, among-iff, untrue, same}
+use Rattle.search.proofs.Truth.{and-iff, untrue, same}
 use Rattle.roleset.specs.Row.{member}
 use Rattle.policy.proofs.Gathering.{zero-rows}
 use Rattle.monitor.specs.Review.{counted, mayTake}
+use Rattle.monitor.proofs.Filled.{fill-more}
 use Rattle.monitor.proofs.Known.{few-roles, may-role, may-known}
 use Rattle.monitor.proofs.review.roles_at.Statement.{statement}
 use Rattle.monitor.proofs.review.roles_at.Tie as tie
@@ -35,19 +34,6 @@ module _ (xs : List ℕ) (u l : ℕ) where
       let least = may-role xs u l r (a .1) in
       absurd (omega arith))
 
-  more : (i r : ℕ) → i + 1 ≤ 128 → ((leb r i && mayTake xs u l r) || (mayTake xs u l (i + 1) && (among 128 (i + 1) && eqb r (i + 1))))
-      ≡ (leb r (i + 1) && mayTake xs u l r)
-  more i r w = elim (ℕ-discrete r (i + 1)) [
-    | yes e ↦ rw (e, lt-leb (i + 1) i (omega arith), among-iff 128 (i + 1) .1 (omega arith), eq-eqb (i + 1) (i + 1) refl, le-leb (i + 1) (i + 1) (omega arith))
-        (and-true (mayTake xs u l (i + 1)))
-    | no n ↦ rw (ne-eqb r (i + 1) n, and-false (among 128 (i + 1)), and-false (mayTake xs u l (i + 1)), or-false (leb r i && mayTake xs u l r))
-        (ap (λ b. b && mayTake xs u l r) (same (leb r i) (leb r (i + 1)) (λ h. le-leb r (i + 1) (let t = leb-true r i h in omega arith))
-        (λ h. let t = leb-true r (i + 1) h in elim (decLt i r) [
-          | yes l ↦ absurd (n (omega arith))
-          | no l ↦ le-leb r i (omega arith)
-        ])))
-  ]
-
   all : (r : ℕ) → (leb r (counted xs 2) && mayTake xs u l r) ≡ mayTake xs u l r
   all r = same _ _ (λ h. and-iff (leb r (counted xs 2)) (mayTake xs u l r) .0 h .1) (λ h. and-iff (leb r (counted xs 2)) (mayTake xs u l r) .1 (le-leb r (counted xs 2) (may-known xs u l r h), h))
 
@@ -65,7 +51,7 @@ loop-again c =
       search needs,
       search needs,
       λ r. c .before .put-where .ensures .row (omega (arith, w .inv .2)) r
-          ∙ rw (w .inv .3 r, c .before .before .before .may-take .ensures) (more (now (a .s)) (a .user) (a .label) (w .i) r (omega (arith, w .inv .0))),
+          ∙ rw (w .inv .3 r, c .before .before .before .may-take .ensures) (fill-more (mayTake (now (a .s)) (a .user) (a .label)) (w .i) r (omega (arith, w .inv .0))),
     )
 
 returns : tie.Need-returns Inv-loop μ-loop
