@@ -312,7 +312,9 @@ pub fn same(program: &Path, arguments: &[OsString], expected: &Printed) -> Resul
     ] {
         if expected != printed {
             let difference = first_difference(expected, printed);
-            return Err(format!("{arguments:?}: {what}, {difference}"));
+            let arguments = format!("{arguments:?}");
+            let arguments: String = arguments.chars().take(500).collect();
+            return Err(format!("{arguments}: {what}, {difference}"));
         }
     }
     Ok(())

@@ -161,8 +161,9 @@ fn files_that_cannot_be_read() {
     unreadable("--help".into(), "No such file or directory");
     unreadable(std::env::temp_dir().into_os_string(), "Is a directory");
     unreadable("/dev/null/none".into(), "Not a directory");
-    unreadable("n".repeat(5_000).into(), "File name too long");
-    unreadable("n".repeat(100_000).into(), "File name too long");
+    for length in [256, 4_095, 4_096] {
+        unreadable("n".repeat(length).into(), "File name too long");
+    }
     unreadable(
         OsString::from_vec(b"n\xffn".to_vec()),
         "No such file or directory",
@@ -182,11 +183,25 @@ fn a_file_without_permission() {
     }
 }
 
-/// What is no user of a file of one user, alone and beside one.
+/// What is no user of the file, alone and beside a user.
+fn no_user(file: &Temporary, name: &[u8]) {
+    let user = OsString::from_vec(name.to_vec());
+    let one = OsString::from("1");
+    for arguments in [
+        vec![file.name(), user.clone()],
+        vec![file.name(), one.clone(), user.clone()],
+        vec![file.name(), user.clone(), one.clone()],
+    ] {
+        let after = " is not the number of a user of this file";
+        only_a_problem(&arguments, "rights: ", name, after);
+    }
+}
+
+/// What is no user of a file of one user.
 #[test]
 fn arguments_that_are_no_user() {
     let file = Temporary::file(EXAMPLE.as_bytes()).expect("a temporary file");
-    let long = "1".repeat(100_000);
+    let long = "1".repeat(4_096);
     let names: [&[u8]; 27] = [
         b"0",
         b"00",
@@ -217,16 +232,17 @@ fn arguments_that_are_no_user() {
         long.as_bytes(),
     ];
     for name in names {
-        let user = OsString::from_vec(name.to_vec());
-        let one = OsString::from("1");
-        for arguments in [
-            vec![file.name(), user.clone()],
-            vec![file.name(), one.clone(), user.clone()],
-            vec![file.name(), user.clone(), one.clone()],
-        ] {
-            let after = " is not the number of a user of this file";
-            only_a_problem(&arguments, "rights: ", name, after);
-        }
+        no_user(&file, name);
+    }
+}
+
+/// Names longer than any path are named in full all the same.
+#[test]
+fn arguments_longer_than_a_path() {
+    let file = Temporary::file(EXAMPLE.as_bytes()).expect("a temporary file");
+    for length in [4_097, 5_000, 65_537, 131_000] {
+        unreadable("n".repeat(length).into(), "File name too long");
+        no_user(&file, "1".repeat(length).as_bytes());
     }
 }
 
