@@ -4,17 +4,23 @@ use crate::model::Policy;
 use second_checker::order::Order;
 use std::collections::BTreeSet;
 
+/// The line before the flows: how they are drawn, blue unless it is said.
+pub const FLOWS: &str =
+    "    edge [arrowhead=normal, style=dashed, color=blue, constraint=false];\n";
+
 pub fn text(policy: &Policy) -> String {
     let counts = policy.counts;
     let mut text = String::from("digraph policy {\n");
-    text += "  rankdir=BT; node [shape=box, fontname=\"sans-serif\", fontsize=10];\n";
-    text += "  subgraph cluster_labels { label=\"labels\";\n";
+    text += "  rankdir=BT; ranksep=0.8; nodesep=0.15;\n";
+    text += "  node [shape=box, fontname=\"sans-serif\", fontsize=10, width=0.35, height=0.25, margin=0.05];\n";
+    text += "  edge [arrowsize=0.6];\n";
+    text += "  subgraph cluster_labels { label=\"labels\"; edge [arrowhead=none];\n";
     for label in 1..=counts.labels {
         text += &format!("    l{label} [label=\"{label}\"];\n");
     }
     text += &lines("l", counts.labels, &policy.meaning.dominance);
     text += "  }\n";
-    text += "  subgraph cluster_roles { label=\"roles\";\n";
+    text += "  subgraph cluster_roles { label=\"roles\"; edge [arrowhead=none];\n";
     let reached: Vec<BTreeSet<usize>> = (0..=counts.roles)
         .map(|role| reached(policy, role))
         .collect();
@@ -26,12 +32,13 @@ pub fn text(policy: &Policy) -> String {
         text += &format!("    r{role} [label=\"{role}\"{color}];\n");
     }
     text += &lines("r", counts.roles, &policy.meaning.seniority);
+    text += FLOWS;
     for &(from, to) in policy.flows.iter().filter(|flow| is_direct(policy, **flow)) {
         let color = match reached[to].contains(&from) {
-            true => "red",
-            false => "blue",
+            true => " [color=red]",
+            false => "",
         };
-        text += &format!("    r{from} -> r{to} [style=dashed, color={color}, constraint=false];\n");
+        text += &format!("    r{from} -> r{to}{color};\n");
     }
     text + "  }\n}\n"
 }
@@ -41,7 +48,7 @@ fn lines(letter: &str, count: usize, order: &Order) -> String {
     let mut text = String::new();
     for lower in 1..=count {
         for upper in directly_over(count, order, lower) {
-            text += &format!("    {letter}{lower} -> {letter}{upper} [arrowhead=none];\n");
+            text += &format!("    {letter}{lower} -> {letter}{upper};\n");
         }
     }
     text

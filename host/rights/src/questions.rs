@@ -2,7 +2,7 @@
 //! seed and index.
 
 use crate::program::{first_difference, run, Temporary};
-use crate::{expected, Printed};
+use crate::{expected, graph, Printed};
 use second_checker::check::{Counts, RoleFile, READ, WRITE};
 use second_checker::generate::{
     accepted, bent_small, mixed, sparse_flow, write, Size, BENT_NUMBERS,
@@ -240,12 +240,12 @@ impl Seen {
         let line = question.line_refused().unwrap_or_default();
         self.outside += usize::from(line.iter().any(|&byte| byte > 126));
         self.control += usize::from(line.iter().any(|&byte| byte < 32));
-        let has = |text: &str| {
-            let mut places = expected.output.windows(text.len());
-            places.any(|place| place == text.as_bytes())
-        };
-        self.red += usize::from(has("dashed, color=red"));
-        self.blue += usize::from(has("dashed, color=blue"));
+        let text = String::from_utf8_lossy(&expected.output);
+        let (_, flows) = text.split_once(graph::FLOWS).unwrap_or_default();
+        let flows = flows.lines().filter(|line| line.contains(" -> "));
+        let (red, blue): (Vec<&str>, Vec<&str>) = flows.partition(|line| line.contains("red"));
+        self.red += usize::from(!red.is_empty());
+        self.blue += usize::from(!blue.is_empty());
         self.bytes += expected.output.len();
     }
 

@@ -115,6 +115,34 @@ fn the_longest_report() {
     agrees(&["dot".into(), file.name()]);
 }
 
+/// Every role flows to every other; then half of them senior to each of as
+/// many others as the file has room for.
+#[test]
+fn the_longest_graphs() {
+    let dot = |file: &[u8], lines: usize| {
+        let file = Temporary::file(file).expect("a temporary file");
+        let printed = agrees(&["dot".into(), file.name()]);
+        let count = printed.output.iter().filter(|&&byte| byte == b'\n').count();
+        assert!(count > lines, "{count}");
+    };
+    let mut flows = print_line(b'H', &[1, 128, 0, 1]);
+    flows.extend(print_line(b'O', &[1, 1]));
+    for role in 1..=128 {
+        flows.extend(print_line(b'P', &[role, 1, 1]));
+        flows.extend(print_line(b'P', &[role, 1, 2]));
+    }
+    dot(&flows, 128 * 127);
+    let mut seniors = print_line(b'H', &[1, 128, 0, 0]);
+    for (senior, junior) in
+        (1..=64).flat_map(|senior| (65..=128).map(move |junior| (senior, junior)))
+    {
+        if seniors.len() < 63_800 {
+            seniors.extend(print_line(b'S', &[senior, junior]));
+        }
+    }
+    dot(&seniors, 2_899);
+}
+
 /// Files longer than a role file can be.
 #[test]
 fn long_files() {

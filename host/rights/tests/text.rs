@@ -96,16 +96,19 @@ no user     takes      none
         graph::text(&policy),
         "\
 digraph policy {
-  rankdir=BT; node [shape=box, fontname=\"sans-serif\", fontsize=10];
-  subgraph cluster_labels { label=\"labels\";
+  rankdir=BT; ranksep=0.8; nodesep=0.15;
+  node [shape=box, fontname=\"sans-serif\", fontsize=10, width=0.35, height=0.25, margin=0.05];
+  edge [arrowsize=0.6];
+  subgraph cluster_labels { label=\"labels\"; edge [arrowhead=none];
     l1 [label=\"1\"];
     l2 [label=\"2\"];
-    l1 -> l2 [arrowhead=none];
+    l1 -> l2;
   }
-  subgraph cluster_roles { label=\"roles\";
+  subgraph cluster_roles { label=\"roles\"; edge [arrowhead=none];
     r1 [label=\"1\"];
     r2 [label=\"2\"];
-    r1 -> r2 [arrowhead=none];
+    r1 -> r2;
+    edge [arrowhead=normal, style=dashed, color=blue, constraint=false];
   }
 }
 "
@@ -155,26 +158,29 @@ no user     takes      4
         graph::text(&policy),
         "\
 digraph policy {
-  rankdir=BT; node [shape=box, fontname=\"sans-serif\", fontsize=10];
-  subgraph cluster_labels { label=\"labels\";
+  rankdir=BT; ranksep=0.8; nodesep=0.15;
+  node [shape=box, fontname=\"sans-serif\", fontsize=10, width=0.35, height=0.25, margin=0.05];
+  edge [arrowsize=0.6];
+  subgraph cluster_labels { label=\"labels\"; edge [arrowhead=none];
     l1 [label=\"1\"];
     l2 [label=\"2\"];
     l3 [label=\"3\"];
     l4 [label=\"4\"];
-    l1 -> l2 [arrowhead=none];
-    l1 -> l3 [arrowhead=none];
-    l2 -> l4 [arrowhead=none];
-    l3 -> l4 [arrowhead=none];
+    l1 -> l2;
+    l1 -> l3;
+    l2 -> l4;
+    l3 -> l4;
   }
-  subgraph cluster_roles { label=\"roles\";
+  subgraph cluster_roles { label=\"roles\"; edge [arrowhead=none];
     r1 [label=\"1\"];
     r2 [label=\"2\", color=red];
     r3 [label=\"3\", color=red];
     r4 [label=\"4\", color=red];
-    r1 -> r2 [arrowhead=none];
-    r2 -> r3 [arrowhead=none];
-    r1 -> r4 [style=dashed, color=blue, constraint=false];
-    r4 -> r2 [style=dashed, color=red, constraint=false];
+    r1 -> r2;
+    r2 -> r3;
+    edge [arrowhead=normal, style=dashed, color=blue, constraint=false];
+    r1 -> r4;
+    r4 -> r2 [color=red];
   }
 }
 "
@@ -193,11 +199,14 @@ fn only_counts() {
         graph::text(&policy),
         "\
 digraph policy {
-  rankdir=BT; node [shape=box, fontname=\"sans-serif\", fontsize=10];
-  subgraph cluster_labels { label=\"labels\";
+  rankdir=BT; ranksep=0.8; nodesep=0.15;
+  node [shape=box, fontname=\"sans-serif\", fontsize=10, width=0.35, height=0.25, margin=0.05];
+  edge [arrowsize=0.6];
+  subgraph cluster_labels { label=\"labels\"; edge [arrowhead=none];
     l1 [label=\"1\"];
   }
-  subgraph cluster_roles { label=\"roles\";
+  subgraph cluster_roles { label=\"roles\"; edge [arrowhead=none];
+    edge [arrowhead=normal, style=dashed, color=blue, constraint=false];
   }
 }
 "
