@@ -1,11 +1,12 @@
 """Applies small edits to the crates' code and reports which of them the prover refuses.
 
-usage: mutate.py [--mutants N] [--seed S] [--minutes M]
+usage: mutate.py [--mutants N] [--seed S] [--minutes M] [--crates A,B]
 
 Edits are drawn with a fixed seed, so many of each crate as it has code. One that does not compile is
 drawn again. An edit is first checked over an incremental folder, where a refusal stands; one that is
-proved there is checked again as a whole. Results are kept under target/mutation, so that a run that
-was ended goes on, and one with a new remark in equivalent.txt only writes the report.
+proved there is checked again as a whole, a program by `rt check`, which runs it too.
+Results are kept under target/mutation, so that a run that was ended goes on, and one with a new
+remark in equivalent.txt only writes the report. With --crates no report is written.
 """
 import argparse
 import functools
@@ -25,7 +26,7 @@ from sites import code_lines, sites
 ROOT = Path(__file__).resolve().parents[2]
 WORK = ROOT / "target" / "mutation"
 RLIBS = ROOT / "target" / "rlib"
-CRATES = ["roleset", "order", "rolefile", "policy", "monitor", "rolecheck"]
+CRATES = ["roleset", "order", "rolefile", "policy", "monitor", "text", "rolecheck"]
 
 Mutant = namedtuple("Mutant", "crate path line function operator old new text")
 Outcome = namedtuple("Outcome", "result place")
@@ -78,12 +79,12 @@ def drawn_order(found, seed, crate):
                 yield piles[name].pop()
 
 
-def shares(total):
+def shares(total, crates):
     """How many mutants each crate gets: in proportion to its code, and the largest remainders up."""
-    lines = {c: sum(code_lines(p.read_text()) for p in source_files(c)) for c in CRATES}
+    lines = {c: sum(code_lines(p.read_text()) for p in source_files(c)) for c in crates}
     whole = sum(lines.values())
-    share = {c: total * lines[c] // whole for c in CRATES}
-    rest = sorted(CRATES, key=lambda c: -(total * lines[c] % whole))
+    share = {c: total * lines[c] // whole for c in crates}
+    rest = sorted(crates, key=lambda c: -(total * lines[c] % whole))
     for c in rest[:total - sum(share.values())]:
         share[c] += 1
     return share
@@ -160,15 +161,34 @@ def warm(crate):
         sys.exit(f"{crate} is not proved before any edit")
 
 
+def run_of(m):
+    """What `rt check` says of a program: it proves it whole, runs it, and holds it to its file stdout."""
+    folder = WORK / "repository"
+    shutil.rmtree(folder, ignore_errors=True)
+    for part in ("crates", "target/rlib", "target/stamp"):
+        shutil.copytree(ROOT / part, folder / part)
+    shutil.copy(ROOT / "crates.txt", folder)
+    (folder / m.path).write_text(m.text)
+    done = subprocess.run(["rt", "check", m.crate], cwd=folder, stdout=subprocess.PIPE, stderr=subprocess.STDOUT,
+                          text=True, errors="replace", check=False)
+    if done.returncode == 0:
+        return Outcome("survived", ""), done.stdout
+    if "its run FAILED" in done.stdout:
+        return Outcome("refused by its run", ""), done.stdout
+    return Outcome("refused", first_error(done.stdout, m.crate)), done.stdout
+
+
 def tried(m):
     """The outcome of a mutant, and the log of its check."""
     warm(m.crate)
     folder = copy_crate(m.crate)
     (folder / Path(m.path).relative_to(f"crates/{m.crate}")).write_text(m.text)
     first, said = outcome(m.crate, incremental(m.crate))
-    if first.result == "survived":
-        return outcome(m.crate, [])
-    return first, said
+    if first.result != "survived":
+        return first, said
+    if (folder / "src" / "main.rt").exists():
+        return run_of(m)
+    return outcome(m.crate, [])
 
 
 def key_of(m):
@@ -229,16 +249,20 @@ def main():
     words.add_argument("--mutants", type=int, default=80)
     words.add_argument("--seed", type=int, default=1)
     words.add_argument("--minutes", type=float, default=240, help="draw no more after so long")
+    words.add_argument("--crates", default="", help="draw from these alone, and write no report")
     words = words.parse_args()
     (WORK / "results").mkdir(parents=True, exist_ok=True)
-    if subprocess.run(["rt", "check"], cwd=ROOT, stdout=subprocess.DEVNULL, check=False).returncode != 0:
+    some = [c for c in words.crates.split(",") if c]
+    crates = some or CRATES
+    if subprocess.run(["rt", "check"] + some, cwd=ROOT, stdout=subprocess.DEVNULL, check=False).returncode != 0:
         sys.exit("the crates are not proved")
-    found = {c: mutants_of(c) for c in CRATES}
-    share = shares(words.mutants)
-    order = {c: drawn_order(found[c], words.seed, c) for c in CRATES}
+    found = {c: mutants_of(c) for c in crates}
+    share = shares(words.mutants, crates)
+    order = {c: drawn_order(found[c], words.seed, c) for c in crates}
     done = run(order, share, time.time() + 60 * words.minutes)
-    counts = {c: len(found[c]) for c in CRATES}
-    report.write(Path(__file__).parent, words.seed, words.mutants, counts, done)
+    counts = {c: len(found[c]) for c in crates}
+    if not some:
+        report.write(Path(__file__).parent, words.seed, words.mutants, counts, done)
 
 
 if __name__ == "__main__":

@@ -1,8 +1,8 @@
-"""Writes REPORT.md: what was drawn, what the prover refused, and why each survivor survives."""
+"""Writes REPORT.md: what was drawn, what the prover or a program's run refused, and why each survivor survives."""
 import sys
 
-# Survivors of these files are told apart: their functions are proved safe, and what they print is tested.
-PRINTING = "crates/rolecheck/src/main.rt"
+# The prover refuses; it proves, and the program then writes something else than its file stdout; it proves.
+RESULTS = ["refused", "refused by its run", "survived"]
 
 
 def remarks(path):
@@ -30,26 +30,29 @@ def table(*heads):
     return row(*heads) + row(*("---" for _ in heads))
 
 
+def those(done, result):
+    return [(m, o) for m, o in done if o.result == result]
+
+
 def counted(done, crate, result):
-    return sum(1 for m, o in done if m.crate == crate and o.result == result)
+    return sum(1 for m, _ in those(done, result) if m.crate == crate)
 
 
 def by_crate(counts, done):
     """The table of counts."""
-    text = table("crate", "sites", "drawn", "refused", "survived")
+    text = table("crate", "sites", "drawn", *RESULTS)
     for crate, sites in counts.items():
-        refused, survived = counted(done, crate, "refused"), counted(done, crate, "survived")
-        text += row(crate, sites, refused + survived, refused, survived)
-    refused = sum(1 for _, o in done if o.result == "refused")
-    return text + row("all", sum(counts.values()), len(done), refused, len(done) - refused)
+        each = [counted(done, crate, result) for result in RESULTS]
+        text += row(crate, sites, sum(each), *each)
+    return text + row("all", sum(counts.values()), len(done), *(len(those(done, result)) for result in RESULTS))
 
 
-def survivors(done, known):
-    """The survivors with their remarks."""
+def told(done, known=None):
+    """The mutants one by one, with their remarks where `known` has them."""
     text = ""
     for m, _ in done:
-        why = known.get((m.path, m.function, m.old, m.new), "OPEN: no remark yet")
-        text += f"- `{m.path}:{m.line}`, `{m.function}`, {m.operator}: `{m.old}` → `{m.new}`. {why}\n"
+        why = " " + known.get((m.path, m.function, m.old, m.new), "OPEN: no remark yet") if known is not None else ""
+        text += f"- `{m.path}:{m.line}`, `{m.function}`, {m.operator}: `{m.old}` → `{m.new}`.{why}\n"
     return text or "None.\n"
 
 
@@ -66,17 +69,15 @@ def write(folder, seed, asked, counts, done):
     """Writes the report into the folder."""
     known = remarks(folder / "equivalent.txt")
     done = sorted(done, key=lambda pair: (list(counts).index(pair[0].crate), pair[0].path, pair[0].line))
-    left = [pair for pair in done if pair[1].result == "survived"]
-    printing = [pair for pair in left if pair[0].path == PRINTING]
-    others = [pair for pair in left if pair[0].path != PRINTING]
+    refused, run, left = (those(done, result) for result in RESULTS)
     text = "# Mutation of the product\n\n"
     text += f"`make mutation MUTANTS={asked} SEED={seed}` wrote this; README.md says how. "
-    text += f"{len(done)} of the {sum(counts.values())} sites were drawn, and "
-    text += f"{len(done) - len(left)} of these edits are refused.\n\n" + by_crate(counts, done)
-    text += "\n## Survivors\n\n" + survivors(others, known)
-    text += "\n## Survivors in printing\n\n"
-    text += f"The functions of `{PRINTING}` are proved safe; what they print, and in which order, is tested.\n\n"
-    text += survivors(printing, known)
+    text += f"{len(done)} of the {sum(counts.values())} sites were drawn. The prover refuses {len(refused)} of these edits, "
+    text += f"and the program's run {len(run)} more.\n\n" + by_crate(counts, done)
+    text += "\n## Survivors\n\n" + told(left, known)
+    text += "\n## Refused by the program's run\n\n"
+    text += "The kit's contracts do not say what is read and written, so the arguments of `main`'s calls are held by its run alone.\n\n"
+    text += told(run)
     text += "\n## All that were drawn\n\n" + all_drawn(done)
     (folder / "REPORT.md").write_text(text)
-    print(f"{len(done)} drawn, {len(done) - len(left)} refused, {len(left)} survived", file=sys.stderr)
+    print(f"{len(done)} drawn, {len(refused)} refused, {len(run)} refused by the run, {len(left)} survived", file=sys.stderr)

@@ -2,7 +2,8 @@
 use Prim.Native.Nat.{ℕ, _≤_}
 use mathlib.Core.Path.{_≡_, refl}
 use mathlib.Core.List.{List}
-use mathlib.Core.Bool.{Bool, true, false, not, _&&_, cond}
+use mathlib.Core.Logic.{_⊎_, inl, inr}
+use mathlib.Core.Bool.{Bool, true, false, not, _&&_}
 use native.Mathlib.Omega.{arith}
 use lib.ListN.{length}
 use Rattle.search.specs.Search.{among, Among}
@@ -26,6 +27,13 @@ pub ruleset tests = (fails, holds)
 pub wider : (m n : ℕ) {x : ℕ} → m ≤ n → Among m x → Among n x
 wider m n l a = omega arith
 
+sound-or : (xs : List ℕ) → (sound xs ≡ true) ⊎ (sound xs ≡ false)
+sound-or xs = which (sound xs)
+  where
+    which : (b : Bool) → (b ≡ true) ⊎ (b ≡ false)
+    which true = inl refl
+    which false = inr refl
+
 module _ (xs : List ℕ) where
   inside : (at x : ℕ) → known xs at x ≡ true → Sound xs × Among (word xs at) x
   inside at x h = let a = and-iff _ _ .0 h in (sound-of xs (a .0), among-iff _ _ .0 (a .1))
@@ -33,12 +41,23 @@ module _ (xs : List ℕ) where
   pub long : (at x : ℕ) → known xs at x ≡ true → 65536 ≤ length xs
   long at x h = inside at x h .0 .long
 
+  few : (n at : ℕ) → (Sound xs → word xs at ≤ n) → counted xs at ≤ n
+  few n at most = elim (sound-or xs) [
+    | inl e ↦ rw e (most (sound-of xs e))
+    | inr e ↦ rw e (omega arith)
+  ]
+
+  pub few-labels : counted xs 0 ≤ 32
+  few-labels = few 32 0 (λ s. s .labels .1)
+
   pub few-roles : counted xs 2 ≤ 128
-  few-roles = few (sound xs) refl
-    where
-      few : (b : Bool) → sound xs ≡ b → cond b (word xs 2) 0 ≤ 128
-      few true e = sound-of xs e .roles
-      few false e = omega arith
+  few-roles = few 128 2 (λ s. s .roles)
+
+  pub few-users : counted xs 4 ≤ 256
+  few-users = few 256 4 (λ s. s .users)
+
+  pub few-cards : counted xs 6 ≤ 512
+  few-cards = few 512 6 (λ s. s .cards)
 
   -- with a limit to how many there are
   within : (n at x : ℕ) → n ≤ 512 → known xs at x ≡ true → (Sound xs → word xs at ≤ n) → Among n x

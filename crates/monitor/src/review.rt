@@ -65,7 +65,7 @@ fn known(s: &[u8], at: u64, x: u64) -> bool
 
 // The user's clearance, or 0.
 pub fn clearance(s: &[u8], user: u64) -> u64
-    ensures { λ r. ⌜ r ≡ review.clearanceOf (now (s .entry)) user ⌝ }
+    ensures { λ r. ⌜ (r ≡ review.clearanceOf (now (s .entry)) user) × (r < 256) ⌝ }
 {
     if !known(s, 4, user) {
         return 0;

@@ -11,8 +11,8 @@ use lib.Dec.{eqb}
 use borrow.Author.Tests.{eq-eqb, eqb-true}
 use Rattle.search.specs.Search.{Among}
 use Rattle.search.proofs.Truth.{among-iff, same}
-use Rattle.roleset.specs.Row.{whole, member, added, unitedWhere, Placed}
-use Rattle.roleset.proofs.Rows.{other-row, whole-true}
+use Rattle.roleset.specs.Row.{whole, member, added, unitedWhere, Placed, PlacedRows}
+use Rattle.roleset.proofs.Rows.{other-row, whole-true, rows-left}
 use Rattle.order.specs.Closure.{Relation, via}
 use Rattle.order.specs.Table.{related, round, reflexive, Tabled}
 use Rattle.order.proofs.Closure.{RowSet, rows-none, rows-more, rounds-none, rounds-more}
@@ -62,19 +62,17 @@ module _ (at : ℕ) (xs : List ℕ) (fits : at + 2048 ≤ length xs) where
   abbrev e : Relation
   e = related xs at
 
-  -- what a turn of it makes of the row of thing i + 1, given the row `other` of thing k + 1
-  pub round-row : (k i b : ℕ) (ys other : List ℕ) → k < 128 → i < 128 → Among 128 b → Tabled at i (round e (k + 1)) xs ys
-      → ((r : ℕ) → member other 0 r ≡ (whole xs (at + 16 * k) && member xs (at + 16 * k) r))
-      → unitedWhere ys (at + 16 * i) (k + 1) other b ≡ round e (k + 1) (i + 1) b
-  round-row k i b ys other lk li w t o =
-      rw (
-        seat-left at (round e (k + 1)) xs fits i b ys li w t,
-        seat-left at (round e (k + 1)) xs fits i (k + 1) ys li (omega arith) t,
-        o b,
-        whole-true xs (at + 16 * k) (omega arith),
-        place i,
-        place k,
-      )
+  -- what it makes of the table, given the row `other` of thing k + 1
+  pub round-rows : (n k : ℕ) (ys other : List ℕ) → k < n → n ≤ 128 → ((r : ℕ) → member other 0 r ≡ (whole xs (at + 16 * k) && member xs (at + 16 * k) r))
+      → PlacedRows at n (λ i. unitedWhere xs (at + 16 * i) (k + 1) other) xs ys → Tabled at n (round e (k + 1)) xs ys
+  round-rows n k ys other l m o p = record {
+    rows = λ f. record {
+      done = λ a b v w. p .rows (omega arith) (a - 1) (omega arith) b ∙ rw (o b, whole-true xs (at + 16 * k) (omega arith), place k);
+      left = λ a b v u w. rows-left p (at + 16 * (a - 1)) (omega arith) b;
+    };
+    rest = p .rest;
+    none = λ f. absurd (omega arith);
+  }
 
   pub closing-none : (n : ℕ) → Tabled at n (via e 0) xs xs
   closing-none n = record { rows = λ l. rounds-none 128 n e; rest = λ i o. refl; none = λ l. refl }

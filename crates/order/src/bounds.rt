@@ -5,7 +5,7 @@
 ghost use mathlib.Core.Path.{_≡_};
 ghost use mathlib.Core.Bool.{true, false, _&&_};
 ghost use Prim.Native.Nat.{ℕ, _+_, _≤_, _<_, min};
-ghost use lib.Dec.{leb, eqb, ltb};
+ghost use lib.Dec.{leb};
 ghost use Rattle.search.specs.Search.{Among, among, every, implies};
 ghost use Rattle.order.specs.Bound.{upper, least, lub, glb, turned, lonely, FirstApart};
 ghost use Rattle.order.specs.Table.{marks, mark};
@@ -60,13 +60,14 @@ fn leads(s: [bool; 32], under: [bool; 32], among: bool) -> bool
 }
 
 // The greatest of the set, or 0. Where several are over all of it, the lowest number of them.
-pub fn greatest(t: &[[bool; 32]; 32], s: [bool; 32]) -> usize
-    ensures { λ r. ⌜ r ≡ least 32 (turned (mark (now (t .entry)))) (marks s) ⌝ }
+pub fn greatest(t: &[[bool; 32]; 32], s: &[bool; 32]) -> usize
+    ensures { λ r. ⌜ r ≡ least 32 (turned (mark (now (t .entry)))) (marks (now (s .entry))) ⌝ }
 {
+    let set = *s;
     let mut i = 0;
     while i < 32 {
         let under = t[i];
-        if leads(s, under, s[i]) {
+        if leads(set, under, s[i]) {
             return i + 1;
         }
         i += 1;
@@ -104,7 +105,8 @@ pub fn lower_bounds(t: &[[bool; 32]; 32], n: usize, s: [bool; 32]) -> [bool; 32]
 pub fn greatest_lower(t: &[[bool; 32]; 32], n: usize, s: [bool; 32]) -> usize
     ensures { λ r. ⌜ r ≡ glb (min n 32) (mark (now (t .entry))) (marks s) ⌝ }
 {
-    greatest(t, lower_bounds(t, n, s))
+    let bounds = lower_bounds(t, n, s);
+    greatest(t, &bounds)
 }
 
 // The column of thing j + 1.
@@ -148,18 +150,8 @@ fn greatest_common(t: &[[bool; 32]; 32], s: [bool; 32], j: usize) -> usize
     ensures { λ r. ⌜ r ≡ least 32 (turned (mark (now (t .entry)))) (λ a. marks s a && mark (now (t .entry)) (j + 1) a) ⌝ }
 {
     let row = t[j];
-    greatest(t, common(s, row))
-}
-
-// Whether thing j + 1 comes after thing i + 1, and what its row has in common with s has no greatest.
-fn separate(t: &[[bool; 32]; 32], s: [bool; 32], i: usize, j: usize) -> bool
-    requires { ⌜ (i < 32) × (j < 32) ⌝ }
-    ensures { λ r. ⌜ r ≡ (ltb (i + 1) (j + 1) && eqb (least 32 (turned (mark (now (t .entry)))) (λ a. marks s a && mark (now (t .entry)) (j + 1) a)) 0) ⌝ }
-{
-    if j <= i {
-        return false;
-    }
-    greatest_common(t, s, j) == 0
+    let both = common(s, row);
+    greatest(t, &both)
 }
 
 // The lowest of the first m things that comes after thing i + 1 and has no least upper bound with it, or 0,
@@ -170,9 +162,9 @@ fn partner(up: &[[bool; 32]; 32], m: usize, i: usize) -> usize
 {
     let over = up[i];
     let bounds = common(first_things(m), over);
-    let mut j = 0;
+    let mut j = i + 1;
     while j < m {
-        if separate(up, bounds, i, j) {
+        if greatest_common(up, bounds, j) == 0 {
             return j + 1;
         }
         j += 1;

@@ -16,11 +16,7 @@ fn pass(s: &mut [u8], at: usize, k: usize, n: usize)
     ensures { λ _. ⌜ Tabled at n (round (related (now (s .entry)) at) (k + 1)) (now (s .entry)) (now (s .exit)) ⌝ }
 {
     let other = roleset::row(s, at + 16 * k);
-    let mut i = 0;
-    while i < n {
-        roleset::unite_where(s, at + 16 * i, k + 1, other);
-        i += 1;
-    }
+    roleset::unite_rows(s, at, n, k + 1, other);
 }
 
 // Leaves the paths of one step or more among the first n roles.

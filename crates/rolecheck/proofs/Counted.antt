@@ -1,19 +1,22 @@
--- How many roles a state holds, and bytes counted at the start of a list. Assumes nothing.
-use Prim.Native.Nat.{ℕ, _≤_, min}
+-- The numbers that a state's lines hold. Assumes nothing.
+use Prim.Native.Nat.{ℕ, _≤_}
 use mathlib.Core.Bool.{Bool, true, false, cond}
 use mathlib.Core.List.{List}
 use native.Mathlib.Omega.{arith}
-use lib.ListN.{length, length-take}
-use Rattle.policy.specs.Tables.{word, isState}
-use Rattle.io.specs.Counts.{Counts}
-use Rattle.rolecheck.specs.Report.{roleCount}
+use Rattle.search.proofs.Found.{first-within}
+use Rattle.order.specs.Closure.{path}
+use Rattle.policy.specs.Tables.{isState, flowing, rolesUpTo, cardsUpTo}
+use Rattle.rolecheck.specs.Report.{roleCount, circleIn}
 
-few : (b : Bool) (m : ℕ) → cond b (min m 128) 0 ≤ 128
-few true m = omega arith
-few false m = omega arith
+few : (b : Bool) {m : ℕ} → m ≤ 128 → cond b m 0 ≤ 128
+few true l = l
+few false l = omega arith
 
-pub few-roles : (xs : List ℕ) → roleCount xs ≤ 128
-few-roles xs = few (isState xs) (word xs 2)
+module _ (xs : List ℕ) where
+  pub few-roles : roleCount xs ≤ 128
+  few-roles = few (isState xs) (omega arith)
 
-pub counts : (xs : List ℕ) (n : ℕ) → n ≤ length xs → Counts n xs
-counts xs n l = (l, omega (arith, length-take n xs))
+  pub few-on-circle : circleIn xs ≤ 128
+  few-on-circle =
+      let flow = path (rolesUpTo xs) (flowing xs (cardsUpTo xs)) in
+      few (isState xs) (omega (arith, first-within (λ a. flow a a) (rolesUpTo xs)))

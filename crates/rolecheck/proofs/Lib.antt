@@ -1,3 +1,5 @@
-pub mod Columns
 pub mod Counted
 pub mod InFile
+pub mod Places
+pub mod Fits
+pub mod Whole

@@ -1,37 +1,70 @@
--- The report on a file that is accepted: "in lines of the same form, V (number, the two numbers of its place), R for each role (role, r-level, w-level; 0
--- free, 99 undefined), F for each flow in rising order (from, to), C (role on a circle or 0)". Assumes nothing.
+-- The report on a file: "in lines of the same form, V (number, the two numbers of its place), R for each role (role, r-level, w-level; 0 free, 99
+-- undefined), F for each flow in rising order (from, to), C (role on a circle or 0)"; of a file that is refused, V alone. Assumes nothing.
 use Prim.Native.Nat.{ℕ, zero, suc}
 use mathlib.Core.List.{List, [], _∷_, _++_}
 use mathlib.Core.Bool.{_&&_, cond}
-use lib.Dec.{leb}
+use lib.Dec.{leb, eqb}
 use Rattle.search.specs.Search.{among}
+use Rattle.order.specs.Closure.{Relation, circle}
+use Rattle.rolefile.specs.Said.{roles}
 use Rattle.rolefile.specs.Decimal.{blanks, columnsOf}
+use Rattle.policy.specs.Policy.{rLevel, wLevel, shown}
+use Rattle.policy.specs.Verdict.{verdict}
+use Rattle.policy.specs.Flow.{flows, flowCircle}
 use Rattle.policy.specs.Tables.{byteOf, rLevelsAt, wLevelsAt, flowing, rolesUpTo, cardsUpTo, isState}
 
 -- a line: the byte of its letter, as many of three numbers as are in use, a field without use, and byte 10
 unfoldable pub line : ℕ → ℕ → ℕ → ℕ → ℕ → List ℕ
 line letter used a b c = letter ∷ (columnsOf (leb 1 used) a ++ (columnsOf (leb 2 used) b ++ (columnsOf (leb 3 used) c ++ (blanks ++ (10 ∷ [])))))
 
--- ---- of a state
+-- ---- the lines of a policy, by its levels and its flow
+
+-- the lines R of the first n roles; 82 is the byte of R
+unfoldable pub roleLines : (ℕ → ℕ) → (ℕ → ℕ) → ℕ → List ℕ
+roleLines reads writes zero = []
+roleLines reads writes (suc n) = roleLines reads writes n ++ line 82 3 (suc n) (reads (suc n)) (writes (suc n))
+
+-- the line F from a role to another, where the first flows to the second; 70 is the byte of F
+unfoldable pub flowLine : Relation → ℕ → ℕ → List ℕ
+flowLine flow from to = cond (flow from to) (line 70 2 from to 0) []
+
+-- those from a role to the first n roles
+unfoldable pub flowsFrom : Relation → ℕ → ℕ → List ℕ
+flowsFrom flow from zero = []
+flowsFrom flow from (suc n) = flowsFrom flow from n ++ flowLine flow from (suc n)
+
+-- those from the first m roles to the first n
+unfoldable pub flowLines : Relation → ℕ → ℕ → List ℕ
+flowLines flow n zero = []
+flowLines flow n (suc m) = flowLines flow n m ++ flowsFrom flow (suc m) n
+
+-- those of n roles, and the line C; 67 is the byte of C
+unfoldable pub policyLines : ℕ → (ℕ → ℕ) → (ℕ → ℕ) → Relation → ℕ → List ℕ
+policyLines n reads writes flow role = roleLines reads writes n ++ (flowLines flow n n ++ line 67 1 role 0 0)
+
+-- ---- the report; 86 is the byte of V
+
+abbrev pub fileLines : List ℕ → List ℕ
+fileLines f = policyLines (roles f) (λ r. shown (rLevel f r)) (λ r. shown (wLevel f r)) (flows f) (flowCircle f)
+
+unfoldable pub report : List ℕ → List ℕ
+report f =
+    line 86 3 (verdict f .number) (verdict f .first) (verdict f .second) ++ cond (eqb (verdict f .number) 0) (fileLines f) []
+
+-- ---- the same lines of a state
 
 -- the role's byte of the table of levels at `at`
 abbrev pub levelIn : List ℕ → ℕ → ℕ → ℕ
 levelIn xs at role = cond (isState xs && among 128 role) (byteOf xs at role) 0
 
--- the lines R of the first n roles; 82 is the byte of R
-unfoldable pub roleLines : List ℕ → ℕ → List ℕ
-roleLines xs zero = []
-roleLines xs (suc n) = roleLines xs n ++ line 82 3 (suc n) (levelIn xs rLevelsAt (suc n)) (levelIn xs wLevelsAt (suc n))
+abbrev pub flowIn : List ℕ → Relation
+flowIn xs from to = isState xs && flowing xs (cardsUpTo xs) from to
 
--- the line F from a role to another, where the first flows to the second; 70 is the byte of F
-unfoldable pub flowLine : List ℕ → ℕ → ℕ → List ℕ
-flowLine xs from to = cond (isState xs && flowing xs (cardsUpTo xs) from to) (line 70 2 from to 0) []
-
--- those from a role to the first n roles
-unfoldable pub flowLines : List ℕ → ℕ → ℕ → List ℕ
-flowLines xs from zero = []
-flowLines xs from (suc n) = flowLines xs from n ++ flowLine xs from (suc n)
-
--- how many roles the state holds
 abbrev pub roleCount : List ℕ → ℕ
 roleCount xs = cond (isState xs) (rolesUpTo xs) 0
+
+abbrev pub circleIn : List ℕ → ℕ
+circleIn xs = cond (isState xs) (circle (rolesUpTo xs) (flowing xs (cardsUpTo xs))) 0
+
+abbrev pub stateLines : List ℕ → List ℕ
+stateLines xs = policyLines (roleCount xs) (levelIn xs rLevelsAt) (levelIn xs wLevelsAt) (flowIn xs) (circleIn xs)

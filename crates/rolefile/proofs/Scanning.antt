@@ -1,18 +1,20 @@
 -- Scanning the lines: what a line's verdict is where the line before is at hand, and the length before the lines. Assumes nothing.
 use Prim.Native.Nat.{ℕ, _+_, _-_, _%_, _≤_, _<_}
-use mathlib.Core.Path.{_≡_, sym}
+use mathlib.Core.Path.{_≡_, refl, _∙_}
 use mathlib.Core.List.{List}
-use mathlib.Core.Bool.{true, false}
+use mathlib.Core.Bool.{Bool, true, false, _&&_}
 use native.Mathlib.Omega.{arith}
 use lib.Dec.{eqb, leb}
 use lib.ListN.{length}
-use borrow.Author.Tests.{eqb-true, eq-eqb, ne-eqb, le-leb, lt-leb}
+use borrow.Author.Tests.{eqb-true, eqb-false, eq-eqb, ne-eqb, le-leb, leb-false, lt-leb}
 use Rattle.search.proofs.Truth.{and-iff, untrue, both}
 use Rattle.rolefile.specs.declared.Line.{Line}
+use Rattle.rolefile.specs.declared.Verdict.{Verdict}
+use Rattle.rolefile.specs.declared.check.Seen.{Seen}
 use Rattle.rolefile.specs.Line.{lineAt, lines}
-use Rattle.rolefile.specs.Form.{fine, refusal, sized, headVerdict, bodyVerdict, lineVerdict, scan, linesVerdict}
-use Rattle.rolefile.proofs.Verdicts.{scan-clean, scan-yet, scan-found, scan-more}
-use Rattle.rolefile.proofs.Formed.{line-clean}
+use Rattle.rolefile.specs.Form.{refusal, sized, headVerdict, bodyVerdict, lineVerdict, scan, linesVerdict}
+use Rattle.rolefile.specs.Scan.{seen, goesOn, looked}
+use Rattle.rolefile.proofs.Verdicts.{scan-last, scan-stays}
 
 -- line i + 1 after line i
 pub next-line : (f : List ℕ) (i : ℕ) (h p l : Line) → 1 ≤ i → h ≡ lineAt f 1 → p ≡ lineAt f i → l ≡ lineAt f (i + 1)
@@ -22,9 +24,28 @@ next-line f i h p l w eh ep el =
     let q : i + 1 - 1 ≡ i = omega arith in
     rw (ne-eqb (i + 1) 1 (λ e. omega arith), q, eh, ep, el)
 
--- lines with nothing to refuse are fine
-pub lines-fine : (f : List ℕ) (n : ℕ) → scan n (lineVerdict f) .number ≡ 0 → fine ≡ scan n (lineVerdict f)
-lines-fine f n e = sym (scan-clean (lineVerdict f) n (λ k w. line-clean f k) e)
+-- what a scan has at hand once line 1 has been looked at
+pub begun-seen : (f : List ℕ) (h : Line) (v : Verdict) → h ≡ lineAt f 1 → v ≡ headVerdict h → record { head = h; before = h; verdict = v } ≡ seen f 2
+unfolding lineVerdict scan
+begun-seen f h v e q = rw (q, e)
+
+-- and once line k has been looked at too
+pub looked-seen : (f : List ℕ) (k : ℕ) (s : Seen) (l : Line) → 2 ≤ k → s ≡ seen f k → l ≡ lineAt f k → goesOn s f k ≡ true → looked s k l ≡ seen f (k + 1)
+looked-seen f k s l w e el g =
+    let i : k - 1 + 1 ≡ k = omega arith in
+    let j : k + 1 - 1 ≡ k = omega arith in
+    let z : scan (k - 1) (lineVerdict f) .number ≡ 0 = eqb-true _ 0 (and-iff _ (leb k (lines f)) .0 (rw e at g) .0) in
+    let b : bodyVerdict (lineAt f 1) (lineAt f (k - 1)) k (lineAt f k) ≡ scan k (lineVerdict f) =
+    rw i at (next-line f (k - 1) _ _ _ (omega arith) refl refl refl ∙ scan-last (lineVerdict f) (k - 1) z) in
+    rw (e, el, j, b)
+
+-- where it does not go on, it has the scan of all lines
+pub ended-seen : (f : List ℕ) (k : ℕ) (s : Seen) → k ≤ lines f + 1 → s ≡ seen f k → goesOn s f k ≡ false → s .verdict ≡ scan (lines f) (lineVerdict f)
+ended-seen f k s w e g = rw e (ends (eqb (scan (k - 1) (lineVerdict f) .number) 0) refl (rw e at g))
+  where
+    ends : (t : Bool) → eqb (scan (k - 1) (lineVerdict f) .number) 0 ≡ t → (t && leb k (lines f)) ≡ false → scan (k - 1) (lineVerdict f) ≡ scan (lines f) (lineVerdict f)
+    ends true q h = let l = leb-false k (lines f) h in let i : k - 1 ≡ lines f = omega arith in rw i
+    ends false q h = scan-stays (lineVerdict f) (k - 1) (lines f) (omega arith) (eqb-false _ 0 q)
 
 -- ---- the length first
 
@@ -52,14 +73,3 @@ module _ (f : List ℕ) where
   pub fitting : 1 ≤ length f → length f % 22 ≡ 0 → length f ≤ 63800 → sized f ≡ true
   unfolding sized
   fitting a b c = rw (le-leb 1 (length f) a, eq-eqb (length f % 22) 0 b, le-leb (length f) 63800 c)
-
-  -- then line 1
-  pub head-line : (l : Line) → l ≡ lineAt f 1 → headVerdict l ≡ lineVerdict f 1
-  unfolding lineVerdict
-  head-line l e = rw e
-
-  pub head-found : 1 ≤ lines f → (lineVerdict f 1 .number ≡ 0 → ⊥) → lineVerdict f 1 ≡ scan (lines f) (lineVerdict f)
-  head-found l h = scan-found (lineVerdict f) (lines f) 0 l (scan-yet (lineVerdict f)) h
-
-  pub head-passed : lineVerdict f 1 .number ≡ 0 → scan 1 (lineVerdict f) .number ≡ 0
-  head-passed e = scan-more (lineVerdict f) 0 (scan-yet (lineVerdict f)) e

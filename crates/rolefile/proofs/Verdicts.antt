@@ -1,8 +1,9 @@
 -- Verdicts: which refusal comes first where checks follow one another, when there is none, and one turn of a loop that scans. Assumes nothing.
-use Prim.Native.Nat.{ℕ, zero, suc, _+_, _<_}
+use Prim.Native.Nat.{ℕ, zero, suc, _+_, _<_, _≤_}
 use mathlib.Core.Path.{_≡_, refl, sym, _∙_}
 use mathlib.Core.Logic.{_↔_, _⊎_, ⊎-elim}
 use mathlib.Core.Bool.{Bool, true, false, false≢true}
+use native.Mathlib.Nat.{eq-or-lt-of-le}
 use native.Mathlib.Omega.{arith}
 use native.Mathlib.Numerals.{add-one}
 use lib.Dec.{eqb}
@@ -96,3 +97,19 @@ module _ (v : ℕ → Verdict) where
   pub scan-more : (i : ℕ) → scan i v .number ≡ 0 → v (i + 1) .number ≡ 0 → scan (i + 1) v .number ≡ 0
   unfolding scan
   scan-more i e q = rw add-one (then-zero (scan i v) (v (suc i)) .1 (e, rw add-one at q))
+
+  pub scan-last : (i : ℕ) → scan i v .number ≡ 0 → v (i + 1) ≡ scan (i + 1) v
+  unfolding scan
+  scan-last i e = rw add-one (sym (then-next (scan i v) (v (suc i)) e))
+
+  -- a refusal stays the first one
+  pub scan-stays : (i n : ℕ) → i ≤ n → Refuses (scan i v) → scan i v ≡ scan n v
+  unfolding scan
+  scan-stays i zero l h = let q : i ≡ 0 = omega arith in rw q
+  scan-stays i (suc n) l h =
+      ⊎-elim
+      (λ q. rw q)
+      (λ m.
+      let e : scan i v ≡ scan n v = scan-stays i n (omega arith) h in
+      e ∙ sym (then-stop (scan n v) (v (suc n)) (λ z. h (rw e z))))
+      (eq-or-lt-of-le l)

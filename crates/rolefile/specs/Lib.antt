@@ -5,3 +5,4 @@ pub mod Said
 pub mod WellFormed
 pub mod Section
 pub mod Decimal
+pub mod Scan

@@ -1,9 +1,10 @@
 -- The lines of a role file: "A line is 22 bytes: one letter, four fields of 5 columns, and byte 10." Assumes nothing.
 use Prim.Native.Nat.{ℕ, _+_, _*_, _-_, _/_}
-use mathlib.Core.List.{List}
+use mathlib.Core.List.{List, []}
 use mathlib.Core.Bool.{Bool, true, false, not, _&&_, cond}
 use lib.Dec.{leb, eqb}
-use lib.ListN.{length, getD}
+use lib.ListN.{length, getD, take, drop}
+use Rattle.search.specs.Search.{among}
 use Rattle.rolefile.specs.declared.Field.{Field}
 use Rattle.rolefile.specs.declared.Field.the-variants.{Blank, Number, Bad}
 use Rattle.rolefile.specs.declared.Line.{Line}
@@ -78,3 +79,7 @@ lineAt f k = lineFrom f (start k)
 
 abbrev pub lines : List ℕ → ℕ
 lines f = length f / 22
+
+-- the bytes of line k before its byte 10; none where the file has no such line
+unfoldable pub textAt : List ℕ → ℕ → List ℕ
+textAt f k = cond (among (lines f) k) (take 21 (drop (start k) f)) []

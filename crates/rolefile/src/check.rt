@@ -2,11 +2,13 @@
 use super::Line;
 use super::Verdict;
 use super::read;
+use super::reader;
 ghost use mathlib.Core.Path.{_≡_};
 ghost use Prim.Native.Nat.{_≤_};
 ghost use Rattle.search.specs.Search.{among};
 ghost use Rattle.rolefile.specs.Line.{lines};
 ghost use Rattle.rolefile.specs.Form.{fine, refusal, counted, firstLimit, secondLimit, ranged, before, rises, headVerdict, bodyVerdict, lineVerdict, scan, linesVerdict};
+ghost use Rattle.rolefile.specs.Scan.{seen, goesOn, looked};
 
 // Nothing to refuse.
 pub fn nothing() -> Verdict
@@ -123,25 +125,64 @@ fn body(h: Line, p: Line, k: u64, l: Line) -> Verdict
     nothing()
 }
 
-// 2 to 5 of the lines after line 1, which has nothing to refuse.
-fn bodies(f: &[u8]) -> Verdict
-    requires { ⌜ (1 ≤ lines (now f)) × (scan 1 (lineVerdict (now f)) .number ≡ 0) ⌝ }
+// How far a scan is: line 1, the line before the next one, and the first refusal so far.
+struct Seen {
+    head: Line,
+    before: Line,
+    verdict: Verdict,
+}
+
+// Line 1 has been looked at.
+fn begun(f: &[u8]) -> Seen
+    ensures { λ s. ⌜ s ≡ seen (now (f .entry)) 2 ⌝ }
+{
+    let h = read::first_line(f);
+    Seen {
+        head: h,
+        before: h,
+        verdict: head(h),
+    }
+}
+
+// Nothing is refused so far, and the file has a line k.
+fn goes_on(s: Seen, f: &[u8], k: usize) -> bool
+    ensures { λ r. ⌜ r ≡ goesOn s (now (f .entry)) k ⌝ }
+{
+    (s.verdict.number == 0) & (k <= f.len() / 22)
+}
+
+// Line k has been looked at too.
+fn looked(s: Seen, k: usize, l: Line) -> Seen
+    ensures { λ t. ⌜ t ≡ looked s k l ⌝ }
+{
+    let h = s.head;
+    let p = s.before;
+    Seen {
+        head: h,
+        before: l,
+        verdict: body(h, p, k as u64, l),
+    }
+}
+
+// The first refusal, or nothing.
+fn found(s: Seen) -> Verdict
+    ensures { λ v. ⌜ v ≡ s .verdict ⌝ }
+{
+    s.verdict
+}
+
+// 2 to 5 of the lines, of which there is one at least. A line reader keeps the number of the next.
+fn scan(f: &[u8]) -> Verdict
+    requires { ⌜ 1 ≤ lines (now f) ⌝ }
     ensures { λ v. ⌜ v ≡ scan (lines (now (f .entry))) (lineVerdict (now (f .entry))) ⌝ }
 {
-    let n = f.len() / 22;
-    let h = read::first_line(f);
-    let mut p = h;
-    let mut i = 1;
-    while i < n {
-        let l = read::line(f, i + 1);
-        let v = body(h, p, (i + 1) as u64, l);
-        if v.number != 0 {
-            return v;
-        }
-        p = l;
-        i += 1;
+    let mut r = reader::from_line(f, 2);
+    let mut s = begun(f);
+    while goes_on(s, f, r.next) {
+        s = looked(s, r.next, reader::next_line(r));
+        r.next += 1;
     }
-    nothing()
+    found(s)
 }
 
 // 1 to 5.
@@ -157,9 +198,5 @@ pub fn lines(f: &[u8]) -> Verdict
     if 63800 < f.len() {
         return refused(1, 0, 0);
     }
-    let v = head(read::first_line(f));
-    if v.number != 0 {
-        return v;
-    }
-    bodies(f)
+    scan(f)
 }

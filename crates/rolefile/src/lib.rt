@@ -1,6 +1,7 @@
 // The form of a role file: fields, lines, and the numbers 1 to 6.
 pub mod check;
 pub mod read;
+pub mod reader;
 
 // What the five columns of a field say.
 pub enum Field {

@@ -7,7 +7,7 @@ ghost use Prim.Native.Nat.{_+_, _*_, _-_, _%_, _≤_, _<_};
 ghost use lib.ListN.{length, drop};
 ghost use Rattle.rolefile.specs.Field.{column, four, fieldAt};
 ghost use Rattle.rolefile.specs.Section.{figure, figureOf, one, two, three, Leads};
-ghost use Rattle.rolefile.specs.Line.{letterOf, fields, fits, taken, noLine, lineOf, lineFrom, lineAt};
+ghost use Rattle.rolefile.specs.Line.{letterOf, fields, fits, taken, noLine, lineOf, lineFrom, lineAt, textAt};
 
 // The number n with the digit b after it, unless n is 0 or has five digits.
 fn next_digit(n: u64, b: u8) -> Field
@@ -242,6 +242,22 @@ pub fn line(f: &[u8], k: usize) -> Line
         return no_line();
     }
     line_from(f, 22 * i)
+}
+
+// The text of line k of the file, counted from 1, without byte 10; the empty part at the file's start
+// where the file has no such line.
+pub fn text(f: &[u8], k: usize) -> &[u8]
+    ensures { λ t. ⌜ now t ≡ textAt (now (f .entry)) k ⌝ }
+{
+    if k < 1 {
+        return &f[..0];
+    }
+    if f.len() / 22 < k {
+        return &f[..0];
+    }
+    let at = 22 * (k - 1);
+    let end = at + 21;
+    &f[at..end]
 }
 
 fn wide(x: u8) -> usize

@@ -7,14 +7,14 @@ use mathlib.Core.Bool.{Bool, true, false, _&&_, cond, and-false}
 use mathlib.Core.List.{List}
 use native.Mathlib.Omega.{arith}
 use native.Mathlib.Decide.{decLe, decLt, ℕ-discrete}
-use lib.Dec.{eqb}
+use lib.Dec.{eqb, leb}
 use lib.ListN.{length, getD, set, length-set}
 use lib.Seq.{getD-set-same, getD-set-other, ext-getD}
 use borrow.Author.Count.{below-more}
 use borrow.Author.Tests.{le-leb, eq-eqb, ne-eqb}
 use Rattle.search.specs.Search.{among, Among}
 use Rattle.search.proofs.Truth.{and-iff, and-when, among-iff, both}
-use Rattle.roleset.specs.Row.{bit, whole, member, Outside, Placed}
+use Rattle.roleset.specs.Row.{bit, whole, member, Outside, Placed, PlacedRows}
 use Rattle.roleset.proofs.Bits.{bit-zero, same-bits}
 
 pub whole-true : (xs : List ℕ) (at : ℕ) → at + 16 ≤ length xs → whole xs at ≡ true
@@ -95,6 +95,31 @@ no-row {at} {xs = xs} e = unwritten (λ l. absurd (both (whole-true xs at l) e))
 -- the same set by another name
 pub placed-as : {at : ℕ} {s t : ℕ → Bool} {xs ys : List ℕ} → ((r : ℕ) → s r ≡ t r) → Placed at s xs ys → Placed at t xs ys
 placed-as e p = record { row = λ l r. p .row l r ∙ e r; rest = p .rest; none = p .none }
+
+-- ---- rows one after the other
+
+pub rows-unwritten : {at n : ℕ} {s : ℕ → ℕ → Bool} {xs : List ℕ}
+    → (at + 16 * n ≤ length xs → (i : ℕ) → i < n → (r : ℕ) → member xs (at + 16 * i) r ≡ s i r) → PlacedRows at n s xs xs
+rows-unwritten h = record { rows = h; rest = λ i o. refl; none = λ l. refl }
+
+pub no-rows : {at n : ℕ} {s : ℕ → ℕ → Bool} {xs : List ℕ} → leb (at + 16 * n) (length xs) ≡ false → PlacedRows at n s xs xs
+no-rows {at} {n} {xs = xs} e = rows-unwritten (λ l. absurd (both (le-leb (at + 16 * n) (length xs) l) e))
+
+-- the rows after them are as they were
+pub rows-left : {at n : ℕ} {s : ℕ → ℕ → Bool} {xs ys : List ℕ} → PlacedRows at n s xs ys → (b : ℕ) → at + 16 * n ≤ b
+    → (r : ℕ) → member ys b r ≡ member xs b r
+rows-left {xs = xs} {ys} p b l = same-bytes xs ys b b (λ k m. p .rest (b + k) (λ n. omega arith))
+
+-- the row after them is placed too
+pub rows-more : {at i : ℕ} {s : ℕ → ℕ → Bool} {t : ℕ → Bool} {xs ys zs : List ℕ} → at + 16 * (i + 1) ≤ length xs → length ys ≡ length xs
+    → PlacedRows at i s xs ys → Placed (at + 16 * i) t ys zs → ((r : ℕ) → t r ≡ s i r) → PlacedRows at (i + 1) s xs zs
+rows-more {at} {i} {s} {t} {xs} {ys} {zs} fits long p q new = record {
+  rows = λ l. below-more (λ k. (r : ℕ) → member zs (at + 16 * k) r ≡ s k r) i
+      (λ k m r. other-row (at + 16 * i) (at + 16 * k) t ys zs q (inl (omega arith)) r ∙ p .rows (omega arith) k m r)
+      (λ r. q .row (omega arith) r ∙ new r);
+  rest = λ j o. q .rest j (λ m. let e = o (omega arith) in omega arith) ∙ p .rest j (λ m. let e = o m in omega arith);
+  none = λ l. absurd (omega arith);
+}
 
 -- a row whose bytes are 0 is empty
 pub no-bits : (r : ℕ) → (among 128 r && bit 0 (bitOf r)) ≡ false

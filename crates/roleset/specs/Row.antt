@@ -1,9 +1,10 @@
 -- Sets of roles 1 to 128, each a row of 16 bytes of a list: role r is bit (r - 1) % 8 of the row's byte (r - 1) / 8.
---     whole xs at           the row at `at` lies wholly in xs
---     member xs at r        the row of xs at `at` holds role r
---     common xs a b         the rows at a and at b have a role in common
---     Placed at s xs ys     ys is xs with the set s in the row at `at`, and nothing else changed
---     littleEndian n f      n bytes as one number
+--     whole xs at               the row at `at` lies wholly in xs
+--     member xs at r            the row of xs at `at` holds role r
+--     common xs a b             the rows at a and at b have a role in common
+--     Placed at s xs ys         ys is xs with the set s in the row at `at`, and nothing else changed
+--     PlacedRows at n s xs ys   the same for n rows from `at` on
+--     littleEndian n f          n bytes as one number
 -- Assumes nothing.
 use Prim.Native.Nat.{ℕ, zero, suc, _+_, _-_, _*_, _/_, _%_, _^_, _≤_, _<_}
 use mathlib.Core.Path.{_≡_}
@@ -52,6 +53,13 @@ pub record Placed (at : ℕ) (s : ℕ → Bool) (xs ys : List ℕ) : Type 0 wher
   pub row : at + 16 ≤ length xs → (r : ℕ) → member ys at r ≡ s r
   pub rest : (i : ℕ) → Outside at i → getD ys i 0 ≡ getD xs i 0
   pub none : length xs < at + 16 → ys ≡ xs
+
+-- ys is xs with the set s i in each row i of the n from `at` on, the first being row 0, and nothing else changed; where not all of them lie in xs,
+-- all are left alone
+pub record PlacedRows (at n : ℕ) (s : ℕ → ℕ → Bool) (xs ys : List ℕ) : Type 0 where
+  pub rows : at + 16 * n ≤ length xs → (i : ℕ) → i < n → (r : ℕ) → member ys (at + 16 * i) r ≡ s i r
+  pub rest : (i : ℕ) → (at ≤ i → at + 16 * n ≤ i) → getD ys i 0 ≡ getD xs i 0
+  pub none : length xs < at + 16 * n → ys ≡ xs
 
 -- the number whose n bytes are f's, the first of them lowest
 unfoldable pub littleEndian : ℕ → (ℕ → ℕ) → ℕ

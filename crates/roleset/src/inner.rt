@@ -1,20 +1,26 @@
-// The same for a row that is known to lie in the slice, and the two tests that tell.
+// The same for a row that is known to lie in the slice, and the tests that tell.
 ghost use mathlib.Core.Path.{_≡_};
 ghost use mathlib.Core.Bool.{true, false, _&&_};
 ghost use Prim.Native.Nat.{ℕ, _+_, _*_, _≤_, _<_};
 ghost use lib.Dec.{leb};
 ghost use lib.ListN.{length, getD};
 ghost use Rattle.search.specs.Search.{among, some, Among};
-ghost use Rattle.roleset.specs.Row.{member, Placed, added, removed, united, littleEndian};
+ghost use Rattle.roleset.specs.Row.{member, Placed, PlacedRows, added, removed, united, unitedWhere, littleEndian};
 
-// Whether a row at `at` lies wholly in `len` bytes.
+// Whether n rows from `at` on lie wholly in `len` bytes, and whether one does.
+pub fn rows_lie(len: usize, at: usize, n: usize) -> bool
+    ensures { λ r. ⌜ r ≡ leb (at + 16 * n) len ⌝ }
+{
+    if len / 16 < n {
+        return false;
+    }
+    at <= len - 16 * n
+}
+
 pub fn lies(len: usize, at: usize) -> bool
     ensures { λ r. ⌜ r ≡ leb (at + 16) len ⌝ }
 {
-    if len < 16 {
-        return false;
-    }
-    at <= len - 16
+    rows_lie(len, at, 1)
 }
 
 // Whether the number is a role's.
@@ -81,6 +87,26 @@ pub fn unite(s: &mut [u8], at: usize, other: [u8; 16])
     let mut i = 0;
     while i < 16 {
         s[at + i] = s[at + i] | other[i];
+        i += 1;
+    }
+}
+
+fn unite_where(s: &mut [u8], at: usize, role: usize, other: [u8; 16])
+    requires { ⌜ (at + 16 ≤ length (now s)) × Among 128 role ⌝ }
+    ensures { λ _. ⌜ Placed at (unitedWhere (now (s .entry)) at role other) (now (s .entry)) (now (s .exit)) ⌝ }
+{
+    if has(s, at, role) {
+        unite(s, at, other);
+    }
+}
+
+pub fn unite_rows(s: &mut [u8], at: usize, n: usize, role: usize, other: [u8; 16])
+    requires { ⌜ (at + 16 * n ≤ length (now s)) × Among 128 role ⌝ }
+    ensures { λ _. ⌜ PlacedRows at n (λ i. unitedWhere (now (s .entry)) (at + 16 * i) role other) (now (s .entry)) (now (s .exit)) ⌝ }
+{
+    let mut i = 0;
+    while i < n {
+        unite_where(s, at + 16 * i, role, other);
         i += 1;
     }
 }

@@ -6,9 +6,9 @@ mod inner;
 
 ghost use mathlib.Core.Path.{_≡_};
 ghost use mathlib.Core.Bool.{false, _&&_};
-ghost use Prim.Native.Nat.{ℕ};
+ghost use Prim.Native.Nat.{ℕ, _+_, _*_};
 ghost use Rattle.search.specs.Search.{some};
-ghost use Rattle.roleset.specs.Row.{whole, member, common, Placed, added, removed, united, unitedWhere, joined};
+ghost use Rattle.roleset.specs.Row.{whole, member, common, Placed, PlacedRows, added, removed, united, unitedWhere, joined};
 
 // Whether the row at `at` holds the role.
 pub fn has(s: &[u8], at: usize, role: usize) -> bool
@@ -73,13 +73,18 @@ pub fn unite(s: &mut [u8], at: usize, other: [u8; 16])
     }
 }
 
-// The same where the row at `at` holds the role.
-pub fn unite_where(s: &mut [u8], at: usize, role: usize, other: [u8; 16])
-    ensures { λ _. ⌜ Placed at (unitedWhere (now (s .entry)) at role other) (now (s .entry)) (now (s .exit)) ⌝ }
+// The same for each of the n rows from `at` on that holds the role. Where not all of them lie in the
+// slice, none is changed.
+pub fn unite_rows(s: &mut [u8], at: usize, n: usize, role: usize, other: [u8; 16])
+    ensures { λ _. ⌜ PlacedRows at n (λ i. unitedWhere (now (s .entry)) (at + 16 * i) role other) (now (s .entry)) (now (s .exit)) ⌝ }
 {
-    if has(s, at, role) {
-        inner::unite(s, at, other);
+    if !inner::rows_lie(s.len(), at, n) {
+        return;
     }
+    if !inner::is_role(role) {
+        return;
+    }
+    inner::unite_rows(s, at, n, role, other);
 }
 
 // Puts the roles of the row at `from` into the row at `into`. The two may overlap.

@@ -1,10 +1,10 @@
 -- Texts put one after the other are one text. Assumes nothing.
-use Prim.Native.Nat.{ℕ, _≤_, min}
+use Prim.Native.Nat.{ℕ, _≤_}
 use mathlib.Core.Path.{_≡_, refl, sym, ap, _∙_}
 use mathlib.Core.List.{List, [], _++_, append-assoc, append-nil}
 use native.Mathlib.Omega.{arith}
 use native.Mathlib.Decide.{decLt}
-use lib.ListN.{length, take, drop, length-take, length-append, take-append-drop}
+use lib.ListN.{length, take, length-take}
 use lib.Seq.{take-all, take-append-le, take-take, length-take-le}
 use Rattle.text.specs.Text.{Puts}
 

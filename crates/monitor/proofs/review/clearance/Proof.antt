@@ -13,14 +13,14 @@ below l = omega arith
 
 returns : tie.Need-returns
 unfolding clearanceOf
-returns c = rw (failed (c .before .known .ensures) (c .if1 .taken))
+returns c = (rw (failed (c .before .known .ensures) (c .if1 .taken)), omega arith)
 
 byte-of-requires : tie.Need-byte-of-requires
 byte-of-requires c κs = let u = user _ _ (passed (c .before .known .ensures) (c .if1 .left)) in (omega arith, below (u .1), u .0)
 
 returns-2 : tie.Need-returns-2
 unfolding clearanceOf
-returns-2 c = rw (passed (c .before .before .known .ensures) (c .before .if1 .left)) (c .byte-of .ensures .0)
+returns-2 c = (rw (passed (c .before .before .known .ensures) (c .before .if1 .left)) (c .byte-of .ensures .0), c .byte-of .ensures .1)
 
 pub clearance-spec : {M : Type 1} → statement M
 clearance-spec = tie.close (tie.spec (λ c κs. search needs) returns byte-of-requires returns-2)

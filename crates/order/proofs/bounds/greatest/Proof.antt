@@ -18,24 +18,24 @@ abbrev leader : List (List Bool) → List Bool → ℕ → Bool
 leader t s = isLeast 32 (turned (mark t)) (marks s)
 
 abbrev Inv-loop : tie.InvT-loop
-Inv-loop t s i₀ i = (i ≤ 32) × (first i (leader t s) ≡ 0)
+Inv-loop t s set i₀ i = (i ≤ 32) × (first i (leader t s) ≡ 0)
 
 abbrev μ-loop : tie.MeasureT-loop
-μ-loop t s i₀ i = 32 - i
+μ-loop t s set i₀ i = 32 - i
 
 returns : tie.Need-returns Inv-loop μ-loop
 unfolding least isLeast
 returns c =
-    let a = c .before .before .before .before .before .args in
-    let w = c .before .before .before .before .loop in
-    first-found (leader (now (a .t)) (a .t2)) 32 (w .i) (omega arith) (w .inv .1) (rw (place (w .i)) (sym (c .before .leads .ensures) ∙ c .if1 .taken))
+    let a = c .before .before .before .before .before .before .before .args in
+    let w = c .before .before .before .before .before .loop in
+    first-found (leader (now (a .t)) (now (a .s))) 32 (w .i) (omega arith) (w .inv .1) (rw (place (w .i)) (sym (c .before .leads .ensures) ∙ c .if1 .taken))
 
 loop-again : tie.Need-loop-again Inv-loop μ-loop
 unfolding isLeast
 loop-again c =
-    let a = c .before .before .before .before .before .args in
-    let w = c .before .before .before .before .loop in
-    (search needs, first-more (leader (now (a .t)) (a .t2)) (w .i) (w .inv .1) (rw (place (w .i)) (sym (c .before .leads .ensures) ∙ c .if1 .left)))
+    let a = c .before .before .before .before .before .before .before .args in
+    let w = c .before .before .before .before .before .loop in
+    (search needs, first-more (leader (now (a .t)) (now (a .s))) (w .i) (w .inv .1) (rw (place (w .i)) (sym (c .before .leads .ensures) ∙ c .if1 .left)))
 
 returns-2 : tie.Need-returns-2 Inv-loop μ-loop
 unfolding least

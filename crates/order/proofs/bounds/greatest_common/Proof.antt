@@ -15,12 +15,13 @@ use Rattle.order.proofs.bounds.greatest_common.Tie as tie
 
 returns : tie.Need-returns
 returns c =
-    let a = c .before .before .before .args in
+    let a = c .before .before .before .before .args in
+    let common = c .before .before .common in
     let t = now (a .t) in
     let j : ℕ = a .j in
     c .greatest .ensures
-    ∙ least-cut 32 32 (turned (mark t)) (λ x. marks (a .s) x && mark t (j + 1) x) (marks (c .before .common .result)) (omega arith) (λ x w.
-    c .before .common .ensures x w ∙ rw (le-leb x 32 (w .1), place j))
+    ∙ least-cut 32 32 (turned (mark t)) (λ x. marks (a .s) x && mark t (j + 1) x) (marks (common .result)) (omega arith) (λ x w.
+    common .ensures x w ∙ rw (le-leb x 32 (w .1), place j))
 
 pub greatest-common-spec : {M : Type 1} → statement M
 greatest-common-spec =

@@ -13,10 +13,10 @@ use Rattle.order.proofs.bounds.greatest_lower.Tie as tie
 returns : tie.Need-returns
 unfolding lub
 returns c =
-    let a = c .before .before .args in
+    let a = c .before .before .before .args in
     let m = min (a .n) 32 in
     let order = turned (mark (now (a .t))) in
-    let bounds = c .before .lower-bounds in
+    let bounds = c .before .before .lower-bounds in
     c .greatest .ensures ∙ least-cut m 32 order (upper m order (marks (a .s))) (marks (bounds .result)) (omega arith) (bounds .ensures)
 
 pub greatest-lower-spec : {M : Type 1} → statement M

@@ -1,34 +1,13 @@
--- Blanks for a field without use, and else the digits, each in its column.
+-- The columns that are made are put.
 use borrow.Author.Needs.{needs}
-use borrow.Author.Tests.{not-true, not-false}
-use Rattle.rolecheck.proofs.Columns.{columns-padded}
+use Rattle.text.proofs.Text.{puts-as}
 use Rattle.rolecheck.proofs.line.field.Statement.{statement}
 use Rattle.rolecheck.proofs.line.field.Tie as tie
 
 returns : tie.Need-returns
-returns c l = rw (not-true (c .before .args .used) (c .if1 .taken))
-
-returns-2 : tie.Need-returns-2
-returns-2 c l =
-    let start = c .before .before .before .before in
-    let a = start .before .args in
-    rw (
-      c .before .before .before .digit .ensures,
-      c .before .before .digit2 .ensures,
-      c .before .digit3 .ensures,
-      c .digit4 .ensures,
-      not-false (a .used) (start .if1 .left),
-    ) (columns-padded (a .n) l)
+returns c =
+    let made = c .before .before .before .before .before in
+    puts-as (made .columns .ensures .1 (made .before .before .pre)) (c .before .before .put .ensures)
 
 pub field-spec : {M : Type 1} → statement M
-field-spec =
-    tie.close
-    (tie.spec
-    returns
-    (λ c κs. search needs)
-    (λ c κs. search needs)
-    (λ c κs. search needs)
-    (λ c κs. search needs)
-    (λ c. search needs)
-    (λ c. search needs)
-    returns-2)
+field-spec = tie.close (tie.spec (λ c κs. search needs) (λ c. search needs) (λ c κs. search needs) (λ c. search needs) returns)

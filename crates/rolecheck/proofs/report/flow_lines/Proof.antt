@@ -1,52 +1,45 @@
--- Each turn puts the line of the flow to one role more.
-use Prim.Native.Nat.{ℕ, suc, _+_, _*_, _≤_, _-_}
+-- Each turn puts the lines of the flows from one role more.
+use Prim.Native.Nat.{ℕ, _+_, _≤_, _-_}
 use mathlib.Core.Path.{_≡_, refl, ap, _∙_}
-use mathlib.Core.List.{List, [], _++_}
+use mathlib.Core.List.{[], _++_}
 use native.Mathlib.Omega.{arith}
 use native.Mathlib.Numerals.{add-one}
 use borrow.Author.Needs.{needs}
 use denote.Ref.{now}
-use lib.ListN.{length, take}
-use Rattle.rolecheck.specs.Report.{flowLine, flowLines}
-use Rattle.rolecheck.proofs.Counted.{few-roles, counts}
+use Rattle.order.specs.Closure.{Relation}
+use Rattle.text.specs.Text.{Puts}
+use Rattle.text.proofs.Text.{puts-as, puts-then, puts-nothing}
+use Rattle.rolecheck.specs.Report.{flowIn, flowsFrom, flowLines, roleCount}
+use Rattle.rolecheck.proofs.Counted.{few-roles}
 use Rattle.rolecheck.proofs.report.flow_lines.Statement.{statement}
 use Rattle.rolecheck.proofs.report.flow_lines.Tie as tie
 
 abbrev Inv-loop : tie.InvT-loop
-Inv-loop state from out₀ n used₀ i₀ out used i =
-    (n ≤ 128) × (i ≤ n) × (length out ≡ length out₀) × (used ≤ 22 * i) × (take used out ≡ flowLines state from i)
+Inv-loop state out₀ at n used₀ i₀ out used i = (n ≤ 128) × (i ≤ n) × Puts (flowLines (flowIn state) (roleCount state) i) at out₀ used out
 
 abbrev μ-loop : tie.MeasureT-loop
-μ-loop state from out₀ n used₀ i₀ out used i = n - i
+μ-loop state out₀ at n used₀ i₀ out used i = n - i
 
-none : (xs : List ℕ) (from : ℕ) → [] ≡ flowLines xs from 0
-unfolding flowLines
-none xs from = refl
-
--- a line more
-module _ (xs out next : List ℕ) (from at used i : ℕ) (done : take at out ≡ flowLines xs from i)
-    (put : take used next ≡ (take at out ++ flowLine xs from (i + 1))) where
-  more : take used next ≡ flowLines xs from (i + 1)
+module _ (flow : Relation) (n : ℕ) where
+  none : [] ≡ flowLines flow n 0
   unfolding flowLines
-  more = let role : i + 1 ≡ suc i = add-one i in rw (put, done, role)
+  none = refl
+
+  more : (i : ℕ) → flowLines flow n i ++ flowsFrom flow (i + 1) n ≡ flowLines flow n (i + 1)
+  unfolding flowLines
+  more i = rw add-one
 
 loop-holds : tie.Need-loop-holds Inv-loop μ-loop
 loop-holds c =
     let a = c .before .before .before .args in
-    (omega (arith, few-roles (now (a .state))), search needs, search needs, search needs, none (now (a .state)) (a .from))
+    (omega (arith, few-roles (now (a .state))), search needs, puts-as (none (flowIn (now (a .state))) (roleCount (now (a .state)))) (puts-nothing (a .at) (now (a .out)) (search needs)))
 
 loop-again : tie.Need-loop-again Inv-loop μ-loop
 loop-again c =
     let turn = c .before .before .before .before .before in
     let w = turn .loop in
     let a = turn .before .before .before .before .args in
-    let put = c .before .before .flow-line in (
-      search needs,
-      search needs,
-      search needs,
-      search needs,
-      more (now (a .state)) (w .out) (put .last .1 .1 .1 .0) (a .from) (w .used) (put .result) (w .i) (w .inv .4) (put .ensures .1),
-    )
+    (search needs, search needs, puts-as (more (flowIn (now (a .state))) (roleCount (now (a .state))) (w .i)) (puts-then (w .inv .2) (c .before .before .flows-from .ensures)))
 
 returns : tie.Need-returns Inv-loop μ-loop
 returns c =
@@ -54,7 +47,7 @@ returns c =
     let counted = c .before .before in
     let a = counted .before .before .before .args in
     let all : w .i ≡ counted .roles .result = omega arith in
-    (counts _ _ (omega arith), rw all at (w .inv .4) ∙ ap (flowLines (now (a .state)) (a .from)) (counted .roles .ensures))
+    puts-as (ap (flowLines (flowIn (now (a .state))) (roleCount (now (a .state)))) (all ∙ counted .roles .ensures)) (w .inv .2)
 
 pub flow-lines-spec : {M : Type 1} → statement M
 flow-lines-spec =

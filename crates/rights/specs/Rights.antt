@@ -1,0 +1,72 @@
+-- The report on users, in lines whose columns line up:
+--
+--     user     1  clearance  3
+--                 assigned   2
+--                 inherited  1
+--     label    1  takes      1
+--                 reads      1-4 7
+--                 writes     none
+--
+-- Assumes nothing.
+use Prim.Native.Nat.{ℕ, zero, suc}
+use mathlib.Core.List.{List, [], _++_}
+use mathlib.Core.Bool.{Bool, true, false, cond}
+use Rattle.search.specs.Search.{some}
+use Rattle.rolefile.specs.Decimal.{digits, columnsOf}
+use Rattle.text.specs.Text.{ascii}
+use Rattle.monitor.specs.Review.{counted, clearanceOf, mayOpen, mayTake}
+use Rattle.rights.specs.declared.list.Listed.{Listed}
+use Rattle.rights.specs.declared.list.Listed.the-variants.{Assigned, Inherited, Taken, Untaken, Read, Written, Unread}
+use Rattle.rights.specs.Lists.{rangesOf}
+
+-- a line: what it begins with, and a list
+unfoldable pub row : List ℕ → List ℕ → List ℕ
+row head list = head ++ (list ++ ascii "\n")
+
+-- a word of five letters and the number of a user or a label in five columns
+unfoldable pub head : List ℕ → ℕ → List ℕ
+head word n = word ++ columnsOf true n
+
+unfoldable pub clearanceLine : List ℕ → ℕ → List ℕ
+clearanceLine xs u = head (ascii "user ") u ++ (ascii "  clearance  " ++ (digits (clearanceOf xs u) ++ ascii "\n"))
+
+-- no roles
+abbrev pub noRole : ℕ → Bool
+noRole r = false
+
+-- the user's clearance and roles
+unfoldable pub userLines : List ℕ → ℕ → List ℕ
+userLines xs u =
+    clearanceLine xs u
+    ++ (row (ascii "            assigned  ") (rangesOf xs Assigned u noRole)
+    ++ row (ascii "            inherited ") (rangesOf xs Inherited u noRole))
+
+-- the roles of a set, and the cards that it lets be read and written
+unfoldable pub listsBy : List ℕ → (ℕ → Bool) → List ℕ
+listsBy xs held =
+    row (ascii "  takes     ") (rangesOf xs Taken 0 held)
+    ++ (row (ascii "            reads     ") (rangesOf xs Read 0 held)
+    ++ row (ascii "            writes    ") (rangesOf xs Written 0 held))
+
+-- at a label that the clearance dominates, by the roles that may be taken there
+unfoldable pub labelLines : List ℕ → ℕ → ℕ → List ℕ
+labelLines xs u l = cond (mayOpen xs u l) (head (ascii "label") l ++ listsBy xs (mayTake xs u l)) []
+
+-- at the first n labels
+unfoldable pub labelsLines : List ℕ → ℕ → ℕ → List ℕ
+labelsLines xs u zero = []
+labelsLines xs u (suc n) = labelsLines xs u n ++ labelLines xs u (suc n)
+
+-- all of a user, and an empty line
+unfoldable pub userText : List ℕ → ℕ → List ℕ
+userText xs u = userLines xs u ++ (labelsLines xs u (counted xs 0) ++ ascii "\n")
+
+-- some user may take role r at some label
+unfoldable pub anyoneTakes : List ℕ → ℕ → Bool
+anyoneTakes xs r = some (counted xs 4) (λ u. some (counted xs 0) (λ l. mayTake xs u l r))
+
+-- the roles that nobody can take, and the cards that nobody can read
+unfoldable pub nobodyText : List ℕ → List ℕ
+nobodyText xs =
+    row (ascii "no user     takes     ") (rangesOf xs Untaken 0 (anyoneTakes xs))
+    ++ row (ascii "            reads     ") (rangesOf xs Unread 0 (anyoneTakes xs))

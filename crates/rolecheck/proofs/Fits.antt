@@ -1,0 +1,105 @@
+-- How long a report can be. Assumes nothing.
+use Prim.Native.Nat.{ℕ, zero, suc, _*_, _≤_, _<_}
+use mathlib.Core.Path.{_≡_, refl}
+use mathlib.Core.List.{List, []}
+use mathlib.Core.Bool.{Bool, true, false, cond}
+use native.Mathlib.Omega.{arith}
+use lib.Dec.{leb, eqb}
+use lib.ListN.{length, length-append}
+use borrow.Author.Tests.{eqb-true}
+use Rattle.search.proofs.Found.{first-within}
+use Rattle.order.specs.Closure.{Relation, path}
+use Rattle.rolefile.specs.Decimal.{columnsOf}
+use Rattle.rolefile.specs.Said.{labels, roles}
+use Rattle.rolefile.specs.WellFormed.{WellFormed}
+use Rattle.rolefile.proofs.Decimals.{padded-length}
+use Rattle.policy.specs.declared.Level.{Level}
+use Rattle.policy.specs.declared.Level.the-variants.{Free, Label, Undefined}
+use Rattle.policy.specs.Policy.{dominates, mayAt, level, rLevel, wLevel, shown}
+use Rattle.policy.specs.Flow.{flows, flowCircle}
+use Rattle.policy.specs.Verdict.{verdict}
+use Rattle.policy.proofs.Levels.{Tells, level-tells}
+use Rattle.policy.proofs.Meaning.{counts-known}
+use Rattle.policy.proofs.Outcomes.{accepted-iff}
+use Rattle.rolecheck.specs.Report.{line, roleLines, flowLine, flowsFrom, flowLines, policyLines, fileLines, report}
+use Rattle.rolecheck.proofs.Places.{verdict-written}
+
+columns-length : (used : Bool) (n : ℕ) → n < 100000 → length (columnsOf used n) ≡ 5
+columns-length true n l = padded-length n l
+columns-length false n l = refl
+
+module _ (letter used a b c : ℕ) (p : a < 100000) (q : b < 100000) (r : c < 100000) where
+  line-length : length (line letter used a b c) ≡ 22
+  unfolding line
+  line-length =
+      simp length-append (omega (arith, columns-length (leb 1 used) a p, columns-length (leb 2 used) b q, columns-length (leb 3 used) c r))
+
+module _ (reads writes : ℕ → ℕ) (r : (i : ℕ) → reads i < 100000) (w : (i : ℕ) → writes i < 100000) where
+  role-lines-length : (n : ℕ) → n ≤ 128 → length (roleLines reads writes n) ≡ 22 * n
+  unfolding roleLines
+  role-lines-length zero l = refl
+  role-lines-length (suc n) l =
+      rw length-append
+      (omega (arith, role-lines-length n (omega arith), line-length 82 3 (suc n) (reads (suc n)) (writes (suc n)) (omega arith) (r (suc n)) (w (suc n))))
+
+module _ (flow : Relation) where
+  flow-line-length : (from to : ℕ) → from ≤ 128 → to ≤ 128 → length (flowLine flow from to) ≤ 22
+  unfolding flowLine
+  flow-line-length from to p q = go (flow from to)
+    where
+      go : (t : Bool) → length (cond t (line 70 2 from to 0) []) ≤ 22
+      go true = omega (arith, line-length 70 2 from to 0 (omega arith) (omega arith) (omega arith))
+      go false = omega arith
+
+  flows-from-length : (from n : ℕ) → from ≤ 128 → n ≤ 128 → length (flowsFrom flow from n) ≤ 22 * n
+  unfolding flowsFrom
+  flows-from-length from zero p q = omega arith
+  flows-from-length from (suc n) p q =
+      rw length-append (omega (arith, flows-from-length from n p (omega arith), flow-line-length from (suc n) p q))
+
+  flow-lines-length : (n m : ℕ) → n ≤ 128 → m ≤ 128 → length (flowLines flow n m) ≤ 2816 * m
+  unfolding flowLines
+  flow-lines-length n zero p q = omega arith
+  flow-lines-length n (suc m) p q =
+      rw length-append (omega (arith, flow-lines-length n m p (omega arith), flows-from-length (suc m) n q p))
+
+-- ---- of a file
+
+level-few : (n : ℕ) (ge : Relation) (s : ℕ → Bool) → n ≤ 32 → shown (level n ge s) < 100000
+level-few n ge s few = go (level n ge s) (level-tells n ge s)
+  where
+    go : (l : Level) → Tells n ge s l → shown l < 100000
+    go Free t = omega arith
+    go (Label c) (h, b) = omega (arith, b .inside)
+    go Undefined t = omega arith
+
+module _ (f : List ℕ) (form : WellFormed f) where
+  file-lines-length : length (fileLines f) ≤ 363286
+  unfolding policyLines rLevel wLevel flowCircle
+  file-lines-length =
+      let counts = counts-known f form in
+      rw (length-append, length-append)
+      (omega (
+        arith,
+        role-lines-length (λ r. shown (rLevel f r)) (λ r. shown (wLevel f r))
+            (λ r. level-few (labels f) (dominates f) (mayAt f 1 r) (counts .labels .1)) (λ r. level-few (labels f) (λ a b. dominates f b a) (mayAt f 2 r) (counts .labels .1))
+            (roles f) (counts .roles),
+        flow-lines-length (flows f) (roles f) (roles f) (counts .roles) (counts .roles),
+        line-length 67 1 (flowCircle f) 0 0 (omega (arith, first-within (λ a. path (roles f) (flows f) a a) (roles f))) (omega arith) (omega arith),
+      ))
+
+module _ (f : List ℕ) where
+  rest-length : (t : Bool) → eqb (verdict f .number) 0 ≡ t → length (cond t (fileLines f) []) ≤ 363286
+  rest-length true e = file-lines-length f (accepted-iff f .0 (eqb-true (verdict f .number) 0 e) .ordered .form)
+  rest-length false e = omega arith
+
+  pub report-length : length (report f) ≤ 363308
+  unfolding report
+  report-length =
+      let v = verdict-written f in
+      rw length-append
+      (omega (
+        arith,
+        line-length 86 3 (verdict f .number) (verdict f .first) (verdict f .second) (v .number) (v .first) (v .second),
+        rest-length (eqb (verdict f .number) 0) refl,
+      ))

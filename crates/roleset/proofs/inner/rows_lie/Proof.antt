@@ -1,0 +1,22 @@
+-- `at + 16 * n ≤ len` is `at ≤ len - 16 * n` where `len` is at least `16 * n`, and fails where it is less.
+use Prim.Native.Nat.{_+_, _-_, _*_}
+use mathlib.Core.Path.{sym}
+use native.Mathlib.Omega.{arith}
+use borrow.Author.Needs.{needs}
+use borrow.Author.Tests.{leb-true, le-leb, lt-leb}
+use Rattle.search.proofs.Truth.{same}
+use Rattle.roleset.proofs.inner.rows_lie.Statement.{statement}
+use Rattle.roleset.proofs.inner.rows_lie.Tie as tie
+
+returns : tie.Need-returns
+returns c = let a = c .before .args in sym (lt-leb (a .at + 16 * a .n) (a .len) (omega arith))
+
+returns-2 : tie.Need-returns-2
+returns-2 c =
+    let a = c .before .args in
+    same _ _
+    (λ e. le-leb (a .at + 16 * a .n) (a .len) (omega (arith, leb-true (a .at) (a .len - 16 * a .n) e)))
+    (λ e. le-leb (a .at) (a .len - 16 * a .n) (omega (arith, leb-true (a .at + 16 * a .n) (a .len) e)))
+
+pub rows-lie-spec : {M : Type 1} → statement M
+rows-lie-spec = tie.close (tie.spec returns (λ c. search needs) (λ c. search needs) returns-2)
