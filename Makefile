@@ -13,7 +13,7 @@ PICTURE ?= target/picture.svg
 PREFIX ?= /usr/local
 ARCHIVE = target/staticlib/libmonitor.a
 
-.PHONY: help check rights picture test prove lib install differential lists pairs long fuzz sanitize bench growth mutation kit
+.PHONY: help check rights picture test prove lib install example differential lists pairs long fuzz sanitize bench growth mutation kit
 
 help:
 	@echo "make check FILE=F       check a role file: its verdict, levels, flow"
@@ -23,6 +23,7 @@ help:
 	@echo "make prove              prove what has changed"
 	@echo "make lib                prove the monitor and build $(ARCHIVE)"
 	@echo "make install PREFIX=P   put header, archive and pkg-config file under P ($(PREFIX))"
+	@echo "make example FILE=F     build examples/server.c against the archive and run it on a role file"
 	@echo "make differential       COUNT=$(COUNT) random files against the second checker, from SEED=$(SEED)"
 	@echo "make lists              LISTS=$(LISTS) random call lists against the model, from SEED=$(SEED)"
 	@echo "make pairs              PAIRS=$(PAIRS) random pairs of runs side by side, from SEED=$(SEED)"
@@ -64,6 +65,10 @@ install: lib
 	install -m 644 include/monitor.h $(DESTDIR)$(PREFIX)/include/
 	install -m 644 $(ARCHIVE) $(DESTDIR)$(PREFIX)/lib/
 	sed 's|@PREFIX@|$(PREFIX)|' include/monitor.pc.in > $(DESTDIR)$(PREFIX)/lib/pkgconfig/monitor.pc
+
+example: lib
+	$(CC) -std=c11 -Wall -Wextra -Werror -Iinclude -o target/server examples/server.c $(ARCHIVE)
+	target/server $(FILE)
 
 differential: kit
 	rt check rolecheck >/dev/null

@@ -16,6 +16,7 @@ BOTH(read_number)
 BOTH(write)
 BOTH(flows)
 BOTH(circle)
+BOTH(can)
 
 #define PAIR(NAME) static __typeof__(monitor_##NAME) *const NAME##_of[SIDES] = \
     {monitor_##NAME, shipped_##NAME}
@@ -28,5 +29,6 @@ PAIR(read_number);
 PAIR(write);
 PAIR(flows);
 PAIR(circle);
+PAIR(can);
 
 #endif

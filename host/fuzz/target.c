@@ -13,7 +13,7 @@
 #define MOST_WRITE 256
 
 /* The calls, by the numbers that the model knows them by. */
-enum kind { LOAD, OPEN, CLOSE, TAKE, DROP, READ, WRITE, FLOWS, CIRCLE, SPOIL, KINDS };
+enum kind { LOAD, OPEN, CLOSE, TAKE, DROP, READ, WRITE, FLOWS, CIRCLE, SPOIL, CAN, KINDS };
 
 struct run {
     struct input input;
@@ -138,6 +138,8 @@ static struct monitor_figure ask(enum side side, enum kind kind,
                            n->second, n->third, bytes.bytes, bytes.length), 0};
     case FLOWS:
         return flows_of[side](s, l, n->first, n->second);
+    case CAN:
+        return can_of[side](s, l, n->first, n->second, n->third, n->fourth);
     default:
         return circle_of[side](s, l);
     }
@@ -146,7 +148,7 @@ static struct monitor_figure ask(enum side side, enum kind kind,
 /* A call's numbers, most of them in range. */
 static struct numbers next_numbers(struct run *run, enum kind kind)
 {
-    enum { NONE, LABEL, ROLE, USER, CARD, SPAN, PLACE };
+    enum { NONE, LABEL, ROLE, USER, CARD, SPAN, MODE, PLACE };
     static const uint8_t meanings[KINDS][4] = {
         [OPEN] = {PLACE, USER, LABEL},
         [CLOSE] = {PLACE},
@@ -155,10 +157,11 @@ static struct numbers next_numbers(struct run *run, enum kind kind)
         [READ] = {PLACE, CARD, SPAN, SPAN},
         [WRITE] = {PLACE, CARD, SPAN, SPAN},
         [FLOWS] = {ROLE, ROLE},
+        [CAN] = {USER, LABEL, CARD, MODE},
     };
     struct model_counts counts = model_counts(run->model);
     const uint64_t limits[] = {0, counts.labels, counts.roles, counts.users,
-                               counts.cards, CARD_BYTES};
+                               counts.cards, CARD_BYTES, 2};
     struct numbers n = {0, 0, 0, 0};
     uint64_t *fields[] = {&n.first, &n.second, &n.third, &n.fourth};
     for (unsigned at = 0; at < 4 && meanings[kind][at] != NONE; at++) {

@@ -41,6 +41,12 @@ pub enum Call {
         to: u64,
     },
     Circle,
+    Can {
+        user: u64,
+        label: u64,
+        card: u64,
+        mode: u64,
+    },
 }
 
 /// What a call hands back.
@@ -73,10 +79,11 @@ pub enum Kind {
     Write,
     Flows,
     Circle,
+    Can,
 }
 
 impl Kind {
-    pub const ALL: [Kind; 9] = [
+    pub const ALL: [Kind; 10] = [
         Kind::Load,
         Kind::Open,
         Kind::Close,
@@ -86,7 +93,11 @@ impl Kind {
         Kind::Write,
         Kind::Flows,
         Kind::Circle,
+        Kind::Can,
     ];
+
+    /// The calls that answer with a figure.
+    pub const REPORTS: [Kind; 3] = [Kind::Flows, Kind::Circle, Kind::Can];
 
     /// The numbers it can answer: 0, then in the order of its checks.
     pub fn numbers(self) -> &'static [u64] {
@@ -99,6 +110,7 @@ impl Kind {
             Kind::Read | Kind::Write => &[0, 21, 22, 24, 25, 29, 30, 31],
             Kind::Flows => &[0, 21, 25],
             Kind::Circle => &[0, 21],
+            Kind::Can => &[0, 21, 25, 26],
         }
     }
 
@@ -113,6 +125,7 @@ impl Kind {
             Kind::Write => "write",
             Kind::Flows => "flows",
             Kind::Circle => "circle",
+            Kind::Can => "can",
         }
     }
 
@@ -137,6 +150,7 @@ impl Call {
             Call::Write { .. } => Kind::Write,
             Call::Flows { .. } => Kind::Flows,
             Call::Circle => Kind::Circle,
+            Call::Can { .. } => Kind::Can,
         }
     }
 
@@ -149,7 +163,7 @@ impl Call {
             | Call::Drop { place, .. }
             | Call::Write { place, .. } => Some(place),
             Call::Read(part) => Some(part.place),
-            Call::Load { .. } | Call::Flows { .. } | Call::Circle => None,
+            Call::Load { .. } | Call::Flows { .. } | Call::Circle | Call::Can { .. } => None,
         }
     }
 
@@ -194,6 +208,12 @@ impl Call {
             }
             Call::Flows { from, to } => model.flowing(state, *from, *to).err(),
             Call::Circle => model.circling(state).err(),
+            &Call::Can {
+                user,
+                label,
+                card,
+                mode,
+            } => model.granting(state, user, label, card, mode).err(),
         };
         refusal.unwrap_or(0)
     }
@@ -217,6 +237,12 @@ impl Call {
             } => Answer::Number(model.write(state, store, *place, *card, *offset, bytes)),
             Call::Flows { from, to } => Answer::Figure(model.flows(state, *from, *to)),
             Call::Circle => Answer::Figure(model.circle(state)),
+            &Call::Can {
+                user,
+                label,
+                card,
+                mode,
+            } => Answer::Figure(model.can(state, user, label, card, mode)),
         }
     }
 
@@ -265,6 +291,12 @@ impl Call {
             )),
             Call::Flows { from, to } => Answer::Figure(library::flows(state, from, to)),
             Call::Circle => Answer::Figure(library::circle(state)),
+            Call::Can {
+                user,
+                label,
+                card,
+                mode,
+            } => Answer::Figure(library::can(state, user, label, card, mode)),
         };
         if lent.bytes() != given || !lent.canaries_unchanged() {
             return Err(format!("{self}: the bytes handed in were changed"));
@@ -300,6 +332,12 @@ impl fmt::Display for Call {
             ),
             Call::Flows { from, to } => write!(out, "flows from {from} to {to}"),
             Call::Circle => write!(out, "circle"),
+            Call::Can {
+                user,
+                label,
+                card,
+                mode,
+            } => write!(out, "can user {user} label {label} card {card} mode {mode}"),
         }
     }
 }

@@ -229,8 +229,9 @@ impl Caller {
             470..=529 => Kind::Drop,
             530..=724 => Kind::Read,
             725..=919 => Kind::Write,
-            920..=979 => Kind::Flows,
-            _ => Kind::Circle,
+            920..=949 => Kind::Flows,
+            950..=964 => Kind::Circle,
+            _ => Kind::Can,
         }
     }
 
@@ -298,6 +299,11 @@ impl Caller {
                 }
             }
             Kind::Circle => Call::Circle,
+            Kind::Can => {
+                let user = user(random, &policy, wish);
+                let label = label(random, &policy, user, wish);
+                question(random, &policy, user, label, wish)
+            }
         }
     }
 
@@ -459,6 +465,31 @@ fn card(
     number(random, policy.counts.cards)
 }
 
+/// What a user can at a label: rather of a card that a role assigned to the
+/// user gives in this mode.
+fn question(random: &mut Random, policy: &Policy, user: u64, label: u64, wish: u64) -> Call {
+    let mode = random.pick(&[Mode::Read, Mode::Write]);
+    let mut given: BTreeSet<usize> = BTreeSet::new();
+    for &(_, role) in policy.assigned.iter().filter(|line| line.0 as u64 == user) {
+        given.extend(policy.cards(role, mode));
+    }
+    let card = match some(random, &given) {
+        Some(card) if random.percent(60) => card as u64,
+        _ => number(random, policy.counts.cards),
+    };
+    let mode = match random.below(20) {
+        0 => wild_number(random, 2),
+        1..=8 if wish == 25 => wild_number(random, 2),
+        _ => mode as u64,
+    };
+    Call::Can {
+        user,
+        label,
+        card,
+        mode,
+    }
+}
+
 /// A call of this kind with numbers within document 01's limits or wild ones;
 /// loads are of any file.
 pub fn any_call(random: &mut Random, kind: Kind) -> Call {
@@ -508,5 +539,11 @@ pub fn any_call(random: &mut Random, kind: Kind) -> Call {
             to: number(random, roles),
         },
         Kind::Circle => Call::Circle,
+        Kind::Can => Call::Can {
+            user: number(random, users),
+            label: number(random, labels),
+            card: number(random, cards),
+            mode: number(random, 2),
+        },
     }
 }

@@ -17,9 +17,19 @@ impl Change<'_> {
     }
 }
 
-/// The largest counts of roles and cards.
+/// The largest counts.
+const MOST_LABELS: u64 = 32;
 const MOST_ROLES: u64 = 128;
+const MOST_USERS: u64 = 256;
 const MOST_CARDS: u64 = 512;
+/// Modes are 1 and 2.
+const MODES: u64 = 2;
+
+/// Whether each number is one from 1 to its limit.
+fn within(numbers: &[u64], limits: &[u64]) -> bool {
+    let mut pairs = numbers.iter().zip(limits);
+    pairs.all(|(number, &limit)| (1..=limit).contains(number))
+}
 
 /// The law a call broke, if it broke one.
 pub fn check(call: &Call, answer: Answer, state: Change, store: Change) -> Result<(), String> {
@@ -95,15 +105,25 @@ pub fn check(call: &Call, answer: Answer, state: Change, store: Change) -> Resul
 
     if let Answer::Figure(figure) = answer {
         holds(number == 0 || figure.figure == 0, "a refusal's figure is 0")?;
-        if let Call::Flows { from, to } = call {
-            holds(figure.figure <= 1, "a flow's figure is 0 or 1")?;
-            holds(from != to || figure.figure == 0, "never to itself")?;
-            if number == 0 {
-                let roles = 1..=MOST_ROLES;
-                holds(roles.contains(from) && roles.contains(to), "roles in range")?;
+        match *call {
+            Call::Flows { from, to } => {
+                holds(figure.figure <= 1, "a flow's figure is 0 or 1")?;
+                holds(from != to || figure.figure == 0, "never to itself")?;
+                let roles = within(&[from, to], &[MOST_ROLES, MOST_ROLES]);
+                holds(number != 0 || roles, "roles in range")?;
             }
-        } else {
-            holds(figure.figure <= MOST_ROLES, "a role on the circle")?;
+            Call::Can {
+                user,
+                label,
+                card,
+                mode,
+            } => {
+                holds(figure.figure <= 1, "what a user can is 0 or 1")?;
+                let most = [MOST_USERS, MOST_LABELS, MOST_CARDS, MODES];
+                let in_range = within(&[user, label, card, mode], &most);
+                holds(![0, 26].contains(&number) || in_range, "25 comes first")?;
+            }
+            _ => holds(figure.figure <= MOST_ROLES, "a role on the circle")?,
         }
     }
     Ok(())

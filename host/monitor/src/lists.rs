@@ -20,6 +20,8 @@ pub const WANTED: [u64; 13] = [0, 7, 21, 22, 23, 24, 25, 26, 27, 28, 29, 30, 31]
 #[derive(Default)]
 pub struct Tally {
     pub numbers: BTreeMap<(Kind, u64), u64>,
+    /// Of each report, how often its figure was above 0.
+    pub figures: BTreeMap<Kind, u64>,
     pub lists: u64,
     /// Calls made to look at a state from outside, not counted above.
     pub surveyed: u64,
@@ -30,8 +32,18 @@ impl Tally {
         for (key, count) in other.numbers {
             *self.numbers.entry(key).or_default() += count;
         }
+        for (kind, count) in other.figures {
+            *self.figures.entry(kind).or_default() += count;
+        }
         self.lists += other.lists;
         self.surveyed += other.surveyed;
+    }
+
+    fn count(&mut self, kind: Kind, answer: Answer) {
+        *self.numbers.entry((kind, answer.number())).or_default() += 1;
+        if let Answer::Figure(figure) = answer {
+            *self.figures.entry(kind).or_default() += u64::from(figure.figure > 0);
+        }
     }
 
     fn seen(&self, number: u64) -> u64 {
@@ -41,8 +53,8 @@ impl Tally {
             .sum()
     }
 
-    /// What was never seen: each number that must be, and each number of each
-    /// call but a load's numbers about the file.
+    /// What was never seen: each number that must be, each number of each call
+    /// but a load's numbers about the file, and each report's figure above 0.
     pub fn missing(&self) -> Vec<String> {
         let mut missing: Vec<String> = WANTED
             .into_iter()
@@ -54,6 +66,11 @@ impl Tally {
                 if WANTED.contains(&number) && !self.numbers.contains_key(&(kind, number)) {
                     missing.push(format!("{} {number}", kind.name()));
                 }
+            }
+        }
+        for kind in Kind::REPORTS {
+            if self.figures.get(&kind).is_none_or(|&count| count == 0) {
+                missing.push(format!("{} above 0", kind.name()));
             }
         }
         missing
@@ -82,6 +99,10 @@ impl Tally {
                     None => table.push_str("        ."),
                 }
             }
+        }
+        table.push_str("\nfigure above 0:");
+        for (kind, count) in &self.figures {
+            table.push_str(&format!(" {count} {}", kind.name()));
         }
         table
     }
@@ -145,7 +166,7 @@ impl List {
         if answer != expected {
             return Err(format!("load: expected {expected:?}, got {answer:?}"));
         }
-        *tally.numbers.entry((Kind::Load, 0)).or_default() += 1;
+        tally.count(Kind::Load, answer);
         let counts = match model.policy() {
             Some(policy) => policy.counts,
             None => return Err("the generator's file was refused".to_string()),
@@ -179,7 +200,7 @@ impl List {
         let answer = self.ask(&call, lending, random)?;
         let number = answer.number();
         trace(&format!("{call}, lent {lending:?}: {answer:?}"));
-        *tally.numbers.entry((call.kind(), number)).or_default() += 1;
+        tally.count(call.kind(), answer);
 
         if answer != expected {
             return Err(format!(

@@ -42,7 +42,7 @@ fn short_states() {
                         first: 0,
                         second: 0,
                     }),
-                    Kind::Flows | Kind::Circle => Answer::Figure(Figure {
+                    kind if Kind::REPORTS.contains(&kind) => Answer::Figure(Figure {
                         number: 21,
                         figure: 0,
                     }),

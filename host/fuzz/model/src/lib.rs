@@ -120,6 +120,7 @@ fn call(
             model.write(state, store, first, second, third, &bytes)
         }
         7 => return model.flows(state, first, second),
+        10 => return model.can(state, first, second, third, fourth),
         _ => return model.circle(state),
     };
     Figure { number, figure: 0 }

@@ -110,7 +110,9 @@ impl Caller<'_> {
                     bytes,
                 }
             }
-            Kind::Load | Kind::Flows | Kind::Circle => unreachable!("stands in no run"),
+            Kind::Load | Kind::Flows | Kind::Circle | Kind::Can => {
+                unreachable!("stands in no run")
+            }
         }
     }
 

@@ -116,7 +116,7 @@ impl Tracker<'_> {
                 self.is_under(label, place)
             }
             Call::Read(part) => self.is_under(label, part.place),
-            Call::Load { .. } | Call::Flows { .. } | Call::Circle => {
+            Call::Load { .. } | Call::Flows { .. } | Call::Circle | Call::Can { .. } => {
                 unreachable!("{call} stands in no run")
             }
         }

@@ -1,0 +1,323 @@
+//! The program that RIGHTS_BIN names, against what it must print. Without
+//! RIGHTS_BIN the stand-in is tested: the model's own text, printed.
+
+use rights_tests::program::{run, Temporary};
+use rights_tests::questions::{compare, same, Seen};
+use rights_tests::{expected, Printed};
+use second_checker::line::print_line;
+use std::ffi::OsString;
+use std::fs;
+use std::io::Write;
+use std::os::unix::ffi::{OsStrExt, OsStringExt};
+use std::os::unix::fs::PermissionsExt;
+use std::path::PathBuf;
+
+const SEED: u64 = 1;
+const FILES: u64 = 400;
+
+const USAGE: &str = "usage: rights FILE [USER ...] | rights dot FILE";
+
+/// Document 01's example: one user.
+const EXAMPLE: &str = "\
+H    2    2    1    2
+D    2    1          
+S    2    1          
+U    1    2          
+O    1    1          
+O    2    2          
+P    1    1    1     
+P    2    2    2     
+A    1    2          
+";
+
+fn program() -> PathBuf {
+    match std::env::var_os("RIGHTS_BIN") {
+        Some(path) if !path.is_empty() => PathBuf::from(path),
+        _ => PathBuf::from(env!("CARGO_BIN_EXE_second-rights")),
+    }
+}
+
+fn words(arguments: &[&str]) -> Vec<OsString> {
+    arguments.iter().map(OsString::from).collect()
+}
+
+/// Nothing on standard output, and exactly this line on standard error.
+fn only_a_problem(arguments: &[OsString], before: &str, name: &[u8], after: &str) {
+    let wanted = Printed {
+        output: Vec::new(),
+        problems: [before.as_bytes(), name, after.as_bytes(), b"\n"].concat(),
+    };
+    // What the model says is not by itself what was laid down.
+    assert!(expected(arguments) == wanted, "{before}{after}");
+    if let Err(problem) = same(&program(), arguments, &wanted) {
+        panic!("{problem}");
+    }
+}
+
+fn agrees(arguments: &[OsString]) -> Printed {
+    let expected = expected(arguments);
+    if let Err(problem) = same(&program(), arguments, &expected) {
+        panic!("{problem}");
+    }
+    expected
+}
+
+// ---------------------------------------------------------------------------
+// Files
+
+#[test]
+fn random_files() {
+    let mut seen = Seen::default();
+    for index in 0..FILES {
+        if let Err(problem) = compare(&program(), SEED, index, &mut seen) {
+            panic!("{problem}");
+        }
+    }
+    // Past the test runner, which would keep it back.
+    let mut out = std::io::stdout();
+    writeln!(out, "\n{}: {}", program().display(), seen.table()).expect("standard output");
+    assert_eq!(seen.unseen(), Vec::<String>::new(), "never seen");
+}
+
+#[test]
+fn the_example_files() {
+    let examples = concat!(env!("CARGO_MANIFEST_DIR"), "/../../examples");
+    for name in ["document", "two-makers"] {
+        let file = format!("{examples}/{name}.role");
+        agrees(&words(&[&file]));
+        agrees(&words(&["dot", &file]));
+    }
+}
+
+/// All users cleared to the highest of 32 labels, each taking every second role
+/// at each label, reading every second card there and writing the others.
+#[test]
+fn the_longest_report() {
+    let mut file = print_line(b'H', &[32, 128, 256, 512]);
+    let mut line = |letter, numbers: &[usize]| file.extend(print_line(letter, numbers));
+    (2..=32).for_each(|label| line(b'D', &[label, label - 1]));
+    (1..=127)
+        .step_by(2)
+        .for_each(|role| line(b'S', &[128, role]));
+    (1..=256).for_each(|user| line(b'U', &[user, 32]));
+    (1..=512).for_each(|card| line(b'O', &[card, if card % 2 == 1 { 1 } else { 32 }]));
+    for card in 1..=512 {
+        line(b'P', &[127, card, 1 + (card + 1) % 2]);
+    }
+    (1..=256).for_each(|user| line(b'A', &[user, 128]));
+    let file = Temporary::file(&file).expect("a temporary file");
+    let printed = agrees(&[file.name()]);
+    assert!(
+        printed.output.len() > 15_000_000,
+        "{}",
+        printed.output.len()
+    );
+    agrees(&["dot".into(), file.name()]);
+}
+
+/// Every role flows to every other; then half of them senior to each of as
+/// many others as the file has room for.
+#[test]
+fn the_longest_graphs() {
+    let dot = |file: &[u8], lines: usize| {
+        let file = Temporary::file(file).expect("a temporary file");
+        let printed = agrees(&["dot".into(), file.name()]);
+        let count = printed.output.iter().filter(|&&byte| byte == b'\n').count();
+        assert!(count > lines, "{count}");
+    };
+    let mut flows = print_line(b'H', &[1, 128, 0, 1]);
+    flows.extend(print_line(b'O', &[1, 1]));
+    for role in 1..=128 {
+        flows.extend(print_line(b'P', &[role, 1, 1]));
+        flows.extend(print_line(b'P', &[role, 1, 2]));
+    }
+    dot(&flows, 128 * 127);
+    let mut seniors = print_line(b'H', &[1, 128, 0, 0]);
+    for (senior, junior) in
+        (1..=64).flat_map(|senior| (65..=128).map(move |junior| (senior, junior)))
+    {
+        if seniors.len() < 63_800 {
+            seniors.extend(print_line(b'S', &[senior, junior]));
+        }
+    }
+    dot(&seniors, 2_899);
+}
+
+/// Files longer than a role file can be.
+#[test]
+fn long_files() {
+    for length in [63_801, 63_822, 65_536, 1 << 20, 10_000_010] {
+        let file = Temporary::file(&vec![b' '; length]).expect("a temporary file");
+        let printed = agrees(&[file.name(), "1".into()]);
+        assert!(printed.output.starts_with(b"refused     number     1\n"));
+        agrees(&["dot".into(), file.name()]);
+    }
+}
+
+// ---------------------------------------------------------------------------
+// Arguments
+
+#[test]
+fn bad_usage() {
+    let file = Temporary::file(EXAMPLE.as_bytes()).expect("a temporary file");
+    only_a_problem(&[], USAGE, b"", "");
+    only_a_problem(&words(&["dot"]), USAGE, b"", "");
+    let dot = OsString::from("dot");
+    only_a_problem(&[dot.clone(), file.name(), file.name()], USAGE, b"", "");
+    only_a_problem(&[dot.clone(), file.name(), "1".into()], USAGE, b"", "");
+    only_a_problem(&[dot.clone(), dot.clone(), dot], USAGE, b"", "");
+}
+
+/// A file that can't be read, whatever the other arguments.
+fn unreadable(name: OsString, words: &str) {
+    let after = format!(": {words}");
+    for arguments in [
+        vec![name.clone()],
+        vec![name.clone(), "1".into()],
+        vec![name.clone(), "x".into()],
+        vec!["dot".into(), name.clone()],
+    ] {
+        only_a_problem(&arguments, "", name.as_bytes(), &after);
+    }
+}
+
+#[test]
+fn files_that_cannot_be_read() {
+    let missing = Temporary::path();
+    unreadable(missing.name(), "No such file or directory");
+    unreadable(OsString::new(), "No such file or directory");
+    unreadable("--help".into(), "No such file or directory");
+    unreadable(std::env::temp_dir().into_os_string(), "Is a directory");
+    unreadable("/dev/null/none".into(), "Not a directory");
+    for length in [256, 4_095, 4_096] {
+        unreadable("n".repeat(length).into(), "File name too long");
+    }
+    unreadable(
+        OsString::from_vec(b"n\xffn".to_vec()),
+        "No such file or directory",
+    );
+    let named_dot = words(&["dot", "dot"]);
+    only_a_problem(&named_dot, "", b"dot", ": No such file or directory");
+}
+
+/// For the superuser every file can be read; then there is nothing to test.
+#[test]
+fn a_file_without_permission() {
+    let file = Temporary::file(EXAMPLE.as_bytes()).expect("a temporary file");
+    let nobody = fs::Permissions::from_mode(0o000);
+    fs::set_permissions(&file.path, nobody).expect("permissions");
+    if fs::read(&file.path).is_err() {
+        unreadable(file.name(), "Permission denied");
+    }
+}
+
+/// What is no user of the file, alone and beside a user.
+fn no_user(file: &Temporary, name: &[u8]) {
+    let user = OsString::from_vec(name.to_vec());
+    let one = OsString::from("1");
+    for arguments in [
+        vec![file.name(), user.clone()],
+        vec![file.name(), one.clone(), user.clone()],
+        vec![file.name(), user.clone(), one.clone()],
+    ] {
+        let after = " is not the number of a user of this file";
+        only_a_problem(&arguments, "rights: ", name, after);
+    }
+}
+
+/// What is no user of a file of one user.
+#[test]
+fn arguments_that_are_no_user() {
+    let file = Temporary::file(EXAMPLE.as_bytes()).expect("a temporary file");
+    let long = "1".repeat(4_096);
+    let names: [&[u8]; 27] = [
+        b"0",
+        b"00",
+        b"00000",
+        b"x",
+        b"1x",
+        b"x1",
+        b"",
+        b"-1",
+        b"+1",
+        b"000001",
+        b"2",
+        b"9",
+        b"10",
+        b"257",
+        b"65537",
+        b"99999",
+        b"100000",
+        b"4294967297",
+        b"18446744073709551617",
+        b" 1",
+        b"1 ",
+        b"1.",
+        b"0x1",
+        b"1\xff",
+        b"\xb1",
+        b"1-1",
+        long.as_bytes(),
+    ];
+    for name in names {
+        no_user(&file, name);
+    }
+}
+
+/// Names longer than any path are named in full all the same.
+#[test]
+fn arguments_longer_than_a_path() {
+    let file = Temporary::file(EXAMPLE.as_bytes()).expect("a temporary file");
+    for length in [4_097, 5_000, 65_537, 131_000] {
+        unreadable("n".repeat(length).into(), "File name too long");
+        no_user(&file, "1".repeat(length).as_bytes());
+    }
+}
+
+#[test]
+fn ways_to_write_a_user() {
+    let file = Temporary::file(EXAMPLE.as_bytes()).expect("a temporary file");
+    let everyone = agrees(&[file.name()]);
+    assert!(!everyone.output.is_empty());
+    for name in ["1", "01", "001", "0001", "00001"] {
+        assert!(agrees(&[file.name(), name.into()]) == everyone, "{name}");
+    }
+}
+
+#[test]
+fn many_users_asked() {
+    let file = Temporary::file(EXAMPLE.as_bytes()).expect("a temporary file");
+    let mut arguments = vec![file.name()];
+    arguments.resize(10_000, "1".into());
+    agrees(&arguments);
+    arguments.push("0".into());
+    only_a_problem(
+        &arguments,
+        "rights: ",
+        b"0",
+        " is not the number of a user of this file",
+    );
+}
+
+/// "A refused file is reported before the user arguments are looked at."
+#[test]
+fn a_refused_file_comes_first() {
+    let refused = EXAMPLE.replace("U    1    2", "U    1    3");
+    let file = Temporary::file(refused.as_bytes()).expect("a temporary file");
+    let alone = agrees(&[file.name()]);
+    assert!(alone.output.starts_with(b"refused     number     4\n"));
+    for user in ["1", "x", "", "257"] {
+        assert!(agrees(&[file.name(), user.into()]) == alone, "{user}");
+    }
+    assert!(agrees(&["dot".into(), file.name()]) == alone);
+}
+
+/// It reads the file and leaves it as it was.
+#[test]
+fn the_file_is_only_read() {
+    let file = Temporary::file(EXAMPLE.as_bytes()).expect("a temporary file");
+    let reading = fs::Permissions::from_mode(0o444);
+    fs::set_permissions(&file.path, reading).expect("permissions");
+    run(&program(), &[file.name()]).expect("a run");
+    assert_eq!(fs::read(&file.path).expect("the file"), EXAMPLE.as_bytes());
+}
