@@ -8,13 +8,17 @@ SEED ?= 7
 SECONDS ?= 60
 LONG_FILES ?= 1000000
 LONG_LISTS ?= 100000
+USERS ?=
+PICTURE ?= target/picture.svg
 PREFIX ?= /usr/local
 ARCHIVE = target/staticlib/libmonitor.a
 
-.PHONY: help check test prove lib install differential lists pairs long fuzz sanitize bench growth mutation kit
+.PHONY: help check rights picture test prove lib install differential lists pairs long fuzz sanitize bench growth mutation kit
 
 help:
 	@echo "make check FILE=F       check a role file: its verdict, levels, flow"
+	@echo "make rights FILE=F      what F means for its users, or for USERS=\"3 7\""
+	@echo "make picture FILE=F     label order, role hierarchy and role flow of F as PICTURE=$(PICTURE), by Graphviz"
 	@echo "make test               all tests: every proof from nothing, must-fail edits, host tests"
 	@echo "make prove              prove what has changed"
 	@echo "make lib                prove the monitor and build $(ARCHIVE)"
@@ -30,11 +34,21 @@ help:
 	@echo "make mutation           MUTANTS=$(MUTANTS) small edits of the crates, from SEED, and which the prover refuses"
 
 kit:
-	@command -v rt >/dev/null || { echo "This needs rt, the Rattle kit's command, on the path."; exit 1; }
+	@command -v rt >/dev/null || { echo "rt, the command of the Rattle kit, is not on the path. Install the kit, then put its bin folder on the path."; exit 1; }
 
 check: kit
 	@rt check rolecheck >/dev/null
 	@target/bin/rolecheck < $(FILE)
+
+rights: kit
+	@rt check rights >/dev/null
+	@target/bin/rights $(FILE) $(USERS)
+
+picture: kit
+	@command -v dot >/dev/null || { echo "dot is not on the path. Install Graphviz (Debian: graphviz)."; exit 1; }
+	@rt check rights >/dev/null
+	@target/bin/rights dot $(FILE) | dot -Tsvg > $(PICTURE)
+	@echo "$(PICTURE)"
 
 prove: kit
 	rt check

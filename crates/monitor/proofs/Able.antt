@@ -55,7 +55,7 @@ module _ (f : List ℕ) (form : WellFormed f) (t : Sessions) (known : Orderly f 
   table-says (suc (suc zero)) w o r i j = stands .tables .permitting .writers o r i j
   table-says (suc (suc (suc m))) w o r i j = absurd (omega arith)
 
-  could-by : (u l o m : ℕ) → Among (users f) u → Among (labels f) l → Among (cards f) o → Among 2 m → could xs u l o (tableOf m) ≡ mayCome f u l o m
+  pub could-by : (u l o m : ℕ) → Among (users f) u → Among (labels f) l → Among (cards f) o → Among 2 m → could xs u l o (tableOf m) ≡ mayCome f u l o m
   unfolding could mayCome serves
   could-by u l o m user label card mode =
       rw (stands .tables .counted .roles)

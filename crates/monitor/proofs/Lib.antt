@@ -10,3 +10,4 @@ pub mod History
 pub mod Grants
 pub mod Cases
 pub mod Able
+pub mod Reviewed

@@ -1,0 +1,140 @@
+-- The review functions in the file's own terms, for every state that a load of an accepted file and any calls left: `review-…`. What a user's roles at a label give is what
+-- `monitor_can` answers (`review-can`). Assumes nothing.
+use Prim.Native.Nat.{ℕ, _≤_}
+use mathlib.Core.Path.{_≡_, refl, sym, _∙_}
+use mathlib.Core.List.{List}
+use mathlib.Core.Logic.{inl}
+use mathlib.Core.Bool.{Bool, true, false, _&&_}
+use native.Mathlib.Omega.{arith}
+use borrow.Author.Tests.{le-leb}
+use Rattle.search.specs.Search as search
+use Rattle.search.specs.Search.{Among}
+use Rattle.search.proofs.Truth.{and-iff, among-iff, same}
+use Rattle.search.proofs.Found.{some-iff, some-of}
+use Rattle.roleset.specs.Row.{member}
+use Rattle.rolefile.specs.Said.{labels, roles, users, cards, clearance, assigned}
+use Rattle.rolefile.specs.WellFormed.{WellFormed}
+use Rattle.policy.specs.Policy.{dominates, senior}
+use Rattle.policy.specs.Tables.{rowOf}
+use Rattle.policy.proofs.Meaning.{counts-known, marked-file}
+use Rattle.monitor.specs.Session.{sound, entitled, fitting}
+use Rattle.monitor.specs.Rules.{Sessions, belongs, suits}
+use Rattle.monitor.specs.Rights.{tableOf, serves, could, mayCome}
+use Rattle.monitor.specs.Review.{counted, isLabel, isRole, isUser, isCard, clearanceOf, over, seniorTo, assignedTo, entitledTo, mayOpen, mayTake, giveCard}
+use Rattle.monitor.proofs.Orderly.{Orderly}
+use Rattle.monitor.proofs.Stands.{Stands}
+use Rattle.monitor.proofs.InFile.{sound-file, cleared-file, entitled-file, fitting-file}
+use Rattle.monitor.proofs.Known.{may-known}
+use Rattle.monitor.proofs.Able.{could-by}
+
+module _ (f : List ℕ) (form : WellFormed f) (t : Sessions) (orderly : Orderly f t) (xs : List ℕ) (stands : Stands f t xs) where
+  whole : sound xs ≡ true
+  whole = sound-file f form t orderly xs stands
+
+  -- ---- counts and ranges
+
+  pub review-labels : counted xs 0 ≡ labels f
+  review-labels = rw whole (stands .tables .counted .labels)
+
+  pub review-roles : counted xs 2 ≡ roles f
+  review-roles = rw whole (stands .tables .counted .roles)
+
+  pub review-users : counted xs 4 ≡ users f
+  review-users = rw whole (stands .tables .counted .users)
+
+  pub review-cards : counted xs 6 ≡ cards f
+  review-cards = rw whole (stands .tables .counted .cards)
+
+  label : (l : ℕ) → Among (labels f) l → isLabel xs l ≡ true
+  label l w = rw (whole, stands .tables .counted .labels) (among-iff (labels f) l .1 w)
+
+  role : (r : ℕ) → Among (roles f) r → isRole xs r ≡ true
+  role r w = rw (whole, stands .tables .counted .roles) (among-iff (roles f) r .1 w)
+
+  user : (u : ℕ) → Among (users f) u → isUser xs u ≡ true
+  user u w = rw (whole, stands .tables .counted .users) (among-iff (users f) u .1 w)
+
+  card : (o : ℕ) → Among (cards f) o → isCard xs o ≡ true
+  card o w = rw (whole, stands .tables .counted .cards) (among-iff (cards f) o .1 w)
+
+  -- ---- users, labels, roles and cards of the file
+
+  pub review-clearance : (u : ℕ) → Among (users f) u → clearanceOf xs u ≡ clearance f u
+  unfolding clearanceOf
+  review-clearance u v = let few = counts-known f form .users in rw (user u v) (stands .tables .labelled .users u (omega arith))
+
+  pub review-dominates : (a b : ℕ) → Among (labels f) a → Among (labels f) b → over xs a b ≡ dominates f a b
+  unfolding over
+  review-dominates a b v w = rw (label a v, label b w) (marked-file f form xs (stands .tables) a b (inl v))
+
+  pub review-senior : (q r : ℕ) → Among (roles f) q → Among (roles f) r → seniorTo xs q r ≡ senior f q r
+  unfolding seniorTo
+  review-senior q r v w =
+      let few = counts-known f form .roles in
+      rw (role q v, role r w, stands .tables .seniors r q (omega arith) (omega arith), le-leb r (roles f) (w .1))
+
+  pub review-assigned : (u r : ℕ) → Among (users f) u → Among (roles f) r → assignedTo xs u r ≡ assigned f u r
+  unfolding assignedTo
+  review-assigned u r v w =
+      let few-users = counts-known f form .users in
+      let few-roles = counts-known f form .roles in
+      rw (user u v, role r w) (stands .tables .assigning u r (omega arith) (omega arith))
+
+  pub review-entitled : (u r : ℕ) → Among (users f) u → Among (roles f) r → entitledTo xs u r ≡ belongs f u r
+  unfolding entitledTo
+  review-entitled u r v w = rw (user u v, role r w) (entitled-file f form t orderly xs stands u r v w)
+
+  pub review-opens : (u l : ℕ) → Among (users f) u → Among (labels f) l → mayOpen xs u l ≡ dominates f (clearance f u) l
+  unfolding mayOpen
+  review-opens u l v w = rw (user u v, label l w) (cleared-file f form t orderly xs stands u l v w)
+
+  pub review-takes : (u l r : ℕ) → Among (users f) u → Among (labels f) l → Among (roles f) r
+      → mayTake xs u l r ≡ (dominates f (clearance f u) l && (belongs f u r && suits f l r))
+  unfolding mayTake
+  review-takes u l r v w i = rw (review-opens u l v w, review-entitled u r v i, fitting-file f form t orderly xs stands l r w i)
+
+  -- ---- what the roles that may be taken give
+
+  module _ (u l o m : ℕ) (v : Among (users f) u) (w : Among (labels f) l) (i : Among (cards f) o) (j : Among 2 m) (cleared : dominates f (clearance f u) l ≡ true) where
+    abbrev gives : ℕ → Bool
+    gives r = member xs (rowOf (tableOf m) o) r && mayTake xs u l r
+
+    -- a role of the file that may be taken and gives the card is one that serves
+    takes-as : (r : ℕ) → Among (roles f) r → mayTake xs u l r ≡ (entitled xs u r && fitting xs l r)
+    unfolding mayTake entitledTo
+    takes-as r k = rw (review-opens u l v w, cleared, user u v, role r k)
+
+    serves-as : (r : ℕ) → Among (roles f) r → gives r ≡ serves xs u l o (tableOf m) r
+    unfolding serves
+    serves-as r k =
+        rw (takes-as r k)
+        (turn (member xs (rowOf (tableOf m) o) r) (entitled xs u r) (fitting xs l r))
+      where
+        turn : (a b c : Bool) → (a && (b && c)) ≡ (b && (c && a))
+        turn true true true = refl
+        turn true true false = refl
+        turn true false c = refl
+        turn false true true = refl
+        turn false true false = refl
+        turn false false c = refl
+
+    few : roles f ≤ 128
+    few = counts-known f form .roles
+
+    pub review-can : giveCard xs m o (mayTake xs u l) ≡ could xs u l o (tableOf m)
+    unfolding giveCard could
+    review-can =
+        rw (card o i, among-iff 2 m .1 j, stands .tables .counted .roles)
+        (same (search.some 128 gives) (search.some (roles f) (serves xs u l o (tableOf m)))
+        (λ h.
+        let (r, k, e) = some-iff gives 128 .0 h in
+        let may = and-iff (member xs (rowOf (tableOf m) o) r) (mayTake xs u l r) .0 e .1 in
+        let most = rw review-roles at (may-known xs u l r may) in
+        let one : Among (roles f) r = omega arith in
+        some-of (serves xs u l o (tableOf m)) (roles f) r one (sym (serves-as r one) ∙ e))
+        (λ h.
+        let (r, k, e) = some-iff (serves xs u l o (tableOf m)) (roles f) .0 h in
+        some-of gives 128 r (omega (arith, few)) (serves-as r k ∙ e)))
+
+    pub review-gives : giveCard xs m o (mayTake xs u l) ≡ mayCome f u l o m
+    review-gives = review-can ∙ could-by f form t orderly xs stands u l o m v w i j
