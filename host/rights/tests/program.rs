@@ -264,13 +264,25 @@ fn arguments_that_are_no_user() {
     }
 }
 
-/// Names longer than any path are named in full all the same.
+/// Arguments longer than any path get one line too, which does not repeat them.
 #[test]
 fn arguments_longer_than_a_path() {
     let file = Temporary::file(EXAMPLE.as_bytes()).expect("a temporary file");
     for length in [4_097, 5_000, 65_537, 131_000] {
-        unreadable("n".repeat(length).into(), "File name too long");
-        no_user(&file, "1".repeat(length).as_bytes());
+        let name: OsString = "1".repeat(length).into();
+        for (arguments, problem) in [
+            (vec![name.clone()], "rights: File name too long\n"),
+            (vec!["dot".into(), name.clone()], "rights: File name too long\n"),
+            (vec![file.name(), name.clone()], "rights:  is not the number of a user of this file\n"),
+        ] {
+            let wanted = Printed {
+                output: Vec::new(),
+                problems: problem.as_bytes().to_vec(),
+            };
+            if let Err(problem) = same(&program(), &arguments, &wanted) {
+                panic!("{problem}");
+            }
+        }
     }
 }
 
