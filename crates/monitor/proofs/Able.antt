@@ -24,15 +24,15 @@ use Rattle.policy.specs.Image.{Loaded}
 use Rattle.policy.proofs.Meaning.{counts-known}
 use Rattle.monitor.specs.Session.{labelsIn, usersIn, cardsIn, cleared, entitled, fitting}
 use Rattle.monitor.specs.Calls.{unless, ifDone}
-use Rattle.monitor.specs.Runs.{opens, takes, Memory, after}
-use Rattle.monitor.specs.Rules.{Session, Sessions, nobody, belongs, suits, uses, openRule, takeRule, partRule, rule, newcomer, holding, next}
+use Rattle.monitor.specs.Runs.{Call, opens, takes, Memory, after, run}
+use Rattle.monitor.specs.Rules.{Session, Sessions, nobody, belongs, suits, uses, openRule, takeRule, partRule, rule, newcomer, holding, next, sessions}
 use Rattle.monitor.specs.Rights.{canNumber, tableOf, serves, could, Cans, canRule, mayCome, useOf, Granting}
 use Rattle.monitor.proofs.Answers.{unless-done}
 use Rattle.monitor.proofs.Orderly.{Orderly, opening, taking, part-done}
 use Rattle.monitor.proofs.Stands.{Stands}
 use Rattle.monitor.proofs.InFile.{test-same, test-passed, sound-file, cleared-file, entitled-file, fitting-file}
 use Rattle.monitor.proofs.History.{put-at}
-use Rattle.monitor.proofs.Demand2.{Runs, runs-next, runs-number, loaded-runs}
+use Rattle.monitor.proofs.Demand2.{Runs, runs-next, runs-number, loaded-runs, left-runs}
 
 -- ---- by the file
 
@@ -227,3 +227,29 @@ module _ (f : List ℕ) (accepted : Accepted f) (xs ys : List ℕ) (v : Verdict)
             let (a, held) = came f (length store) p u l place enough o m r mode (granting r .1 x) in
             h .answer ∙ one .1 (by ∙ able-done f u l o m a, same a ∙ held),
       )
+
+-- on every state that a load and calls left: by the file, and never 21
+module _ (f : List ℕ) (accepted : Accepted f) (xs ys : List ℕ) (v : Verdict) (long : 65536 ≤ length xs) (load : Loaded f v xs ys) (store : List ℕ) (cs : List Call) where
+  abbrev end : List ℕ
+  end = run (record { state = ys; store = store }) cs .state
+
+  pub can-file : (u l o m n figure : ℕ) → Cans end u l o m n figure → (n ≡ canRule f u l o m) × (figure ≡ ifDone n (cond (mayCome f u l o m) 1 0) 0)
+  unfolding ifDone
+  can-file u l o m n figure h =
+      let e = h .number ∙ number-by f good t (ran .known) end (ran .stands) u l o m in
+      (e, h .answer ∙ rw (← (h .number)) (by n e))
+    where
+      good : WellFormed f
+      good = accepted .ordered .form
+
+      t : Sessions
+      t = sessions f nobody cs
+
+      ran : Runs f (sessions f nobody cs) (length store) (run (record { state = ys; store = store }) cs)
+      ran = left-runs f accepted xs ys v long load store cs
+
+      by : (n : ℕ) → n ≡ canRule f u l o m → _≡_ {A = ℕ} (ifDone n (cond (could end u l o (tableOf m)) 1 0) 0) (ifDone n (cond (mayCome f u l o m) 1 0) 0)
+      by zero e =
+          let a = can-done f u l o m (sym e) in
+          ap (λ (b : Bool). cond {A = ℕ} b 1 0) (could-by f good t (ran .known) end (ran .stands) u l o m (a .user) (a .label) (a .card) (a .mode))
+      by (suc n) e = refl

@@ -205,10 +205,10 @@ module _ (f : List ℕ) (accepted : Accepted f) (xs ys : List ℕ) (v : Verdict)
   loaded-runs store = record { known = nobody-orderly f; stands = loaded-stands; stored = refl }
 
   module _ (store : List ℕ) (cs : List Call) where
-    abbrev left : Memory
+    abbrev pub left : Memory
     left = run (record { state = ys; store = store }) cs
 
-    left-runs : Runs f (sessions f nobody cs) (length store) left
+    pub left-runs : Runs f (sessions f nobody cs) (length store) left
     left-runs = runs-after f form cs nobody (length store) (record { state = ys; store = store }) (loaded-runs store)
 
     -- what each call is answered, whatever store it is lent, by the file and the calls so far
