@@ -16,6 +16,8 @@ use Rattle.search.proofs.Truth.{and-iff, among-iff}
 use Rattle.roleset.specs.Row.{bit, member, Placed, added, removed}
 use Rattle.roleset.proofs.Bits.{bit-on, bit-off}
 use Rattle.roleset.proofs.Rows.{one-written, placed-once, unwritten}
+use Rattle.monitor.specs.Session.{heldAt}
+use Rattle.monitor.specs.Calls.{taken, dropped}
 
 -- `1 << k` at a byte
 shifted : (k : ℕ) → k < 8 → 1 * 2 ^ k % 256 ≡ 2 ^ k
@@ -93,3 +95,23 @@ module _ (xs : List ℕ) (at r : ℕ) (fits : at + 16 ≤ length xs) (w : Among 
       pub removed-is : Placed at (removed xs at r) xs ys → ys ≡ less (member xs at r)
       removed-is p =
           placed-once at (removed xs at r) xs ys _ p removed-placed long (length-less (member xs at r)) ys-bytes (byte-less (member xs at r))
+
+    -- a role that the row has already changes nothing
+    again : member xs at r ≡ true → (q : ℕ) → member xs at q ≡ added xs at r q
+    again h q = elim (ℕ-discrete q r) [
+      | yes e ↦ rw (e, h)
+      | no n ↦ sym (rw (ne-eqb q r n, and-false (among 128 r)) (or-false (member xs at q)))
+    ]
+
+    pub added-again : member xs at r ≡ true → set xs i (bitOr (getD xs i 0) (2 ^ k)) ≡ xs
+    added-again h = sym (added-is xs refl xs-bytes (unwritten (λ l q. again h q)))
+
+-- "Taking a role already held, or dropping one not held, is done and changes nothing"
+module _ (xs : List ℕ) (p r : ℕ) where
+  pub taken-again : 65536 ≤ length xs → Among 64 p → Among 128 r → ((j : ℕ) → getD xs j 0 < 256) → member xs (heldAt p) r ≡ true → taken xs p r ≡ xs
+  unfolding taken
+  taken-again long v w bytes held = added-again xs (heldAt p) r (omega arith) w bytes held
+
+  pub dropped-again : member xs (heldAt p) r ≡ false → dropped xs p r ≡ xs
+  unfolding dropped
+  dropped-again free = rw free
