@@ -1,78 +1,121 @@
--- The columns of a number, made digit by digit, read as the number; so they are the number as it is written. Its digits are what is left of them after
--- the blanks. Assumes nothing.
+-- The columns of a number, made digit by digit, are its last five digits with blanks before them; below 100,000 they are the number as it is written.
+-- The digits are what is left of the columns after the blanks. Assumes nothing.
 use Prim.Native.Nat.{ℕ, zero, suc, _+_, _-_, _/_, _%_, _^_, _≤_, _<_}
-use mathlib.Core.Path.{_≡_, refl, _∙_}
-use mathlib.Core.List.{List, [], _∷_}
+use mathlib.Core.Path.{_≡_, refl, sym, _∙_}
+use mathlib.Core.List.{List, [], _∷_, _++_, append-assoc}
 use mathlib.Core.Bool.{cond}
 use native.Mathlib.Omega.{arith}
 use native.Mathlib.Decide.{decLt}
+use native.Mathlib.Numerals.{add-one}
 use lib.Dec.{ltb}
-use lib.ListN.{length, take, drop, replicate, length-append, length-drop, length-replicate}
+use lib.ListN.{length, take, drop, replicate, length-append, length-drop, length-replicate, replicate-append-replicate}
 use lib.Seq.{take-all, drop-at}
 use borrow.Author.Tests.{lt-ltb, le-ltb}
-use Rattle.rolefile.specs.declared.Field.{Field}
-use Rattle.rolefile.specs.declared.Field.the-variants.{Blank, Number}
-use Rattle.rolefile.specs.Field.{column, columns}
 use Rattle.rolefile.specs.Decimal.{lastDigits, digits, padded}
-use Rattle.rolefile.proofs.Decimals.{first-read, next-read, reads-number}
+use Rattle.text.specs.Text.{lastFive}
+
+-- ---- the last digits of n, by those of n / 10
+
+single-digit : (k n : ℕ) → n < 10 → lastDigits (suc k) n ≡ (48 + n) ∷ []
+unfolding lastDigits
+single-digit k n l = rw (lt-ltb n 10 l)
+
+more-digits : (k n : ℕ) → 10 ≤ n → lastDigits (suc k) n ≡ lastDigits k (n / 10) ++ ((48 + n % 10) ∷ [])
+unfolding lastDigits
+more-digits k n l = rw (le-ltb n 10 l)
+
+-- more places than n has digits change nothing
+same-digits : (k m n : ℕ) → n < 10 ^ suc k → n < m → lastDigits (suc k) n ≡ lastDigits m n
+same-digits k zero n high l = absurd (omega arith)
+same-digits zero (suc m) n high l = single-digit 0 n high ∙ sym (single-digit m n high)
+same-digits (suc k) (suc m) n high l = elim (decLt n 10) [
+  | yes s ↦ rw (single-digit (suc k) n s, single-digit m n s)
+  | no s ↦
+      let p : 10 ≤ n = omega arith in
+      rw (more-digits (suc k) n p, more-digits m n p, same-digits k m (n / 10) (omega arith) (omega arith))
+]
+
+pub all-digits : (n : ℕ) → n < 100000 → lastDigits 5 n ≡ digits n
+unfolding digits
+all-digits n l = same-digits 4 (suc n) n l (omega arith)
+
+power-some : (j : ℕ) → 1 ≤ 10 ^ j
+power-some zero = omega arith
+power-some (suc j) = omega (arith, power-some j)
+
+-- a number that reaches the first of the places has a digit in each
+pub last-count : (j n : ℕ) → (1 ≤ j → 10 ^ j ≤ n) → length (lastDigits (suc j) n) ≡ suc j
+unfolding lastDigits
+last-count zero n low = elim (decLt n 10) [
+  | yes s ↦ rw (lt-ltb n 10 s)
+  | no s ↦ rw (le-ltb n 10 (omega arith))
+]
+last-count (suc j) n low =
+    let least : 10 ^ suc j ≤ n = low (omega arith) in
+    rw (more-digits (suc j) n (omega (arith, power-some j)), length-append, last-count j (n / 10) (λ m. omega arith)) (omega arith)
+
+pub digit-count : (j n : ℕ) → (1 ≤ j → 10 ^ j ≤ n) → n < 10 ^ suc j → length (digits n) ≡ suc j
+unfolding digits
+digit-count j n low high = rw (same-digits j (suc n) n high (omega arith)) at (last-count j n low)
+
+-- ---- a number in columns
 
 -- the last digit of m, a blank for none
 abbrev pub digitOf : ℕ → ℕ
 digitOf m = cond (ltb m 1) 32 (48 + m % 10)
 
--- what the columns up to that digit read as
-abbrev readAs : ℕ → Field
-readAs m = cond (ltb m 1) Blank (Number m)
+-- k columns of such digits
+abbrev places : ℕ → ℕ → List ℕ
+places zero m = []
+places (suc k) m = places k (m / 10) ++ (digitOf m ∷ [])
 
-module _ (m : ℕ) (l : m < 100000) where
-  last-read : column (readAs (m / 10)) (48 + m % 10) ≡ Number m
-  last-read = elim (decLt m 10) [
-    | yes k ↦ let q : m % 10 ≡ m = omega arith in rw (lt-ltb (m / 10) 1 (omega arith), q) (first-read m k)
-    | no k ↦ rw (le-ltb (m / 10) 1 (omega arith)) (next-read m (omega arith) l)
-  ]
+blank-places : (k : ℕ) → places k 0 ≡ replicate k 32
+blank-places zero = refl
+blank-places (suc k) = rw (blank-places k) (rw add-one at (replicate-append-replicate {A = ℕ} k 1 32))
 
-  digit-read : column (readAs (m / 10)) (digitOf m) ≡ readAs m
-  unfolding column
-  digit-read = elim (decLt m 1) [
-    | yes k ↦ rw (lt-ltb m 1 k, lt-ltb (m / 10) 1 (omega arith))
-    | no k ↦ rw (le-ltb m 1 (omega arith)) last-read
-  ]
+-- the digits ds in k columns
+abbrev filled : ℕ → List ℕ → List ℕ
+filled k ds = replicate (k - length ds) 32 ++ ds
 
-module _ (n : ℕ) (l : n < 100000) where
-  number-read : columns Blank (digitOf (n / 10000) ∷ digitOf (n / 1000) ∷ digitOf (n / 100) ∷ digitOf (n / 10) ∷ (48 + n % 10) ∷ []) ≡ Number n
-  unfolding columns
-  number-read =
-      let none : n / 10000 / 10 ≡ 0 = omega arith in
-      let two : n / 1000 / 10 ≡ n / 10000 = omega arith in
-      let three : n / 100 / 10 ≡ n / 1000 = omega arith in
-      let four : n / 10 / 10 ≡ n / 100 = omega arith in
-      rw (
-        rw none at (digit-read (n / 10000) (omega arith)),
-        rw two at (digit-read (n / 1000) (omega arith)),
-        rw three at (digit-read (n / 100) (omega arith)),
-        rw four at (digit-read (n / 10) (omega arith)),
-      ) (last-read n l)
+filled-more : (k d : ℕ) (ds : List ℕ) → filled k ds ++ (d ∷ []) ≡ filled (suc k) (ds ++ (d ∷ []))
+filled-more k d ds =
+    let same : suc k - (length ds + 1) ≡ k - length ds = omega arith in
+    rw (length-append, same, append-assoc)
 
-  pub columns-padded : (digitOf (n / 10000) ∷ digitOf (n / 1000) ∷ digitOf (n / 100) ∷ digitOf (n / 10) ∷ (48 + n % 10) ∷ []) ≡ padded n
-  columns-padded = reads-number _ refl n .0 number-read .1
+-- the columns up to the last, where those before it are the digits of n / 10
+last-filled : (k n : ℕ) → (1 ≤ n / 10 → places k (n / 10) ≡ filled k (lastDigits k (n / 10)))
+    → places k (n / 10) ++ ((48 + n % 10) ∷ []) ≡ filled (suc k) (lastDigits (suc k) n)
+last-filled k n before = elim (decLt n 10) [
+  | yes s ↦
+      let none : n / 10 ≡ 0 = omega arith in
+      let whole : n % 10 ≡ n = omega arith in
+      let one : suc k - length ((48 + n) ∷ []) ≡ k = omega arith in
+      rw (single-digit k n s, none, whole, blank-places k, one)
+  | no s ↦ rw (more-digits k n (omega arith), before (omega arith)) (filled-more k (48 + n % 10) (lastDigits k (n / 10)))
+]
 
--- ---- a number in its fewest digits
-
-count : (j k n : ℕ) → n < k → (1 ≤ j → 10 ^ j ≤ n) → n < 10 ^ suc j → length (lastDigits k n) ≡ suc j
+places-filled : (k n : ℕ) → 1 ≤ n → places k n ≡ filled k (lastDigits k n)
 unfolding lastDigits
-count j zero n l low high = absurd (omega arith)
-count zero (suc k) n l low high = rw (lt-ltb n 10 high)
-count (suc j) (suc k) n l low high =
-    let least : 10 ^ suc j ≤ n = low (omega arith) in
-    rw (le-ltb n 10 (omega arith), length-append, count j k (n / 10) (omega arith) (λ m. omega arith) (omega arith)) (omega arith)
+places-filled zero n l = refl
+places-filled (suc k) n l = rw (le-ltb n 1 l) (last-filled k n (places-filled k (n / 10)))
 
-pub digit-count : (j n : ℕ) → (1 ≤ j → 10 ^ j ≤ n) → n < 10 ^ suc j → length (digits n) ≡ suc j
-unfolding digits
-digit-count j n low high = count j (suc n) n (omega arith) low high
+module _ (n : ℕ) where
+  pub columns-last : {a b c d : ℕ} → a ≡ digitOf (n / 10000) → b ≡ digitOf (n / 1000) → c ≡ digitOf (n / 100) → d ≡ digitOf (n / 10)
+      → (a ∷ b ∷ c ∷ d ∷ (48 + n % 10) ∷ []) ≡ lastFive n
+  unfolding lastFive
+  columns-last p q r s =
+      let two : n / 10 / 10 ≡ n / 100 = omega arith in
+      let three : n / 100 / 10 ≡ n / 1000 = omega arith in
+      let four : n / 1000 / 10 ≡ n / 10000 = omega arith in
+      rw (p, q, r, s) (rw (two, three, four) at (last-filled 4 n (places-filled 4 (n / 10))))
 
-after-blanks : (n : ℕ) → drop (5 - length (digits n)) (padded n) ≡ digits n
-unfolding padded
-after-blanks n = drop-at (replicate (5 - length (digits n)) 32) (digits n) (5 - length (digits n)) (length-replicate (5 - length (digits n)) 32)
+  pub last-padded : n < 100000 → lastFive n ≡ padded n
+  unfolding lastFive padded
+  last-padded l = rw (all-digits n l)
 
-pub digits-left : (n k : ℕ) (cs : List ℕ) → 5 ≡ length cs → cs ≡ padded n → k ≡ 5 - length (digits n) → take (5 - k) (drop k cs) ≡ digits n
-digits-left n k cs five e s = take-all (5 - k) (drop k cs) (omega (arith, length-drop k cs)) ∙ rw (e, s) (after-blanks n)
+  after-blanks : drop (5 - length (lastDigits 5 n)) (lastFive n) ≡ lastDigits 5 n
+  unfolding lastFive
+  after-blanks = let k = 5 - length (lastDigits 5 n) in drop-at (replicate k 32) (lastDigits 5 n) k (length-replicate k 32)
+
+  pub digits-left : (k : ℕ) (cs : List ℕ) → 5 ≡ length cs → cs ≡ lastFive n → k ≡ 5 - length (lastDigits 5 n) → take (5 - k) (drop k cs) ≡ lastDigits 5 n
+  digits-left k cs five e s = take-all (5 - k) (drop k cs) (omega (arith, length-drop k cs)) ∙ rw (e, s) after-blanks

@@ -1,16 +1,26 @@
 -- Text put into a buffer. Assumes nothing.
-use Prim.Native.Nat.{ℕ, _≤_}
+use Prim.Native.Nat.{ℕ, _-_, _≤_}
 use Prim.Native.Char.{code}
 use Prim.Native.String.{String}
 use Prim.Native.String as string
 use mathlib.Core.Path.{_≡_}
 use mathlib.Core.List.{List, [], _∷_, _++_}
-use lib.ListN.{length, take}
+use mathlib.Core.Bool.{Bool, cond}
+use lib.ListN.{length, take, replicate}
+use Rattle.rolefile.specs.Decimal.{lastDigits, blanks}
 
 -- the bytes of a quoted text of ASCII characters
 abbrev pub ascii : String → List ℕ
 ascii string.[] = []
 ascii (string._∷_ c s) = code c ∷ ascii s
+
+-- the last five digits of a number, with blanks before them where it has fewer; 32 is the byte of a blank
+unfoldable pub lastFive : ℕ → List ℕ
+lastFive n = replicate (5 - length (lastDigits 5 n)) 32 ++ lastDigits 5 n
+
+-- the five columns of any number, or blanks for a field without use
+abbrev pub lastColumns : Bool → ℕ → List ℕ
+lastColumns used n = cond used (lastFive n) blanks
 
 -- `more` has been put into a buffer after its first `at` bytes, as far as there is room: r bytes are then in use. The rest of the buffer is not spoken of.
 pub record Puts (more : List ℕ) (at : ℕ) (before : List ℕ) (r : ℕ) (after : List ℕ) : Type 0 where

@@ -6,8 +6,8 @@ ghost use mathlib.Core.Bool.{true, cond};
 ghost use Prim.Native.Nat.{_+_, _-_, _%_, _≤_, _<_};
 ghost use lib.Dec.{ltb};
 ghost use lib.ListN.{length};
-ghost use Rattle.rolefile.specs.Decimal.{digits, columnsOf};
-ghost use Rattle.text.specs.Text.{Puts};
+ghost use Rattle.rolefile.specs.Decimal.{lastDigits, digits, columnsOf};
+ghost use Rattle.text.specs.Text.{Puts, lastColumns};
 
 // Puts bytes into `out` after its first `at` bytes, as far as there is room, and answers how many
 // are then in use.
@@ -38,10 +38,12 @@ fn digit(n: u64) -> u8
     48 + (n % 10) as u8
 }
 
-// The five columns of a number below 100,000, or blanks for a field without use.
+// The five columns of a number, or blanks for a field without use. They hold a number below 100,000
+// whole, and the last five digits of any other.
 pub fn columns(used: bool, n: u64) -> [u8; 5]
     ensures { λ r. ⌜ 5 ≡ length r ⌝ }
     ensures { λ r. ⌜ (n < 100000 → r ≡ columnsOf used n) ⌝ }
+    ensures { λ r. ⌜ r ≡ lastColumns used n ⌝ }
 {
     if !used {
         return [32; 5];
@@ -55,10 +57,10 @@ pub fn columns(used: bool, n: u64) -> [u8; 5]
     ]
 }
 
-// How many of its five columns a number below 100,000 leaves blank.
+// How many of its five columns a number leaves blank.
 fn blanks(n: u64) -> usize
     ensures { λ r. ⌜ r ≤ 4 ⌝ }
-    ensures { λ r. ⌜ (n < 100000 → r ≡ 5 - length (digits n)) ⌝ }
+    ensures { λ r. ⌜ r ≡ 5 - length (lastDigits 5 n) ⌝ }
 {
     if n < 10 {
         return 4;
@@ -75,9 +77,10 @@ fn blanks(n: u64) -> usize
     0
 }
 
-// Puts a number below 100,000 in its fewest digits, as `put` does.
+// Puts a number below 100,000 in its fewest digits, and the last five digits of any other, as `put`
+// does.
 pub fn number(out: &mut [u8], at: usize, n: u64) -> usize
-    ensures { λ r. ⌜ (length (now (out .exit)) ≡ length (now (out .entry))) × (r ≤ length (now (out .exit))) × (n < 100000 → Puts (digits n) at (now (out .entry)) r (now (out .exit))) ⌝ }
+    ensures { λ r. ⌜ (length (now (out .exit)) ≡ length (now (out .entry))) × (r ≤ length (now (out .exit))) × (n < 100000 → Puts (digits n) at (now (out .entry)) r (now (out .exit))) × Puts (lastDigits 5 n) at (now (out .entry)) r (now (out .exit)) ⌝ }
 {
     let text = columns(true, n);
     let from = blanks(n);

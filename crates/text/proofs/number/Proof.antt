@@ -1,6 +1,6 @@
 -- What is left of its columns after the blanks.
 use borrow.Author.Needs.{needs}
-use Rattle.text.proofs.Padded.{digits-left}
+use Rattle.text.proofs.Padded.{all-digits, digits-left}
 use Rattle.text.proofs.Text.{puts-as}
 use Rattle.text.proofs.number.Statement.{statement}
 use Rattle.text.proofs.number.Tie as tie
@@ -9,12 +9,10 @@ returns : tie.Need-returns
 returns c =
     let e = c .before .before .put .ensures in
     let counted = c .before .before .before .before .before .before in
-    let made = counted .before in (
-      e .size,
-      e .used,
-      λ l. puts-as (digits-left (made .before .before .args .n) (counted .blanks .result) (made .columns .result)
-          (made .columns .ensures .0) (made .columns .ensures .1 l) (counted .blanks .ensures .1 l)) e,
-    )
+    let made = counted .before in
+    let n = made .before .before .args .n in
+    let last = puts-as (digits-left n (counted .blanks .result) (made .columns .result) (made .columns .ensures .0) (made .columns .ensures .1 .1) (counted .blanks .ensures .1)) e in
+    (e .size, e .used, λ l. puts-as (all-digits n l) last, last)
 
 pub number-spec : {M : Type 1} → statement M
 number-spec =

@@ -9,7 +9,7 @@ returns : tie.Need-returns
 unfolding head
 returns c =
     let worded = c .before .before .before .before .before .before .before in
-    puts-then (worded .put .ensures) (rw (worded .before .before .columns .ensures .1 (search needs)) at (c .before .before .put2 .ensures))
+    puts-then (worded .put .ensures) (rw (worded .before .before .columns .ensures .1 .0 (search needs)) at (c .before .before .put2 .ensures))
 
 pub head-spec : {M : Type 1} → statement M
 head-spec =

@@ -7,7 +7,7 @@ use Rattle.rolecheck.proofs.line.field.Tie as tie
 returns : tie.Need-returns
 returns c =
     let made = c .before .before .before .before .before in
-    puts-as (made .columns .ensures .1 (made .before .before .pre)) (c .before .before .put .ensures)
+    puts-as (made .columns .ensures .1 .0 (made .before .before .pre)) (c .before .before .put .ensures)
 
 pub field-spec : {M : Type 1} → statement M
 field-spec = tie.close (tie.spec (λ c κs. search needs) (λ c. search needs) (λ c κs. search needs) (λ c. search needs) returns)
