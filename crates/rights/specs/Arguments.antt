@@ -1,4 +1,4 @@
--- What the program is asked: a user by a decimal number of one to five digits, the picture by the word "dot". Assumes nothing.
+-- What the program is asked: a user by a decimal number of one to five digits, the picture by the word `dot`. Assumes nothing.
 use Prim.Native.Nat.{ℕ, zero, suc, _+_, _-_, _*_}
 use mathlib.Core.List.{List}
 use mathlib.Core.Bool.{Bool, _&&_, cond}
@@ -23,6 +23,6 @@ numeral t = cond (leb (length t) 5 && every (length t) (λ k. isDigit (getD t (k
 unfoldable pub userAsked : List ℕ → List ℕ → ℕ
 userAsked xs t = cond (leb (numeral t) (counted xs 4)) (numeral t) 0
 
--- the text is "dot"
+-- the text is `dot`
 unfoldable pub isDot : List ℕ → Bool
 isDot t = eqb (length t) 3 && (eqb (getD t 0 0) 100 && (eqb (getD t 1 0) 111 && eqb (getD t 2 0) 116))
