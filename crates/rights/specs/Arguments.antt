@@ -5,10 +5,8 @@ use mathlib.Core.Bool.{Bool, _&&_, cond}
 use lib.Dec.{leb, eqb}
 use lib.ListN.{length, getD}
 use Rattle.search.specs.Search.{every}
+use Rattle.rolefile.specs.Field.{isDigit}
 use Rattle.monitor.specs.Review.{counted}
-
-abbrev pub isDigit : ℕ → Bool
-isDigit b = leb 48 b && leb b 57
 
 -- what the first k digits come to
 unfoldable pub valueOf : ℕ → List ℕ → ℕ
