@@ -28,10 +28,12 @@
  *       user, or 2 and the lowest such card]
  *
  * The security officer, by what the file says (load; place in brackets):
- *   11  labels dominate in a circle [lowest label on one, 0]
+ *   11  labels dominate in a circle, a line D a a included [lowest label on
+ *       one, 0]
  *   12  two labels without least upper bound [lower and higher label of the
  *       first such pair by its lower, then by its higher label]
- *   13  roles are senior to each other in a circle [lowest role on one, 0]
+ *   13  roles are senior to each other in a circle, a line S r r included
+ *       [lowest role on one, 0]
  *   14  assigned role with undefined w-level [user, role]
  *   15  clearance does not dominate the r-level [user, role]
  *   16  w-level does not dominate the clearance [user, role]

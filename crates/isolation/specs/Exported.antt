@@ -1,4 +1,5 @@
--- Runs of the exported functions themselves: each call by what its function's contract cites, the read by its number call and the bytes of its part. `exported` under proofs/ carries demand 3 over to them. Assumes nothing.
+-- Runs of the exported functions themselves: each call by what its function's contract cites, the read by its number call and the bytes of its part. `exported`
+-- under proofs/ carries demand 3 over to them. Assumes nothing.
 use Prim.Native.Nat.{ℕ}
 use mathlib.Core.Path.{_≡_}
 use mathlib.Core.List.{List, [], _∷_}

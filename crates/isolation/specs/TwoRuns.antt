@@ -1,4 +1,4 @@
--- Demand 3, in the order and words of "Two runs side by side". Assumes nothing.
+-- Demand 3, in the order and words of "Two runs side by side": shared calls, struck calls and cards under L are document 01's terms. Assumes nothing.
 use Prim.Native.Nat.{ℕ, _+_, _*_, _-_, _≤_, _<_}
 use mathlib.Core.Path.{_≡_}
 use mathlib.Core.List.{List, [], _∷_}

@@ -69,7 +69,7 @@ pub record Closes (xs : List ℕ) (p r : ℕ) (ys : List ℕ) : Type 0 where
   pub number : r ≡ closeNumber xs p
   pub state : ys ≡ closeState xs p
 
--- ---- take and drop a role: "Taking a role already held, or dropping one not held, is done and changes nothing"
+-- ---- take and drop a role, as document 01 has it (the field: activate and deactivate): "Taking a role already held, or dropping one not held, is done and changes nothing"
 
 unfoldable pub takeNumber : List ℕ → ℕ → ℕ → ℕ
 takeNumber xs p r =
@@ -172,7 +172,7 @@ flowsNumber xs q r =
 unfoldable pub circleNumber : List ℕ → ℕ
 circleNumber xs = unless (sound xs) 21 0
 
--- "figure is 0 on a refusal"
+-- the figure is 0 on a refusal
 pub record Flows (xs : List ℕ) (q r n figure : ℕ) : Type 0 where
   pub number : n ≡ flowsNumber xs q r
   pub answer : figure ≡ ifDone (flowsNumber xs q r) (cond (flowing xs (tables.cardsUpTo xs) q r) 1 0) 0

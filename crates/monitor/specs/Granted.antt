@@ -29,8 +29,8 @@ abbrev pub NoneEnds : ℕ → (ℕ → Bool) → List Call → Type 0
 NoneEnds p set [] = Unit {0}
 NoneEnds p set (c ∷ cs) = (ends p set c ≡ false) × NoneEnds p set cs
 
--- among the calls cs, which found the sessions t, is this one, it was done, and none after it ends what it began. Openings and takings are lent no store, hence the 0; that such a
--- call is done is `rule-iff` again, of the calls before it
+-- cs, which found the sessions t, has this call, it was done, and no later call of cs ends what it began. (The number of an opening or a taking does not depend on the store,
+-- hence size 0.)
 pub record Since (f : List ℕ) (t : Sessions) (p : ℕ) (set : ℕ → Bool) (call : Call) (cs : List Call) : Type 0 where
   pub earlier : List Call
   pub later : List Call

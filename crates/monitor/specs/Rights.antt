@@ -35,15 +35,18 @@ tableOf m = cond (eqb m 1) readersAt writersAt
 unfoldable pub serves : List ℕ → ℕ → ℕ → ℕ → ℕ → ℕ → Bool
 serves xs u l o at r = entitled xs u r && (fitting xs l r && member xs (rowOf at o) r)
 
+-- a role of the state serves so: the user may take it at the label, and it gives the card
 unfoldable pub could : List ℕ → ℕ → ℕ → ℕ → ℕ → Bool
 could xs u l o at = some (rolesIn xs) (serves xs u l o at)
 
+-- the answer of `monitor_can`: its number, and the figure 1 where the user could, else 0; 0 on a refusal
 pub record Cans (xs : List ℕ) (u l o m n figure : ℕ) : Type 0 where
   pub number : n ≡ canNumber xs u l o m
   pub answer : figure ≡ ifDone (canNumber xs u l o m) (cond (could xs u l o (tableOf m)) 1 0) 0
 
 -- ---- by the file
 
+-- the number of `monitor_can` on a state that a load of f and any calls left
 unfoldable pub canRule : List ℕ → ℕ → ℕ → ℕ → ℕ → ℕ
 canRule f u l o m =
     unless (among (users f) u) 25
@@ -53,6 +56,7 @@ canRule f u l o m =
     (unless (dominates f (clearance f u) l) 26
     0))))
 
+-- a role that the user may take at the label may read (m = 1) or write (m = 2) the card
 unfoldable pub mayCome : List ℕ → ℕ → ℕ → ℕ → ℕ → Bool
 mayCome f u l o m = some (roles f) (λ r. belongs f u r && (suits f l r && may f m r o))
 

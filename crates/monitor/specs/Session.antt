@@ -26,7 +26,7 @@ cardsIn xs = word xs 6
 unfoldable pub sound : List ℕ → Bool
 sound xs = isState xs && (among 32 (labelsIn xs) && (leb (rolesIn xs) 128 && (leb (usersIn xs) 256 && leb (cardsIn xs) 512)))
 
--- ---- places: 20 bytes each: 1 where in use, the user less 1, the label, 0, and the row of held roles
+-- ---- places, document 01's word for the 64 numbered entries that hold a session each: 20 bytes, 1 where in use, the user less 1, the label, 0, and the row of held roles
 
 abbrev pub placeAt : ℕ → ℕ
 placeAt p = 61456 + 20 * (p - 1)

@@ -61,10 +61,11 @@ pub record IsLub (n : ℕ) (ge : Relation) (s : ℕ → Bool) (c : ℕ) : Type 0
   pub over : Upper n ge s c
   pub least : (d : ℕ) → Among n d → Upper n ge s d → ge d c ≡ true
 
--- c is under each of s, and over whatever else is
+-- c is under each of s
 abbrev pub Lower : ℕ → Relation → (ℕ → Bool) → ℕ → Type 0
 Lower n ge s c = Upper n (turned ge) s c
 
+-- c is under each of s, and over whatever else is
 abbrev pub IsGlb : ℕ → Relation → (ℕ → Bool) → ℕ → Type 0
 IsGlb n ge s c = IsLub n (turned ge) s c
 

@@ -7,7 +7,7 @@ ghost use mathlib.Core.Bool.{true, false, _&&_};
 ghost use Prim.Native.Nat.{ℕ, _+_, _≤_, _<_, min};
 ghost use lib.Dec.{leb};
 ghost use Rattle.search.specs.Search.{Among, among, every, implies};
-ghost use Rattle.order.specs.Bound.{upper, least, lub, glb, turned, lonely, FirstApart};
+ghost use Rattle.order.specs.Bound.{upper, least, glb, turned, lonely, FirstApart};
 ghost use Rattle.order.specs.Table.{marks, mark};
 
 // The set of the first n things.
@@ -134,14 +134,6 @@ pub fn turned(t: [[bool; 32]; 32]) -> [[bool; 32]; 32]
         j += 1;
     }
     r
-}
-
-// The least upper bound of the set among the first n things, or 0.
-pub fn least_upper(t: [[bool; 32]; 32], n: usize, s: [bool; 32]) -> usize
-    ensures { λ r. ⌜ r ≡ lub (min n 32) (mark t) (marks s) ⌝ }
-{
-    let up = turned(t);
-    greatest_lower(&up, n, s)
 }
 
 // The greatest of what s and the row of thing j + 1 have in common, or 0.

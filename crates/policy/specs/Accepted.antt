@@ -37,6 +37,7 @@ ReadsUnder f u r = Passing (labels f) (dominates f) (mayAt f 1 r) (λ c. dominat
 abbrev pub WritesOver : List ℕ → ℕ → ℕ → Type 0
 WritesOver f u r = Passing (labels f) (turned (dominates f)) (mayAt f 2 r) (λ c. dominates f c (clearance f u))
 
+-- 14: an undefined w-level: there are writes and no greatest lower bound
 abbrev pub NoWriteLevel : List ℕ → ℕ → Type 0
 NoWriteLevel f r = Boundless (labels f) (turned (dominates f)) (mayAt f 2 r)
 

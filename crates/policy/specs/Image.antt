@@ -38,10 +38,12 @@ pub record Permitting (f ys : List ℕ) : Type 0 where
   pub readers : (o r : ℕ) → Among 512 o → Among 128 r → member ys (rowOf readersAt o) r ≡ may f 1 r o
   pub writers : (o r : ℕ) → Among 512 o → Among 128 r → member ys (rowOf writersAt o) r ≡ may f 2 r o
 
+-- a role's two bytes are its r-level and its w-level, as `shown`
 pub record Levelled (f ys : List ℕ) : Type 0 where
   pub reads : (r : ℕ) → Among 128 r → byteOf ys rLevelsAt r ≡ shown (rLevel f r)
   pub writes : (r : ℕ) → Among 128 r → byteOf ys wLevelsAt r ≡ shown (wLevel f r)
 
+-- the row of a user holds the roles that the user is assigned to
 abbrev pub Assigning : List ℕ → List ℕ → Type 0
 Assigning f ys = (u r : ℕ) → Among 256 u → Among 128 r → member ys (rowOf assignedAt u) r ≡ assigned f u r
 

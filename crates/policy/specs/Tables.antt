@@ -95,7 +95,7 @@ gathered xs at n l r = some n (λ o. eqb (byteOf xs cardLabelsAt o) l && member 
 
 -- ---- records of what the functions over the tables leave
 
--- a table of role sets with a line's pair more: row x holds r where a line says so
+-- a table of role sets: each row x holds what it held, and the roles r of which `said x r`
 pub record Related (at size : ℕ) (said : Relation) (xs ys : List ℕ) : Type 0 where
   pub rows : (x r : ℕ) → Among size x → Among 128 r → member ys (rowOf at x) r ≡ (member xs (rowOf at x) r || said x r)
   pub rest : Kept at (at + 16 * size) xs ys

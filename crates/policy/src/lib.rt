@@ -1,4 +1,4 @@
-// What a role file's policy comes to: levels, the numbers 11 to 16, and role flow.
+// What a role file's policy comes to: levels, the numbers 6 and 11 to 16, and role flow.
 //
 // `load` checks a file and keeps its policy in a lent state; `flow` answers reports of a loaded one.
 mod assign;
@@ -13,7 +13,8 @@ use rolefile::Verdict;
 use rolefile::check;
 ghost use Rattle.policy.specs.Image.{Loaded};
 
-// The level of a role for reading or for writing.
+// The level of a role for reading or for writing. Free is document 01's word: with nothing to read,
+// or to write, the level is no limit.
 pub enum Level {
     Free,
     Label(u64),

@@ -1,14 +1,12 @@
--- What the program is asked: a user by a decimal number of one to five digits, the picture by the word "dot". Assumes nothing.
+-- What the program is asked: a user by a decimal number of one to five digits, the picture by the word `dot`. Assumes nothing.
 use Prim.Native.Nat.{ℕ, zero, suc, _+_, _-_, _*_}
 use mathlib.Core.List.{List}
 use mathlib.Core.Bool.{Bool, _&&_, cond}
 use lib.Dec.{leb, eqb}
 use lib.ListN.{length, getD}
 use Rattle.search.specs.Search.{every}
+use Rattle.rolefile.specs.Field.{isDigit}
 use Rattle.monitor.specs.Review.{counted}
-
-abbrev pub isDigit : ℕ → Bool
-isDigit b = leb 48 b && leb b 57
 
 -- what the first k digits come to
 unfoldable pub valueOf : ℕ → List ℕ → ℕ
@@ -23,6 +21,6 @@ numeral t = cond (leb (length t) 5 && every (length t) (λ k. isDigit (getD t (k
 unfoldable pub userAsked : List ℕ → List ℕ → ℕ
 userAsked xs t = cond (leb (numeral t) (counted xs 4)) (numeral t) 0
 
--- the text is "dot"
+-- the text is `dot`
 unfoldable pub isDot : List ℕ → Bool
 isDot t = eqb (length t) 3 && (eqb (getD t 0 0) 100 && (eqb (getD t 1 0) 111 && eqb (getD t 2 0) 116))

@@ -4,13 +4,14 @@ ghost use mathlib.Core.Bool.{cond};
 ghost use Prim.Native.Nat.{_<_, _≤_};
 ghost use lib.ListN.{length};
 ghost use Rattle.text.specs.Text.{ascii};
+ghost use Rattle.rolefile.specs.Field.{isDigit};
 ghost use Rattle.monitor.specs.Review.{counted};
 ghost use Rattle.search.specs.Search.{among};
 ghost use Rattle.rights.specs.Arguments as arguments;
 
 // Whether the byte is a digit.
 fn is_digit(b: u8) -> bool
-    ensures { λ r. ⌜ r ≡ arguments.isDigit b ⌝ }
+    ensures { λ r. ⌜ r ≡ isDigit b ⌝ }
 {
     (48 <= b) & (b <= 57)
 }

@@ -46,6 +46,7 @@ fits used Blank = not used
 fits used (Number n) = used
 fits used Bad = false
 
+-- the number in a field, 0 where it has none
 abbrev pub value : Field → ℕ
 value Blank = 0
 value (Number n) = n
@@ -55,6 +56,7 @@ value Bad = 0
 unfoldable pub taken : Bool → Field → Field
 taken used f = cond (fits used f) (Number (value f)) Bad
 
+-- the line is not malformed: it has a letter, byte 10 at its end, numbers in the fields that its letter uses and blanks in the others
 unfoldable pub formed : ℕ → ℕ → Field → Field → Field → Field → Bool
 formed k end p q r s = leb 1 k && (eqb end 10 && (fits true p && (fits true q && (fits (leb 3 (fields k)) r && fits (leb 4 (fields k)) s))))
 

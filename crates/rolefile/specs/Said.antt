@@ -17,6 +17,7 @@ roles f = header f .b
 abbrev pub users : List ℕ → ℕ
 users f = header f .c
 
+-- a card, as document 01 has it, is 64 bytes with a label (the field: object)
 abbrev pub cards : List ℕ → ℕ
 cards f = header f .d
 

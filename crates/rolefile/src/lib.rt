@@ -1,4 +1,4 @@
-// The form of a role file: fields, lines, and the numbers 1 to 6.
+// The form of a role file: fields, lines, and the numbers 1 to 5.
 pub mod check;
 pub mod read;
 pub mod reader;
@@ -20,7 +20,8 @@ pub struct Line {
     pub d: u64,
 }
 
-// A number of document 01's list and its place; 0, 0, 0 where there is nothing to refuse.
+// A number of document 01's list and its place, which is document 01's word for the two numbers that
+// say where the file is refused; 0, 0, 0 where there is nothing to refuse.
 pub struct Verdict {
     pub number: u64,
     pub first: u64,

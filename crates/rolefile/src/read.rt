@@ -244,8 +244,8 @@ pub fn line(f: &[u8], k: usize) -> Line
     line_from(f, 22 * i)
 }
 
-// The text of line k of the file, counted from 1, without byte 10; the empty part at the file's start
-// where the file has no such line.
+// The text of line k of the file, counted from 1, without byte 10; empty where the
+// file has no such line.
 pub fn text(f: &[u8], k: usize) -> &[u8]
     ensures { λ t. ⌜ now t ≡ textAt (now (f .entry)) k ⌝ }
 {

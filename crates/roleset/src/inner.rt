@@ -56,17 +56,6 @@ pub fn remove(s: &mut [u8], at: usize, role: usize)
     s[i] = s[i] ^ (1 << ((role - 1) % 8));
 }
 
-pub fn clear(s: &mut [u8], at: usize)
-    requires { ⌜ at + 16 ≤ length (now s) ⌝ }
-    ensures { λ _. ⌜ Placed at (λ r. false) (now (s .entry)) (now (s .exit)) ⌝ }
-{
-    let mut i = 0;
-    while i < 16 {
-        s[at + i] = 0;
-        i += 1;
-    }
-}
-
 pub fn row(s: &[u8], at: usize) -> [u8; 16]
     requires { ⌜ at + 16 ≤ length (now s) ⌝ }
     ensures { λ row. ⌜ ((r : ℕ) → member row 0 r ≡ member (now (s .entry)) at r) ⌝ }

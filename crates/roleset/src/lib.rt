@@ -45,15 +45,6 @@ pub fn remove(s: &mut [u8], at: usize, role: usize)
     }
 }
 
-// Empties the row at `at`.
-pub fn clear(s: &mut [u8], at: usize)
-    ensures { λ _. ⌜ Placed at (λ r. false) (now (s .entry)) (now (s .exit)) ⌝ }
-{
-    if inner::lies(s.len(), at) {
-        inner::clear(s, at);
-    }
-}
-
 // The row at `at`, by value.
 pub fn row(s: &[u8], at: usize) -> [u8; 16]
     ensures { λ row. ⌜ ((r : ℕ) → member row 0 r ≡ (whole (now (s .entry)) at && member (now (s .entry)) at r)) ⌝ }

@@ -1,9 +1,9 @@
--- Searches among the things 1 to n ("Things are numbered from 1"), each by the last thing last, as a loop that counts up goes.
+-- Searches among the things 1 to n ("Things are numbered from 1").
 --     among n a     a is one of them
 --     some n p      p holds of one of them
 --     every n p     p holds of each of them
 --     first n p     the lowest of which p holds, or 0
--- `Among` and `Lowest` say the first and the last as properties. Assumes nothing.
+-- `Among` and `Lowest` say `among` and `first` as properties. Assumes nothing.
 use Prim.Native.Nat.{ℕ, zero, suc, _≤_, _<_}
 use mathlib.Core.Path.{_≡_}
 use mathlib.Core.Bool.{Bool, true, false, not, _&&_, _||_, cond}

@@ -12,7 +12,8 @@ use lib.ListN.{length, getD}
 use Rattle.search.specs.Search.{every}
 use Rattle.search.proofs.Truth.{and-iff, passed, failed}
 use Rattle.search.proofs.Found.{every-yet, every-more, every-fails}
-use Rattle.rights.specs.Arguments.{isDigit, valueOf, numeral}
+use Rattle.rolefile.specs.Field.{isDigit}
+use Rattle.rights.specs.Arguments.{valueOf, numeral}
 use Rattle.rights.proofs.arguments.numeral.Statement.{statement}
 use Rattle.rights.proofs.arguments.numeral.Tie as tie
 
