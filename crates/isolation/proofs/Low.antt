@@ -19,7 +19,7 @@ use Rattle.policy.specs.Tables.{writersAt}
 use Rattle.policy.specs.Accepted.{Accepted}
 use Rattle.monitor.specs.Calls.{ifDone, written, partAt, writeNumber}
 use Rattle.monitor.specs.Runs.{Call, opens, closes, takes, drops, reads, writes, Memory, number, storeAfter}
-use Rattle.monitor.specs.Rules.{Session, Sessions, isFree, seated, suits, uses, openRule, closeRule, takeRule, dropRule, partRule, rule, put, newcomer, holding, without, next}
+use Rattle.monitor.specs.Rules.{Session, Sessions, isFree, seated, suits, uses, openRule, closeRule, takeRule, dropRule, partRule, rule, put, sessionOf, holding, without, next}
 use Rattle.monitor.proofs.Answers.{part-fits}
 use Rattle.monitor.proofs.Frames.{written-in, written-out}
 use Rattle.monitor.proofs.Orderly.{Admitted, Orderly, part-done}
@@ -64,7 +64,7 @@ module _ (f : List ℕ) (L : ℕ) (t : Open) (s₁ s₂ : Sessions) (fits₁ : F
   unfolding shared track next ifDone rule
   here known (opens p u l) h k = rw (same-number 0 (opens p u l) refl) (by (openRule f s₂ p u l) refl)
     where
-      by : (n : ℕ) → openRule f s₂ p u l ≡ n → ifDone n (put s₁ p (some (newcomer u l))) s₁ p ≡ ifDone n (put s₂ p (some (newcomer u l))) s₂ p
+      by : (n : ℕ) → openRule f s₂ p u l ≡ n → ifDone n (put s₁ p (some (sessionOf u l))) s₁ p ≡ ifDone n (put s₂ p (some (sessionOf u l))) s₂ p
       by zero e = put-at s₁ p _ p refl ∙ sym (put-at s₂ p _ p refl)
       by (suc n) e =
           let z = same-number 0 (opens p u l) refl in

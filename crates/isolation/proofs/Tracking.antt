@@ -14,7 +14,7 @@ use Rattle.rolefile.specs.Said.{labels, users, clearance}
 use Rattle.policy.specs.Policy.{dominates}
 use Rattle.monitor.specs.Calls.{unless, ifDone}
 use Rattle.monitor.specs.Runs.{Call, opens, closes, takes, drops, reads, writes}
-use Rattle.monitor.specs.Rules.{Session, Sessions, nobody, isFree, openRule, closeRule, takeRule, dropRule, put, newcomer, holding, without, next}
+use Rattle.monitor.specs.Rules.{Session, Sessions, nobody, isFree, openRule, closeRule, takeRule, dropRule, put, sessionOf, holding, without, next}
 use Rattle.monitor.proofs.Orderly.{Orderly, opening, either-way}
 use Rattle.monitor.proofs.History.{put-other, close-done}
 use Rattle.isolation.specs.TwoRuns.{Open, noneOpen, isClosed, grants, mark, track}
@@ -45,7 +45,7 @@ placeOf (writes p o k bytes) = p
 
 pub next-other : (f : List ℕ) (s : Sessions) (c : Call) (q : ℕ) → (placeOf c ≡ q → ⊥) → next f s c q ≡ s q
 unfolding next
-next-other f s (opens p u l) q n = either-way (λ x. x q ≡ s q) (openRule f s p u l) (put s p (some (newcomer u l))) s (λ z. put-other s p (some (newcomer u l)) q n) refl
+next-other f s (opens p u l) q n = either-way (λ x. x q ≡ s q) (openRule f s p u l) (put s p (some (sessionOf u l))) s (λ z. put-other s p (some (sessionOf u l)) q n) refl
 next-other f s (closes p) q n = either-way (λ x. x q ≡ s q) (closeRule s p) (put s p none) s (λ z. put-other s p none q n) refl
 next-other f s (takes p r) q n =
     either-way (λ x. x q ≡ s q) (takeRule f s p r) (put s p (Option·map (holding r) (s p))) s (λ z. put-other s p (Option·map (holding r) (s p)) q n) refl
@@ -121,8 +121,8 @@ module _ (f : List ℕ) (t : Open) (s : Sessions) (known : Orderly f s) (fits : 
   unfolding track next ifDone
   fits-track (opens p u l) = by (openRule f s p u l) refl
     where
-      by : (n : ℕ) → openRule f s p u l ≡ n → Fits (cond (grants f t p u l) (mark t p (some l)) t) (ifDone n (put s p (some (newcomer u l))) s)
-      by zero e = rw (grants-iff p u l .1 e) (put-fits p (some (newcomer u l)))
+      by : (n : ℕ) → openRule f s p u l ≡ n → Fits (cond (grants f t p u l) (mark t p (some l)) t) (ifDone n (put s p (some (sessionOf u l))) s)
+      by zero e = rw (grants-iff p u l .1 e) (put-fits p (some (sessionOf u l)))
       by (suc n) e = rw (untrue (grants f t p u l) (λ g. let z = grants-iff p u l .0 g in omega arith)) fits
   fits-track (closes p) = by (closeRule s p) refl
     where

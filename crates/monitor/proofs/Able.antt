@@ -25,8 +25,8 @@ use Rattle.policy.proofs.Meaning.{counts-known}
 use Rattle.monitor.specs.Session.{labelsIn, usersIn, cardsIn, cleared, entitled, fitting}
 use Rattle.monitor.specs.Calls.{unless, ifDone}
 use Rattle.monitor.specs.Runs.{Call, opens, takes, Memory, after, run}
-use Rattle.monitor.specs.Rules.{Session, Sessions, nobody, belongs, suits, uses, openRule, takeRule, partRule, rule, newcomer, holding, next, sessions}
-use Rattle.monitor.specs.Rights.{canNumber, tableOf, serves, could, Cans, canRule, mayCome, useOf, Granting}
+use Rattle.monitor.specs.Rules.{Session, Sessions, nobody, belongs, suits, uses, openRule, takeRule, partRule, rule, sessionOf, holding, next, sessions}
+use Rattle.monitor.specs.Rights.{canNumber, tableOf, serves, could, Cans, canRule, couldByFile, useOf, Granting}
 use Rattle.monitor.proofs.Answers.{unless-done}
 use Rattle.monitor.proofs.Orderly.{Orderly, opening, taking, part-done}
 use Rattle.monitor.proofs.Stands.{Stands}
@@ -55,8 +55,8 @@ module _ (f : List ℕ) (form : WellFormed f) (t : Sessions) (known : Orderly f 
   table-says (suc (suc zero)) w o r i j = stands .tables .permitting .writers o r i j
   table-says (suc (suc (suc m))) w o r i j = absurd (omega arith)
 
-  pub could-by : (u l o m : ℕ) → Among (users f) u → Among (labels f) l → Among (cards f) o → Among 2 m → could xs u l o (tableOf m) ≡ mayCome f u l o m
-  unfolding could mayCome serves
+  pub could-by : (u l o m : ℕ) → Among (users f) u → Among (labels f) l → Among (cards f) o → Among 2 m → could xs u l o (tableOf m) ≡ couldByFile f u l o m
+  unfolding could couldByFile serves
   could-by u l o m user label card mode =
       rw (stands .tables .counted .roles)
       (some-agree (λ r. entitled xs u r && (fitting xs l r && member xs (rowOf (tableOf m) o) r)) (λ r. belongs f u r && (suits f l r && may f m r o)) (roles f)
@@ -111,11 +111,11 @@ module _ (f : List ℕ) (size p u l : ℕ) (place : Among 64 p) (enough : 64 * c
 
   -- who sits at the place after the opening, and after the taking
   module _ (opened : openRule f nobody p u l ≡ 0) where
-    sits-one : one p ≡ some (newcomer u l)
+    sits-one : one p ≡ some (sessionOf u l)
     unfolding next ifDone
-    sits-one = rw opened (put-at nobody p (some (newcomer u l)) p refl)
+    sits-one = rw opened (put-at nobody p (some (sessionOf u l)) p refl)
 
-    sits-two : (r : ℕ) → takeRule f one p r ≡ 0 → two r p ≡ some (holding r (newcomer u l))
+    sits-two : (r : ℕ) → takeRule f one p r ≡ 0 → two r p ≡ some (holding r (sessionOf u l))
     unfolding next ifDone
     sits-two r taken = rw taken (put-at one p _ p refl ∙ rw sits-one)
 
@@ -127,18 +127,18 @@ module _ (f : List ℕ) (size p u l : ℕ) (place : Among 64 p) (enough : 64 * c
   use-rule (suc (suc zero)) o t w = refl
   use-rule (suc (suc (suc m))) o t w = absurd (omega arith)
 
-  holds-one : (m o r : ℕ) → uses f m (holding r (newcomer u l)) o ≡ true → may f m r o ≡ true
+  holds-one : (m o r : ℕ) → uses f m (holding r (sessionOf u l)) o ≡ true → may f m r o ≡ true
   unfolding uses
   holds-one m o r h =
-      let (q, w, e) = some-iff (λ q. holding r (newcomer u l) .held q && may f m q o) (roles f) .0 h in
-      let (held, gives) = and-iff (holding r (newcomer u l) .held q) (may f m q o) .0 e in
+      let (q, w, e) = some-iff (λ q. holding r (sessionOf u l) .held q && may f m q o) (roles f) .0 h in
+      let (held, gives) = and-iff (holding r (sessionOf u l) .held q) (may f m q o) .0 e in
       ⊎-elim (λ x. absurd (false≢true x)) (λ x. rw (eqb-true q r x) at gives) (or-iff false (eqb q r) .0 held)
 
-  holds-use : (m o r : ℕ) → Among (roles f) r → may f m r o ≡ true → uses f m (holding r (newcomer u l)) o ≡ true
+  holds-use : (m o r : ℕ) → Among (roles f) r → may f m r o ≡ true → uses f m (holding r (sessionOf u l)) o ≡ true
   unfolding uses
   holds-use m o r w h =
-      some-iff (λ q. holding r (newcomer u l) .held q && may f m q o) (roles f) .1
-      (r, w, and-iff (holding r (newcomer u l) .held r) (may f m r o) .1 (or-iff false (eqb r r) .1 (inr (eq-eqb r r refl)), h))
+      some-iff (λ q. holding r (sessionOf u l) .held q && may f m q o) (roles f) .1
+      (r, w, and-iff (holding r (sessionOf u l) .held r) (may f m r o) .1 (or-iff false (eqb r r) .1 (inr (eq-eqb r r refl)), h))
 
   -- the three calls let through, by the rules
   pub record Let (o m r : ℕ) : Type 0 where
@@ -146,8 +146,8 @@ module _ (f : List ℕ) (size p u l : ℕ) (place : Among 64 p) (enough : 64 * c
     pub taken : takeRule f one p r ≡ 0
     pub used : partRule f m (two r) size p o 0 0 ≡ 0
 
-  come : (o m : ℕ) → Able f u l o m → mayCome f u l o m ≡ true → (r : ℕ) × Let o m r
-  unfolding mayCome openRule takeRule partRule unless
+  come : (o m : ℕ) → Able f u l o m → couldByFile f u l o m ≡ true → (r : ℕ) × Let o m r
+  unfolding couldByFile openRule takeRule partRule unless
   come o m a h =
       let (r, w, e) = some-iff (λ r. belongs f u r && (suits f l r && may f m r o)) (roles f) .0 h in
       let (b, x) = and-iff (belongs f u r) (suits f l r && may f m r o) .0 e in
@@ -162,15 +162,15 @@ module _ (f : List ℕ) (size p u l : ℕ) (place : Among 64 p) (enough : 64 * c
         },
       )
 
-  came : (o m r : ℕ) → Among 2 m → Let o m r → Able f u l o m × (mayCome f u l o m ≡ true)
-  unfolding mayCome takeRule
+  came : (o m r : ℕ) → Among 2 m → Let o m r → Able f u l o m × (couldByFile f u l o m ≡ true)
+  unfolding couldByFile takeRule
   came o m r mode x =
       let op = opening f nobody p u l (x .opened) in
-      let (w, b, s) = taking f r (newcomer u l) (unless-done (among 64 p) 22 _ (omega arith) (rw (sits-one (x .opened)) at (x .taken)) .1) in
+      let (w, b, s) = taking f r (sessionOf u l) (unless-done (among 64 p) 22 _ (omega arith) (rw (sits-one (x .opened)) at (x .taken)) .1) in
       let part = part-done f m (two r) size p o 0 0 (x .used) in
-      let who : part .session ≡ holding r (newcomer u l) =
-      Option·some-injective (part .session) (holding r (newcomer u l)) (sym (part .sits) ∙ sits-two (x .opened) r (x .taken)) in
-      let same : uses f m (holding r (newcomer u l)) o ≡ true = ap (λ (s : Session). uses f m s o) (sym who) ∙ part .used in (
+      let who : part .session ≡ holding r (sessionOf u l) =
+      Option·some-injective (part .session) (holding r (sessionOf u l)) (sym (part .sits) ∙ sits-two (x .opened) r (x .taken)) in
+      let same : uses f m (holding r (sessionOf u l)) o ≡ true = ap (λ (s : Session). uses f m s o) (sym who) ∙ part .used in (
         record { user = op .user; label = op .label; card = part .card; mode = mode; cleared = op .cleared },
         some-iff (λ r. belongs f u r && (suits f l r && may f m r o)) (roles f) .1
             (r, w, and-iff (belongs f u r) (suits f l r && may f m r o) .1 (b, and-iff (suits f l r) (may f m r o) .1 (s, holds-one m o r same))),
@@ -211,7 +211,7 @@ module _ (f : List ℕ) (accepted : Accepted f) (xs ys : List ℕ) (v : Verdict)
         λ x. record { opened = sym a ∙ x .opened; taken = sym b ∙ x .taken; used = sym c ∙ x .used },
       )
 
-  same : Able f u l o m → could ys u l o (tableOf m) ≡ mayCome f u l o m
+  same : Able f u l o m → could ys u l o (tableOf m) ≡ couldByFile f u l o m
   same a = could-by f form nobody (runs .known) ys (runs .stands) u l o m (a .user) (a .label) (a .card) (a .mode)
 
   pub can-iff : (n figure : ℕ) → Cans ys u l o m n figure → (figure ≡ 1) ↔ ((r : ℕ) × Granting start p u l o m r)
@@ -233,7 +233,7 @@ module _ (f : List ℕ) (accepted : Accepted f) (xs ys : List ℕ) (v : Verdict)
   abbrev end : List ℕ
   end = run (record { state = ys; store = store }) cs .state
 
-  pub can-file : (u l o m n figure : ℕ) → Cans end u l o m n figure → (n ≡ canRule f u l o m) × (figure ≡ ifDone n (cond (mayCome f u l o m) 1 0) 0)
+  pub can-file : (u l o m n figure : ℕ) → Cans end u l o m n figure → (n ≡ canRule f u l o m) × (figure ≡ ifDone n (cond (couldByFile f u l o m) 1 0) 0)
   unfolding ifDone
   can-file u l o m n figure h =
       let e = h .number ∙ number-by f good t (ran .known) end (ran .stands) u l o m in
@@ -248,7 +248,7 @@ module _ (f : List ℕ) (accepted : Accepted f) (xs ys : List ℕ) (v : Verdict)
       ran : Runs f (sessions f nobody cs) (length store) (run (record { state = ys; store = store }) cs)
       ran = left-runs f accepted xs ys v long load store cs
 
-      by : (n : ℕ) → n ≡ canRule f u l o m → _≡_ {A = ℕ} (ifDone n (cond (could end u l o (tableOf m)) 1 0) 0) (ifDone n (cond (mayCome f u l o m) 1 0) 0)
+      by : (n : ℕ) → n ≡ canRule f u l o m → _≡_ {A = ℕ} (ifDone n (cond (could end u l o (tableOf m)) 1 0) 0) (ifDone n (cond (couldByFile f u l o m) 1 0) 0)
       by zero e =
           let a = can-done f u l o m (sym e) in
           ap (λ (b : Bool). cond {A = ℕ} b 1 0) (could-by f good t (ran .known) end (ran .stands) u l o m (a .user) (a .label) (a .card) (a .mode))

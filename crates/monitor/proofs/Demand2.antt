@@ -22,7 +22,7 @@ use Rattle.policy.proofs.Meaning.{counts-known, flow-file, circle-file}
 use Rattle.monitor.specs.Calls.{unless, ifDone, written, partAt, opened, closed, taken, dropped, writeNumber}
 use Rattle.monitor.specs.Calls.{flowsNumber, circleNumber, Flows, Circles}
 use Rattle.monitor.specs.Runs.{Call, opens, closes, takes, drops, reads, writes, Memory, number, stateAfter, storeAfter, after, run}
-use Rattle.monitor.specs.Rules.{Session, Sessions, nobody, seated, belongs, suits, openRule, closeRule, takeRule, dropRule, partRule, rule, put, newcomer, holding, without, next, sessions}
+use Rattle.monitor.specs.Rules.{Session, Sessions, nobody, seated, belongs, suits, openRule, closeRule, takeRule, dropRule, partRule, rule, put, sessionOf, holding, without, next, sessions}
 use Rattle.monitor.proofs.Answers.{part-fits, unless-done}
 use Rattle.monitor.proofs.Frames.{length-written}
 use Rattle.monitor.proofs.Orderly.{Orderly, nobody-orderly, opening, seated-done, taking, either-way, orderly-next, dropping}
@@ -75,11 +75,11 @@ module _ (f : List ℕ) (form : WellFormed f) (t : Sessions) (known : Orderly f 
   unfolding stateAfter next closeRule takeRule dropRule
   stands-after (opens p u l) =
       rw (open-file f form t known xs stands p u l)
-      (both-ways (Stands f) (openRule f t p u l) (put t p (some (newcomer u l))) t (opened xs p u l) xs
+      (both-ways (Stands f) (openRule f t p u l) (put t p (some (sessionOf u l))) t (opened xs p u l) xs
       (λ h.
       let o = opening f t p u l h in
       stands-put f t xs (opened xs p u l) p stands (o .place) (opened-touched xs p (stands .long) (o .place) u l)
-      (some (newcomer u l)) (opened-seat xs p (stands .long) (o .place) u l (o .user .0)))
+      (some (sessionOf u l)) (opened-seat xs p (stands .long) (o .place) u l (o .user .0)))
       stands)
   stands-after (closes p) =
       rw (close-file f form t known xs stands p)

@@ -15,7 +15,7 @@ use Rattle.search.proofs.Truth.{or-iff, and-iff, among-iff, untrue, both}
 use Rattle.rolefile.specs.Said.{roles}
 use Rattle.monitor.specs.Calls.{unless, ifDone}
 use Rattle.monitor.specs.Runs.{Call, opens, closes, takes, drops, reads, writes}
-use Rattle.monitor.specs.Rules.{Session, Sessions, nobody, isFree, belongs, suits, openRule, closeRule, takeRule, dropRule, rule, put, newcomer, holding, without, next, sessions}
+use Rattle.monitor.specs.Rules.{Session, Sessions, nobody, isFree, belongs, suits, openRule, closeRule, takeRule, dropRule, rule, put, sessionOf, holding, without, next, sessions}
 use Rattle.monitor.specs.Granted.{ends, NoneEnds, Since, Sits, Holds}
 use Rattle.monitor.proofs.Orderly.{Admitted, Orderly, nobody-orderly, opening, seated-done, either-way, orderly-next}
 
@@ -70,7 +70,7 @@ module _ (f : List ℕ) (t : Sessions) (known : Orderly f t) (p : ℕ) (s : Sess
 
 -- ---- what begins with a call at place p and ends with a closing, or with a dropping of a role of the set
 pub record Kind (p : ℕ) (set : ℕ → Bool) (call : Call) (Good : Session → Type 0) : Type 0 where
-  pub opened : (u l : ℕ) → Good (newcomer u l) → opens p u l ≡ call
+  pub opened : (u l : ℕ) → Good (sessionOf u l) → opens p u l ≡ call
   pub taken : (r : ℕ) (s : Session) → Good (holding r s) → Good s ⊎ (takes p r ≡ call)
   pub keeps : (r : ℕ) (s : Session) → Good s → Good (holding r s)
   pub dropped : (r : ℕ) (s : Session) → Good (without r s) → Good s × (set r ≡ false)
@@ -95,13 +95,13 @@ module _ (f : List ℕ) (p : ℕ) (set : ℕ → Bool) (call : Call) (Good : Ses
   -- it lasts through each call that does not end it
   lasts-next : (c : Call) → So t → ends p set c ≡ false → So (next f t c)
   unfolding next closeRule dropRule
-  lasts-next (opens q u l) h e = either-way So (openRule f t q u l) (put t q (some (newcomer u l))) t
+  lasts-next (opens q u l) h e = either-way So (openRule f t q u l) (put t q (some (sessionOf u l))) t
       (λ z. elim (ℕ-discrete q p) [
         | yes i ↦
             let (s, sits, g) = sat-some Good (t p) h in
             let free : isFree (t p) ≡ true = rw i at (opening f t q u l z .free) in
             absurd (false≢true (rw sits at free))
-        | no n ↦ elsewhere q (some (newcomer u l)) n h
+        | no n ↦ elsewhere q (some (sessionOf u l)) n h
       ])
       h
   lasts-next (closes q) h e = either-way So (closeRule t q) (put t q none) t
@@ -140,11 +140,11 @@ module _ (f : List ℕ) (p : ℕ) (set : ℕ → Bool) (call : Call) (Good : Ses
   back-next (opens q u l) h =
       ⊎-elim
       (λ (z, g). elim (ℕ-discrete q p) [
-        | yes i ↦ inr (rw i (kind .opened u l (rw (put-at t q (some (newcomer u l)) p i) at g)), z)
-        | no n ↦ inl (back-elsewhere q (some (newcomer u l)) n g, refl)
+        | yes i ↦ inr (rw i (kind .opened u l (rw (put-at t q (some (sessionOf u l)) p i) at g)), z)
+        | no n ↦ inl (back-elsewhere q (some (sessionOf u l)) n g, refl)
       ])
       (λ (z, g). inl (g, refl))
-      (which-way So (openRule f t q u l) (put t q (some (newcomer u l))) t h)
+      (which-way So (openRule f t q u l) (put t q (some (sessionOf u l))) t h)
   back-next (closes q) h =
       ⊎-elim
       (λ (z, g). elim (ℕ-discrete q p) [

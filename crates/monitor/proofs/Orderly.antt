@@ -15,7 +15,7 @@ use Rattle.rolefile.specs.Said.{labels, roles, users, cards, clearance}
 use Rattle.policy.specs.Policy.{dominates}
 use Rattle.monitor.specs.Calls.{unless, ifDone}
 use Rattle.monitor.specs.Runs.{Call, opens, closes, takes, drops, reads, writes}
-use Rattle.monitor.specs.Rules.{Session, Sessions, nobody, isFree, seated, belongs, suits, uses, openRule, closeRule, takeRule, dropRule, partRule, put, newcomer, holding, without, next}
+use Rattle.monitor.specs.Rules.{Session, Sessions, nobody, isFree, seated, belongs, suits, uses, openRule, closeRule, takeRule, dropRule, partRule, put, sessionOf, holding, without, next}
 use Rattle.monitor.proofs.Answers.{unless-done}
 
 pub record Admitted (f : List ℕ) (p : ℕ) (s : Session) : Type 0 where
@@ -133,10 +133,10 @@ module _ (f : List ℕ) (t : Sessions) (known : Orderly f t) where
 
   pub orderly-next : (c : Call) → Orderly f (next f t c)
   unfolding next closeRule takeRule dropRule
-  orderly-next (opens p u l) = either-way (Orderly f) (openRule f t p u l) (put t p (some (newcomer u l))) t
+  orderly-next (opens p u l) = either-way (Orderly f) (openRule f t p u l) (put t p (some (sessionOf u l))) t
       (λ h.
       let o = opening f t p u l h in
-      orderly-put f t p (some (newcomer u l)) known
+      orderly-put f t p (some (sessionOf u l)) known
       (record { place = o .place; user = o .user; label = o .label; roles = λ r e. absurd (false≢true e) }))
       known
   orderly-next (closes p) = either-way (Orderly f) (closeRule t p) (put t p none) t (λ h. orderly-put f t p none known tt) known

@@ -19,8 +19,8 @@ use Rattle.policy.specs.Tables.{rowOf}
 use Rattle.policy.proofs.Meaning.{counts-known, marked-file}
 use Rattle.monitor.specs.Session.{sound, entitled, fitting}
 use Rattle.monitor.specs.Rules.{Sessions, belongs, suits}
-use Rattle.monitor.specs.Rights.{tableOf, serves, could, mayCome}
-use Rattle.monitor.specs.Review.{counted, isLabel, isRole, isUser, isCard, clearanceOf, over, seniorTo, assignedTo, entitledTo, mayOpen, mayTake, giveCard}
+use Rattle.monitor.specs.Rights.{tableOf, serves, could, couldByFile}
+use Rattle.monitor.specs.Review.{counted, isLabel, isRole, isUser, isCard, clearanceOf, dominatesIn, seniorTo, assignedTo, entitledTo, mayOpen, mayTake, giveCard}
 use Rattle.monitor.proofs.Orderly.{Orderly}
 use Rattle.monitor.proofs.Stands.{Stands}
 use Rattle.monitor.proofs.InFile.{sound-file, cleared-file, entitled-file, fitting-file}
@@ -63,8 +63,8 @@ module _ (f : List ℕ) (form : WellFormed f) (t : Sessions) (orderly : Orderly 
   unfolding clearanceOf
   review-clearance u v = let few = counts-known f form .users in rw (user u v) (stands .tables .labelled .users u (omega arith))
 
-  pub review-dominates : (a b : ℕ) → Among (labels f) a → Among (labels f) b → over xs a b ≡ dominates f a b
-  unfolding over
+  pub review-dominates : (a b : ℕ) → Among (labels f) a → Among (labels f) b → dominatesIn xs a b ≡ dominates f a b
+  unfolding dominatesIn
   review-dominates a b v w = rw (label a v, label b w) (marked-file f form xs (stands .tables) a b (inl v))
 
   pub review-senior : (q r : ℕ) → Among (roles f) q → Among (roles f) r → seniorTo xs q r ≡ senior f q r
@@ -136,5 +136,5 @@ module _ (f : List ℕ) (form : WellFormed f) (t : Sessions) (orderly : Orderly 
         let (r, k, e) = some-iff (serves xs u l o (tableOf m)) (roles f) .0 h in
         some-of gives 128 r (omega (arith, few)) (serves-as r k ∙ e)))
 
-    pub review-gives : giveCard xs m o (mayTake xs u l) ≡ mayCome f u l o m
+    pub review-gives : giveCard xs m o (mayTake xs u l) ≡ couldByFile f u l o m
     review-gives = review-can ∙ could-by f form t orderly xs stands u l o m v w i j

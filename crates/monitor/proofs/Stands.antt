@@ -19,7 +19,7 @@ use Rattle.policy.specs.Image.{Describes, Image}
 use Rattle.policy.proofs.Builds.{describes-stays}
 use Rattle.monitor.specs.Session.{placeAt, heldAt}
 use Rattle.monitor.specs.Calls.{written, opened, closed, taken, dropped}
-use Rattle.monitor.specs.Rules.{Session, Sessions, nobody, put, newcomer, holding, without}
+use Rattle.monitor.specs.Rules.{Session, Sessions, nobody, put, sessionOf, holding, without}
 use Rattle.monitor.proofs.Frames.{length-written, written-in, written-out}
 use Rattle.monitor.proofs.Holding.{added-placed, removed-placed, length-less}
 
@@ -96,7 +96,7 @@ module _ (xs : List ℕ) (p : ℕ) (long : 65536 ≤ length xs) (w : Among 64 p)
   unfolding opened
   opened-touched u l = whole-touched (seat u l) refl
 
-  pub opened-seat : (u l : ℕ) → 1 ≤ u → Seat (opened xs p u l) p (some (newcomer u l))
+  pub opened-seat : (u l : ℕ) → 1 ≤ u → Seat (opened xs p u l) p (some (sessionOf u l))
   unfolding opened
   opened-seat u l i = record {
     used = rw add-zero at (byte 0 (omega arith));

@@ -34,8 +34,8 @@ unfoldable pub clearanceOf : List ℕ → ℕ → ℕ
 clearanceOf xs u = cond (isUser xs u) (byteOf xs clearancesAt u) 0
 
 -- label a dominates label b
-unfoldable pub over : List ℕ → ℕ → ℕ → Bool
-over xs a b = isLabel xs a && (isLabel xs b && marked xs a b)
+unfoldable pub dominatesIn : List ℕ → ℕ → ℕ → Bool
+dominatesIn xs a b = isLabel xs a && (isLabel xs b && marked xs a b)
 
 -- role q is a senior of role r, or the same
 unfoldable pub seniorTo : List ℕ → ℕ → ℕ → Bool

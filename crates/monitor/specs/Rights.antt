@@ -57,8 +57,8 @@ canRule f u l o m =
     0))))
 
 -- a role that the user may take at the label may read (m = 1) or write (m = 2) the card
-unfoldable pub mayCome : List ℕ → ℕ → ℕ → ℕ → ℕ → Bool
-mayCome f u l o m = some (roles f) (λ r. belongs f u r && (suits f l r && may f m r o))
+unfoldable pub couldByFile : List ℕ → ℕ → ℕ → ℕ → ℕ → Bool
+couldByFile f u l o m = some (roles f) (λ r. belongs f u r && (suits f l r && may f m r o))
 
 -- ---- by the session calls: a use of the card, of no bytes
 

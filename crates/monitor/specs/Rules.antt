@@ -101,8 +101,8 @@ rule f size t (writes p o k bytes) = partRule f 2 t size p o k (length bytes)
 abbrev pub put : Sessions → ℕ → Option Session → Sessions
 put t p s q = cond (eqb q p) s (t q)
 
-abbrev pub newcomer : ℕ → ℕ → Session
-newcomer u l = record { user = u; label = l; held = λ r. false }
+abbrev pub sessionOf : ℕ → ℕ → Session
+sessionOf u l = record { user = u; label = l; held = λ r. false }
 
 abbrev pub holding : ℕ → Session → Session
 holding r s = record { user = s .user; label = s .label; held = λ q. s .held q || eqb q r }
@@ -111,7 +111,7 @@ abbrev pub without : ℕ → Session → Session
 without r s = record { user = s .user; label = s .label; held = λ q. s .held q && not (eqb q r) }
 
 unfoldable pub next : List ℕ → Sessions → Call → Sessions
-next f t (opens p u l) = ifDone (openRule f t p u l) (put t p (some (newcomer u l))) t
+next f t (opens p u l) = ifDone (openRule f t p u l) (put t p (some (sessionOf u l))) t
 next f t (closes p) = ifDone (closeRule t p) (put t p none) t
 next f t (takes p r) = ifDone (takeRule f t p r) (put t p (Option·map (holding r) (t p))) t
 next f t (drops p r) = ifDone (dropRule f t p r) (put t p (Option·map (without r) (t p))) t

@@ -75,7 +75,7 @@ pub fn clearance(s: &[u8], user: u64) -> u64
 
 // Whether label a dominates label b.
 pub fn dominates(s: &[u8], a: u64, b: u64) -> bool
-    ensures { λ r. ⌜ r ≡ review.over (now (s .entry)) a b ⌝ }
+    ensures { λ r. ⌜ r ≡ review.dominatesIn (now (s .entry)) a b ⌝ }
 {
     if !known(s, 0, a) {
         return false;

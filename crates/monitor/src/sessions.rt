@@ -43,8 +43,8 @@ fn open_number(s: &[u8], place: u64, user: u64, label: u64) -> u64
     0
 }
 
-// Seats a user at a place, at a label, with no roles.
-fn seat(s: &mut [u8], place: u64, user: u64, label: u64)
+// Puts a session at a place: a user, a label and no roles.
+fn put_session(s: &mut [u8], place: u64, user: u64, label: u64)
     requires { ⌜ openNumber (now s) place user label ≡ 0 ⌝ }
     ensures { λ _. ⌜ now (s .exit) ≡ opened (now (s .entry)) place user label ⌝ }
 {
@@ -62,7 +62,7 @@ pub fn open(s: &mut [u8], place: u64, user: u64, label: u64) -> u64
 {
     let n = open_number(s, place, user, label);
     if n == 0 {
-        seat(s, place, user, label);
+        put_session(s, place, user, label);
     }
     n
 }
@@ -169,7 +169,7 @@ fn drop_number(s: &[u8], place: u64, role: u64) -> u64
 }
 
 // Takes a role out of those that the place holds.
-fn let_go(s: &mut [u8], place: u64, role: u64)
+fn remove_role(s: &mut [u8], place: u64, role: u64)
     requires { ⌜ dropNumber (now s) place role ≡ 0 ⌝ }
     ensures { λ _. ⌜ now (s .exit) ≡ dropped (now (s .entry)) place role ⌝ }
 {
@@ -183,7 +183,7 @@ pub fn drop(s: &mut [u8], place: u64, role: u64) -> u64
 {
     let n = drop_number(s, place, role);
     if n == 0 {
-        let_go(s, place, role);
+        remove_role(s, place, role);
     }
     n
 }

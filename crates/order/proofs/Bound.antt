@@ -12,7 +12,7 @@ use Rattle.search.specs.Search.{every, first, implies, Among, Lowest}
 use Rattle.search.proofs.Truth.{or-iff, and-iff, implies-iff, untrue, both, same}
 use Rattle.search.proofs.Found.{every-at, every-of, every-agree, every-cut, first-yet, first-found, first-more, first-none, first-lowest, first-within, first-agree, first-cut}
 use Rattle.order.specs.Closure.{Relation, PartialOrder}
-use Rattle.order.specs.Bound.{upper, isLeast, least, lub, turned, pair, apart, lonely, unjoined, Upper, IsLub, Joined, AllJoined, FirstPair, FirstApart}
+use Rattle.order.specs.Bound.{upper, isLeast, least, lub, turned, pair, apart, partnerWithoutBound, unjoined, Upper, IsLub, Joined, AllJoined, FirstPair, FirstApart}
 use Rattle.order.proofs.Closure.{Agree}
 
 -- every thing of a set has p
@@ -111,9 +111,9 @@ module _ (n : ℕ) (ge : Relation) where
   separate : (a b : ℕ) → apart n ge a b ≡ true → Joined n ge a b → ⊥
   separate a b h j = lub-exists n ge (pair a b) .1 j (apart-iff a b .0 h .1)
 
-  lonely-none : (a : ℕ) → (lonely n ge a ≡ 0) ↔ ((b : ℕ) → Among n b → a < b → Joined n ge a b)
-  unfolding lonely
-  lonely-none a = (
+  partnerWithoutBound-none : (a : ℕ) → (partnerWithoutBound n ge a ≡ 0) ↔ ((b : ℕ) → Among n b → a < b → Joined n ge a b)
+  unfolding partnerWithoutBound
+  partnerWithoutBound-none a = (
     λ q b w l. together a b l (first-none (apart n ge a) n .0 q b w),
     λ h. first-none (apart n ge a) n .1 (λ b w. untrue (apart n ge a b) (λ p. separate a b p (h b w (apart-iff a b .0 p .0)))),
   )
@@ -143,7 +143,7 @@ module _ (n : ℕ) (ge : Relation) where
   )
 
   pub some-apart : ℕ → Bool
-  some-apart a = ltb 0 (lonely n ge a)
+  some-apart a = ltb 0 (partnerWithoutBound n ge a)
 
   pub unjoined-none : PartialOrder n ge → (unjoined n ge ≡ 0) ↔ AllJoined n ge
   unfolding unjoined some-apart
@@ -155,28 +155,28 @@ module _ (n : ℕ) (ge : Relation) where
         | no m ↦ let i : a ≡ b = omega arith in rw (← i) (joined-self o a v)
       ]
     ],
-    λ h. first-none some-apart n .1 (λ a v. le-ltb 0 (lonely n ge a) (omega (arith, lonely-none a .1 (λ b w l. h a b v w)))),
+    λ h. first-none some-apart n .1 (λ a v. le-ltb 0 (partnerWithoutBound n ge a) (omega (arith, partnerWithoutBound-none a .1 (λ b w l. h a b v w)))),
   )
     where
       rising : first n some-apart ≡ 0 → (a b : ℕ) → Among n a → Among n b → a < b → Joined n ge a b
-      rising q a b v w l = lonely-none a .0 (omega (arith, ltb-false 0 (lonely n ge a) (first-none some-apart n .0 q a v))) b w l
+      rising q a b v w l = partnerWithoutBound-none a .0 (omega (arith, ltb-false 0 (partnerWithoutBound n ge a) (first-none some-apart n .0 q a v))) b w l
 
-  pub unjoined-first : (a : ℕ) → 1 ≤ a → unjoined n ge ≡ a → FirstPair n ge a (lonely n ge a)
-  unfolding unjoined lonely some-apart
+  pub unjoined-first : (a : ℕ) → 1 ≤ a → unjoined n ge ≡ a → FirstPair n ge a (partnerWithoutBound n ge a)
+  unfolding unjoined partnerWithoutBound some-apart
   unjoined-first a l q = go (first-lowest some-apart n a l .0 q)
     where
-      pairs : Lowest n some-apart a → Lowest n (apart n ge a) (lonely n ge a) → FirstPair n ge a (lonely n ge a)
+      pairs : Lowest n some-apart a → Lowest n (apart n ge a) (partnerWithoutBound n ge a) → FirstPair n ge a (partnerWithoutBound n ge a)
       pairs low h = record {
         lower = low .inside;
         higher = h .inside;
-        rising = apart-iff a (lonely n ge a) .0 (h .holds) .0;
-        apart = separate a (lonely n ge a) (h .holds);
-        earlier = λ x y v w k m. lonely-none x .0 (omega (arith, ltb-false 0 (lonely n ge x) (low .lower x v m))) y w k;
+        rising = apart-iff a (partnerWithoutBound n ge a) .0 (h .holds) .0;
+        apart = separate a (partnerWithoutBound n ge a) (h .holds);
+        earlier = λ x y v w k m. partnerWithoutBound-none x .0 (omega (arith, ltb-false 0 (partnerWithoutBound n ge x) (low .lower x v m))) y w k;
         sooner = λ y w k m. together a y k (h .lower y w m);
       }
 
-      go : Lowest n some-apart a → FirstPair n ge a (lonely n ge a)
-      go low = pairs low (first-lowest (apart n ge a) n (lonely n ge a) (ltb-true 0 (lonely n ge a) (low .holds)) .0 refl)
+      go : Lowest n some-apart a → FirstPair n ge a (partnerWithoutBound n ge a)
+      go low = pairs low (first-lowest (apart n ge a) n (partnerWithoutBound n ge a) (ltb-true 0 (partnerWithoutBound n ge a) (low .holds)) .0 refl)
 
 -- ---- an order sees only its things
 
@@ -201,16 +201,16 @@ module _ (n : ℕ) (f g : Relation) (h : Agree n n f g) where
             (λ x v. rw (implied s (f x) (g x) (λ y u. h x y v u), h x c v w)),
       ))
 
-  lonely-agree : (a : ℕ) → lonely n f a ≡ lonely n g a
-  unfolding lonely apart
-  lonely-agree a = first-agree (apart n f a) (apart n g a) n (λ b w. rw (lub-agree (pair a b)))
+  partnerWithoutBound-agree : (a : ℕ) → partnerWithoutBound n f a ≡ partnerWithoutBound n g a
+  unfolding partnerWithoutBound apart
+  partnerWithoutBound-agree a = first-agree (apart n f a) (apart n g a) n (λ b w. rw (lub-agree (pair a b)))
 
   pub unjoined-agree : unjoined n f ≡ unjoined n g
   unfolding unjoined
-  unjoined-agree = first-agree (λ a. ltb 0 (lonely n f a)) (λ a. ltb 0 (lonely n g a)) n (λ a w. rw (lonely-agree a))
+  unjoined-agree = first-agree (λ a. ltb 0 (partnerWithoutBound n f a)) (λ a. ltb 0 (partnerWithoutBound n g a)) n (λ a w. rw (partnerWithoutBound-agree a))
 
   pub first-apart-agree : (a b : ℕ) → FirstApart n f a b → FirstApart n g a b
-  first-apart-agree a b h = record { lower = h .lower ∙ unjoined-agree; higher = rw (← (lonely-agree a)) (h .higher) }
+  first-apart-agree a b h = record { lower = h .lower ∙ unjoined-agree; higher = rw (← (partnerWithoutBound-agree a)) (h .higher) }
 
 -- and of a set only which things are in it
 pub lub-same-set : (n : ℕ) (ge : Relation) (s t : ℕ → Bool) → ((x : ℕ) → Among n x → s x ≡ t x) → lub n ge s ≡ lub n ge t
@@ -234,14 +234,14 @@ module _ (n : ℕ) (ge : Relation) where
   pub none-apart-yet : NoneApart 0
   none-apart-yet = first-yet (some-apart n ge)
 
-  pub none-apart-more : (i h : ℕ) → NoneApart i → h ≡ lonely n ge (i + 1) → h ≤ 0 → NoneApart (i + 1)
+  pub none-apart-more : (i h : ℕ) → NoneApart i → h ≡ partnerWithoutBound n ge (i + 1) → h ≤ 0 → NoneApart (i + 1)
   unfolding some-apart
-  none-apart-more i h none e z = first-more (some-apart n ge) i none (le-ltb 0 (lonely n ge (i + 1)) (omega arith))
+  none-apart-more i h none e z = first-more (some-apart n ge) i none (le-ltb 0 (partnerWithoutBound n ge (i + 1)) (omega arith))
 
-  pub apart-found : (i h : ℕ) → i < n → NoneApart i → h ≡ lonely n ge (i + 1) → 0 < h → FirstApart n ge (i + 1) h
+  pub apart-found : (i h : ℕ) → i < n → NoneApart i → h ≡ partnerWithoutBound n ge (i + 1) → 0 < h → FirstApart n ge (i + 1) h
   unfolding unjoined some-apart
   apart-found i h l none e p = record {
-    lower = first-found (some-apart n ge) n i l none (lt-ltb 0 (lonely n ge (i + 1)) (omega arith));
+    lower = first-found (some-apart n ge) n i l none (lt-ltb 0 (partnerWithoutBound n ge (i + 1)) (omega arith));
     higher = rw (lt-ltb 0 (i + 1) (omega arith)) e;
   }
 

@@ -1,8 +1,8 @@
 -- Bounds of a set s : ℕ → Bool of things in an order ge of the things 1 to n: `ge c x`, c is over x or is x.
---     lub n ge s        the least upper bound of s, or 0
---     glb n ge s        the greatest lower bound: the least upper bound in the order turned round
---     lonely n ge a     the lowest b after a with which a has no least upper bound, or 0
---     unjoined n ge     the lowest a with such a b, or 0: with it, the first pair without a least upper bound
+--     lub n ge s                    the least upper bound of s, or 0
+--     glb n ge s                    the greatest lower bound: the least upper bound in the order turned round
+--     partnerWithoutBound n ge a    the lowest b after a with which a has no least upper bound, or 0
+--     unjoined n ge                 the lowest a with such a b, or 0: with it, the first pair without a least upper bound
 --     IsLub, IsGlb, Joined, FirstPair say the same as properties
 -- Assumes nothing.
 use Prim.Native.Nat.{ℕ, _<_}
@@ -39,16 +39,16 @@ pair a b x = eqb x a || eqb x b
 unfoldable pub apart : ℕ → Relation → ℕ → ℕ → Bool
 apart n ge a b = ltb a b && eqb (lub n ge (pair a b)) 0
 
-unfoldable pub lonely : ℕ → Relation → ℕ → ℕ
-lonely n ge a = first n (apart n ge a)
+unfoldable pub partnerWithoutBound : ℕ → Relation → ℕ → ℕ
+partnerWithoutBound n ge a = first n (apart n ge a)
 
 unfoldable pub unjoined : ℕ → Relation → ℕ
-unjoined n ge = first n (λ a. ltb 0 (lonely n ge a))
+unjoined n ge = first n (λ a. ltb 0 (partnerWithoutBound n ge a))
 
 -- what a search for the first pair answers: its lower and its higher thing, or 0 and 0
 pub record FirstApart (n : ℕ) (ge : Relation) (a b : ℕ) : Type 0 where
   pub lower : a ≡ unjoined n ge
-  pub higher : b ≡ cond (ltb 0 a) (lonely n ge a) 0
+  pub higher : b ≡ cond (ltb 0 a) (partnerWithoutBound n ge a) 0
 
 -- ---- the same as properties
 

@@ -7,7 +7,7 @@ ghost use mathlib.Core.Bool.{true, false, _&&_};
 ghost use Prim.Native.Nat.{ℕ, _+_, _≤_, _<_, min};
 ghost use lib.Dec.{leb};
 ghost use Rattle.search.specs.Search.{Among, among, every, implies};
-ghost use Rattle.order.specs.Bound.{upper, least, glb, turned, lonely, FirstApart};
+ghost use Rattle.order.specs.Bound.{upper, least, glb, turned, partnerWithoutBound, FirstApart};
 ghost use Rattle.order.specs.Table.{marks, mark};
 
 // The set of the first n things.
@@ -150,7 +150,7 @@ fn greatest_common(t: &[[bool; 32]; 32], s: [bool; 32], j: usize) -> usize
 // in the order that was turned round.
 fn partner(up: &[[bool; 32]; 32], m: usize, i: usize) -> usize
     requires { ⌜ (m ≤ 32) × (i < m) ⌝ }
-    ensures { λ r. ⌜ r ≡ lonely m (turned (mark (now (up .entry)))) (i + 1) ⌝ }
+    ensures { λ r. ⌜ r ≡ partnerWithoutBound m (turned (mark (now (up .entry)))) (i + 1) ⌝ }
 {
     let over = up[i];
     let bounds = common(first_things(m), over);

@@ -7,7 +7,7 @@ use lib.ListN.{getD}
 use Rattle.roleset.specs.Row.{member}
 use Rattle.roleset.proofs.Rows.{same-bytes}
 use Rattle.order.specs.Closure.{circle}
-use Rattle.order.specs.Bound.{lonely, unjoined}
+use Rattle.order.specs.Bound.{partnerWithoutBound, unjoined}
 use Rattle.rolefile.specs.declared.Verdict.{Verdict}
 use Rattle.rolefile.specs.Line.{lines}
 use Rattle.rolefile.specs.Form.{fine, refusal, unless, either, _then_, sized, scan, found, lineVerdict, linesVerdict, unlabelledVerdict, formVerdict}
@@ -33,7 +33,7 @@ unfoldable pub labelVerdict : List ℕ → Verdict
 labelVerdict f =
     let a = circle (labels f) (over f) in
     let b = unjoined (labels f) (dominates f) in
-    found a (refusal 11 a 0) then found b (refusal 12 b (lonely (labels f) (dominates f) b))
+    found a (refusal 11 a 0) then found b (refusal 12 b (partnerWithoutBound (labels f) (dominates f) b))
 
 module _ (f : List ℕ) where
   pub last-stage : Verdict
@@ -47,7 +47,7 @@ module _ (f : List ℕ) where
   policy-stages =
       let a = circle (labels f) (over f) in
       let b = unjoined (labels f) (dominates f) in
-      sym (then-joined (found a (refusal 11 a 0)) (found b (refusal 12 b (lonely (labels f) (dominates f) b)))
+      sym (then-joined (found a (refusal 11 a 0)) (found b (refusal 12 b (partnerWithoutBound (labels f) (dominates f) b)))
       (roleVerdict f then scan (lines f) (assignmentVerdict f)))
 
   pub stages : verdict f ≡ (linesVerdict f then (unlabelledVerdict f then third-stage))

@@ -10,7 +10,7 @@ use lib.Dec.{eqb}
 use borrow.Author.Tests.{eqb-true, eq-eqb}
 use Rattle.search.proofs.Truth.{untrue, both}
 use Rattle.order.specs.Closure.{Relation, path, closure, circle, OnCircle, PartialOrder}
-use Rattle.order.specs.Bound.{turned, unjoined, lonely, AllJoined, FirstPair}
+use Rattle.order.specs.Bound.{turned, unjoined, partnerWithoutBound, AllJoined, FirstPair}
 use Rattle.order.proofs.Closure.{circle-finds, circle-none}
 use Rattle.order.proofs.Bound.{unjoined-none, unjoined-first}
 use Rattle.rolefile.specs.declared.Verdict.{Verdict}
@@ -71,7 +71,7 @@ module _ (n : ℕ) (ge : Relation) where
   PairRefusal v = (a : ℕ) × (b : ℕ) × FirstPair n ge a b × (v ≡ refusal 12 a b)
 
   pub pair-decides : PartialOrder n ge
-      → Decides (found (unjoined n ge) (refusal 12 (unjoined n ge) (lonely n ge (unjoined n ge)))) (AllJoined n ge) PairRefusal
+      → Decides (found (unjoined n ge) (refusal 12 (unjoined n ge) (partnerWithoutBound n ge (unjoined n ge)))) (AllJoined n ge) PairRefusal
   pair-decides o =
       decides-as (found-decides low (refusal 12 low high) (omega arith)) (unjoined-none n ge o)
       (λ v. (
@@ -86,7 +86,7 @@ module _ (n : ℕ) (ge : Relation) where
       low = unjoined n ge
 
       high : ℕ
-      high = lonely n ge low
+      high = partnerWithoutBound n ge low
 
       pair : (low ≡ 0 → ⊥) → FirstPair n ge low high
       pair z = unjoined-first n ge low (omega arith) refl

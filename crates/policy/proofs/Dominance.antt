@@ -11,7 +11,7 @@ use Rattle.search.specs.Search.{Among}
 use Rattle.search.proofs.Truth.{and-iff, untrue}
 use Rattle.search.proofs.Found.{some-iff, first-agree}
 use Rattle.order.specs.Closure.{Relation, path, loop, circle}
-use Rattle.order.specs.Bound.{lonely, unjoined, FirstApart}
+use Rattle.order.specs.Bound.{partnerWithoutBound, unjoined, FirstApart}
 use Rattle.order.specs.Table.{mark, Rows, reflexive}
 use Rattle.order.proofs.Closure.{via-agree}
 use Rattle.order.proofs.Bound.{first-apart-agree}
@@ -64,10 +64,10 @@ closed-of f t c p rows a b v w = elim (decLt (labels f) a) [
 
 -- the first pair that was found is refused
 pub apart-verdict : (n : ℕ) (ge : Relation) (a b : ℕ) → FirstApart n ge a b
-    → found (unjoined n ge) (refusal 12 (unjoined n ge) (lonely n ge (unjoined n ge))) ≡ found a (refusal 12 a b)
+    → found (unjoined n ge) (refusal 12 (unjoined n ge) (partnerWithoutBound n ge (unjoined n ge))) ≡ found a (refusal 12 a b)
 apart-verdict n ge a b h = rw (← (h .lower)) (go a (h .higher))
   where
-    go : (a : ℕ) → b ≡ cond (ltb 0 a) (lonely n ge a) 0 → found a (refusal 12 a (lonely n ge a)) ≡ found a (refusal 12 a b)
+    go : (a : ℕ) → b ≡ cond (ltb 0 a) (partnerWithoutBound n ge a) 0 → found a (refusal 12 a (partnerWithoutBound n ge a)) ≡ found a (refusal 12 a b)
     go zero e = refl
     go (suc a) e = rw (e, lt-ltb 0 (suc a) (omega arith))
 
@@ -75,7 +75,7 @@ pub order-verdict-is : (f : List ℕ) (t c : List (List Bool)) → labels f ≤ 
     → orderVerdict (labels f) (mark t) (mark c)
     ≡ (found (circle (labels f) (over f)) (refusal 11 (circle (labels f) (over f)) 0)
     then found (unjoined (labels f) (dominates f))
-    (refusal 12 (unjoined (labels f) (dominates f)) (lonely (labels f) (dominates f) (unjoined (labels f) (dominates f)))))
+    (refusal 12 (unjoined (labels f) (dominates f)) (partnerWithoutBound (labels f) (dominates f) (unjoined (labels f) (dominates f)))))
 unfolding orderVerdict
 order-verdict-is f t c few p closed =
     rw (loops, apart-verdict n (mark c) a b here, apart-verdict n (dominates f) a b (first-apart-agree n (mark c) (dominates f) agree a b here))
@@ -93,7 +93,7 @@ order-verdict-is f t c few p closed =
     a = unjoined n (mark c)
 
     b : ℕ
-    b = cond (ltb 0 a) (lonely n (mark c) a) 0
+    b = cond (ltb 0 a) (partnerWithoutBound n (mark c) a) 0
 
     here : FirstApart n (mark c) a b
     here = record { lower = refl; higher = refl }

@@ -7,7 +7,7 @@ use lib.Dec.{leb}
 use lib.ListN.{getD, drop}
 use Rattle.search.specs.Search.{Among}
 use Rattle.order.specs.Closure.{Relation, path, loop, circle}
-use Rattle.order.specs.Bound.{lonely, unjoined}
+use Rattle.order.specs.Bound.{partnerWithoutBound, unjoined}
 use Rattle.order.specs.Table.{mark}
 use Rattle.rolefile.specs.declared.Line.{Line}
 use Rattle.rolefile.specs.declared.Verdict.{Verdict}
@@ -65,7 +65,7 @@ unfoldable pub orderVerdict : ℕ → Relation → Relation → Verdict
 orderVerdict n paths ge =
     let a = loop n paths in
     let b = unjoined n ge in
-    found a (refusal 11 a 0) then found b (refusal 12 b (lonely n ge b))
+    found a (refusal 11 a 0) then found b (refusal 12 b (partnerWithoutBound n ge b))
 
 -- 13
 unfoldable pub roleVerdict : List ℕ → Verdict

@@ -4,7 +4,7 @@ use mathlib.Core.List.{List}
 use mathlib.Core.Bool.{cond}
 use lib.Dec.{eqb}
 use Rattle.order.specs.Closure.{circle}
-use Rattle.order.specs.Bound.{unjoined, lonely}
+use Rattle.order.specs.Bound.{unjoined, partnerWithoutBound}
 use Rattle.rolefile.specs.declared.Verdict.{Verdict}
 use Rattle.rolefile.specs.Line.{A, lineAt, lines}
 use Rattle.rolefile.specs.Form.{fine, refusal, unless, _then_, scan, found, formVerdict}
@@ -29,7 +29,7 @@ policyVerdict f =
     let b = unjoined (labels f) (dominates f) in
     let r = circle (roles f) (above f) in
     found a (refusal 11 a 0)
-    then (found b (refusal 12 b (lonely (labels f) (dominates f) b))
+    then (found b (refusal 12 b (partnerWithoutBound (labels f) (dominates f) b))
     then (found r (refusal 13 r 0)
     then scan (lines f) (assignmentVerdict f)))
 

@@ -32,7 +32,7 @@ use Rattle.order.specs.Closure.{Relation, path}
 use Rattle.rolefile.specs.Decimal.{digits}
 use Rattle.text.specs.Text.{ascii}
 use Rattle.policy.specs.Tables.{flowsIn}
-use Rattle.monitor.specs.Review.{counted, over, seniorTo}
+use Rattle.monitor.specs.Review.{counted, dominatesIn, seniorTo}
 use Rattle.rights.specs.declared.graph.Order.{Order}
 use Rattle.rights.specs.declared.graph.Order.the-variants.{Dominating, Seniors, Juniors}
 
@@ -40,7 +40,7 @@ use Rattle.rights.specs.declared.graph.Order.the-variants.{Dominating, S
 
 -- b is one of those that a is put in relation to, itself left out: the labels that dominate label a, the seniors of role a, or its juniors
 abbrev pub ordered : List ℕ → Order → Relation
-ordered xs Dominating a b = not (eqb a b) && over xs b a
+ordered xs Dominating a b = not (eqb a b) && dominatesIn xs b a
 ordered xs Seniors a b = not (eqb a b) && seniorTo xs b a
 ordered xs Juniors a b = not (eqb a b) && seniorTo xs a b
 

@@ -1,20 +1,20 @@
 -- The tests one after the other.
 use borrow.Author.Needs.{needs}
-use Rattle.monitor.specs.Review.{over}
+use Rattle.monitor.specs.Review.{dominatesIn}
 use Rattle.monitor.proofs.Known.{tests}
 use Rattle.monitor.proofs.review.dominates.Statement.{statement}
 use Rattle.monitor.proofs.review.dominates.Tie as tie
 
 returns : tie.Need-returns
-unfolding over
+unfolding dominatesIn
 returns c = search tests depth 4
 
 returns-2 : tie.Need-returns-2
-unfolding over
+unfolding dominatesIn
 returns-2 c = search tests depth 4
 
 returns-3 : tie.Need-returns-3
-unfolding over
+unfolding dominatesIn
 returns-3 c = search tests depth 4
 
 pub dominates-spec : {M : Type 1} → statement M

@@ -11,7 +11,7 @@ use lib.Dec.{leb, eqb}
 use lib.ListN.{getD}
 use Rattle.search.specs.Search.{first, Among}
 use Rattle.search.proofs.Found.{first-none, first-found, first-more}
-use Rattle.order.specs.Bound.{turned, apart, lonely, lub, least, pair, upper}
+use Rattle.order.specs.Bound.{turned, apart, partnerWithoutBound, lub, least, pair, upper}
 use Rattle.order.specs.Table.{mark, marks}
 use Rattle.order.proofs.Bound.{least-cut, upper-pair}
 use Rattle.order.proofs.Stored.{place}
@@ -57,7 +57,7 @@ tested c =
     both .common .ensures x w ∙ rw (both .before .first-things .ensures x w)))
 
 returns : tie.Need-returns Inv-loop μ-loop
-unfolding lonely
+unfolding partnerWithoutBound
 returns c =
     let w = c .before .before .before .loop in
     first-found _ _ (w .j) (search needs) (w .inv .2) (sym (tested (c .before)) ∙ eq-eqb _ 0 (c .if1 .taken))
@@ -68,7 +68,7 @@ loop-again c =
     (search needs, search needs, first-more _ (w .j) (w .inv .2) (sym (tested (c .before)) ∙ ne-eqb _ 0 (c .if1 .left)))
 
 returns-2 : tie.Need-returns-2 Inv-loop μ-loop
-unfolding lonely
+unfolding partnerWithoutBound
 returns-2 c =
     let w = c .before .loop in
     let q : w .j ≡ c .before .before .before .before .before .args .m = omega arith in

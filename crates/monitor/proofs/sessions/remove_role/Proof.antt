@@ -6,8 +6,8 @@ use Rattle.monitor.specs.Session.{heldAt}
 use Rattle.monitor.specs.Calls.{dropped}
 use Rattle.monitor.proofs.Answers.{Room, drop-room}
 use Rattle.monitor.proofs.Holding.{removed-is}
-use Rattle.monitor.proofs.sessions.let_go.Statement.{statement}
-use Rattle.monitor.proofs.sessions.let_go.Tie as tie
+use Rattle.monitor.proofs.sessions.remove_role.Statement.{statement}
+use Rattle.monitor.proofs.sessions.remove_role.Tie as tie
 
 room : (c : tie.Start) → Room (c .args .s .now) (c .args .place) × Among 128 (c .args .role)
 room c = drop-room _ _ _ (c .pre)
@@ -25,8 +25,8 @@ returns c =
     (λ i. omega (arith, c .slice-known2 .given i))
     (t .remove .ensures)
 
-pub let-go-spec : {M : Type 1} → statement M
-let-go-spec =
+pub remove-role-spec : {M : Type 1} → statement M
+remove-role-spec =
     tie.close
     (tie.spec
     (λ c. omega (arith, room (c .before)))

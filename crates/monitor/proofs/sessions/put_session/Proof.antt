@@ -4,8 +4,8 @@ use borrow.Author.Needs.{needs}
 use Rattle.search.specs.Search.{Among}
 use Rattle.monitor.specs.Calls.{opened}
 use Rattle.monitor.proofs.Answers.{Room, open-room}
-use Rattle.monitor.proofs.sessions.seat.Statement.{statement}
-use Rattle.monitor.proofs.sessions.seat.Tie as tie
+use Rattle.monitor.proofs.sessions.put_session.Statement.{statement}
+use Rattle.monitor.proofs.sessions.put_session.Tie as tie
 
 room : (c : tie.Start) → let a = c .args in Room (a .s .now) (a .place) × Among 256 (a .user) × Among 32 (a .label)
 room c = open-room _ _ _ _ (c .pre)
@@ -14,8 +14,8 @@ returns : tie.Need-returns
 unfolding opened
 returns c = c .before .before .put .ensures
 
-pub seat-spec : {M : Type 1} → statement M
-seat-spec =
+pub put-session-spec : {M : Type 1} → statement M
+put-session-spec =
     tie.close
     (tie.spec
     (λ c. search needs)
