@@ -48,7 +48,9 @@ rights: kit
 picture: kit
 	@command -v dot >/dev/null || { echo "dot is not on the path. Install Graphviz (Debian: graphviz)."; exit 1; }
 	@rt check rights >/dev/null
-	@target/bin/rights dot $(FILE) | dot -Tsvg > $(PICTURE)
+	@target/bin/rights dot $(FILE) > target/picture.dot
+	@grep -q '^digraph' target/picture.dot || { cat target/picture.dot; exit 1; }
+	@dot -Tsvg target/picture.dot > $(PICTURE)
 	@echo "$(PICTURE)"
 
 prove: kit
