@@ -13,10 +13,10 @@ use Rattle.order.specs.Bound.{upper, isLeast, least, lub, apart, partnerWithout
 use Rattle.rolefile.specs.Field.{column, columns}
 use Rattle.rolefile.specs.Line.{letterOf, fields, formed, lineOf, lineAt}
 use Rattle.rolefile.specs.Form.{fine, scan, sized, counted, firstLimit, secondLimit, ranged, rises, headVerdict, bodyVerdict, lineVerdict}
-use Rattle.rolefile.specs.Form.{count, unlabelled, unlabelledVerdict, formVerdict}
+use Rattle.rolefile.specs.Form.{count, unlabelled, unlabelledVerdict, linesVerdict, formVerdict}
 use Rattle.rolefile.specs.Said.{cards, says, last, labelBy, cardLabel}
 use Rattle.policy.specs.Policy.{dominates, senior, may, mayAt, level, rLevel, wLevel}
-use Rattle.policy.specs.Verdict.{assignVerdict, assignmentVerdict, policyVerdict, verdict}
+use Rattle.policy.specs.Verdict.{orderVerdict, labelVerdict, roleVerdict, assignVerdict, assignmentVerdict, policyVerdict, verdict}
 use Rattle.policy.specs.Accepted.{Accepted}
 use Rattle.policy.proofs.Outcomes.{accepted-fine}
 use Rattle.monitor.specs.Calls.{unless, ifDone}
@@ -35,9 +35,9 @@ answersBy L store cs = map (λ x. x .answer) (shownBy file L 192 noneOpen nobody
 accepted-file : verdict file ≡ fine
 unfolding file line bytes
     column columns letterOf fields formed lineOf lineAt
-    sized counted firstLimit secondLimit ranged rises headVerdict bodyVerdict lineVerdict scan count unlabelled unlabelledVerdict formVerdict
+    sized counted firstLimit secondLimit ranged rises headVerdict bodyVerdict lineVerdict scan count unlabelled unlabelledVerdict linesVerdict formVerdict
     says last labelBy some every first via upper isLeast least lub apart partnerWithoutBound unjoined
-    dominates senior may mayAt level rLevel wLevel assignVerdict assignmentVerdict policyVerdict verdict
+    dominates senior may mayAt level rLevel wLevel orderVerdict labelVerdict roleVerdict assignVerdict assignmentVerdict policyVerdict verdict
 accepted-file = refl
 
 pub accepted : Accepted file

@@ -7,10 +7,10 @@ use Rattle.order.specs.Bound.{upper, isLeast, least, lub, apart, partnerWithout
 use Rattle.rolefile.specs.Field.{column, columns}
 use Rattle.rolefile.specs.Line.{letterOf, fields, formed, lineOf, lineAt}
 use Rattle.rolefile.specs.Form.{scan, sized, counted, firstLimit, secondLimit, ranged, rises, headVerdict, bodyVerdict, lineVerdict}
-use Rattle.rolefile.specs.Form.{count, unlabelled, unlabelledVerdict, formVerdict}
+use Rattle.rolefile.specs.Form.{count, unlabelled, unlabelledVerdict, linesVerdict, formVerdict}
 use Rattle.rolefile.specs.Said.{says, last, labelBy}
 use Rattle.policy.specs.Policy.{dominates, senior, may, mayAt, level, rLevel, wLevel}
-use Rattle.policy.specs.Verdict.{assignVerdict, assignmentVerdict, policyVerdict, verdict}
+use Rattle.policy.specs.Verdict.{orderVerdict, labelVerdict, roleVerdict, assignVerdict, assignmentVerdict, policyVerdict, verdict}
 use Rattle.policy.specs.Flow.{flows, flowCircle}
 use Rattle.monitor.specs.Calls.{unless, ifDone}
 use Rattle.monitor.specs.Rules.{belongs, suits, uses, openRule, takeRule, partRule, rule, next}
@@ -23,9 +23,9 @@ given c = answer (bytes (c .file)) (c .expected)
 computed : map given cases ≡ map (λ c. c .expected) cases
 unfolding cases answer line bytes
     column columns letterOf fields formed lineOf lineAt
-    sized counted firstLimit secondLimit ranged rises headVerdict bodyVerdict lineVerdict scan count unlabelled unlabelledVerdict formVerdict
+    sized counted firstLimit secondLimit ranged rises headVerdict bodyVerdict lineVerdict scan count unlabelled unlabelledVerdict linesVerdict formVerdict
     says last labelBy some every first via upper isLeast least lub apart partnerWithoutBound unjoined
-    dominates senior may mayAt level rLevel wLevel assignVerdict assignmentVerdict policyVerdict verdict flows flowCircle
+    dominates senior may mayAt level rLevel wLevel orderVerdict labelVerdict roleVerdict assignVerdict assignmentVerdict policyVerdict verdict flows flowCircle
     unless ifDone belongs suits uses openRule takeRule partRule rule next numbered
 computed = refl
 

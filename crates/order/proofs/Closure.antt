@@ -173,9 +173,6 @@ module _ (n m : ℕ) (d e : Relation) (l : n ≤ m) (h : Agree n m d e) where
       let i = via-agree k (omega arith) in
       rw (i a b v w, i a (suc k) v (omega arith), i (suc k) b (omega arith) w)
 
-  pub closure-agree : Agree n m (closure n d) (closure n e)
-  closure-agree a b v w = rw (via-agree n (omega arith) a b v w)
-
   pub circle-agree : circle n d ≡ circle n e
   circle-agree = first-agree (λ a. path n d a a) (λ a. path n e a a) n (λ a w. via-agree n (omega arith) a a w (omega arith))
 

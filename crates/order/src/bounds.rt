@@ -11,7 +11,7 @@ ghost use Rattle.order.specs.Bound.{upper, least, glb, turned, partnerWi
 ghost use Rattle.order.specs.Table.{marks, mark};
 
 // The set of the first n things.
-pub fn first_things(n: usize) -> [bool; 32]
+fn first_things(n: usize) -> [bool; 32]
     ensures { λ r. ⌜ ((a : ℕ) → Among 32 a → marks r a ≡ leb a n) ⌝ }
 {
     let mut r = [false; 32];
@@ -24,7 +24,7 @@ pub fn first_things(n: usize) -> [bool; 32]
 }
 
 // What two sets have in common.
-pub fn common(s: [bool; 32], t: [bool; 32]) -> [bool; 32]
+fn common(s: [bool; 32], t: [bool; 32]) -> [bool; 32]
     ensures { λ r. ⌜ ((a : ℕ) → Among 32 a → marks r a ≡ (marks s a && marks t a)) ⌝ }
 {
     let mut r = [false; 32];
@@ -60,7 +60,7 @@ fn leads(s: [bool; 32], under: [bool; 32], among: bool) -> bool
 }
 
 // The greatest of the set, or 0. Where several are over all of it, the lowest number of them.
-pub fn greatest(t: &[[bool; 32]; 32], s: &[bool; 32]) -> usize
+fn greatest(t: &[[bool; 32]; 32], s: &[bool; 32]) -> usize
     ensures { λ r. ⌜ r ≡ least 32 (turned (mark (now (t .entry)))) (marks (now (s .entry))) ⌝ }
 {
     let set = *s;
@@ -86,7 +86,7 @@ fn narrowed(s: [bool; 32], under: [bool; 32], on: bool) -> [bool; 32]
 }
 
 // The lower bounds of the set among the first n things.
-pub fn lower_bounds(t: &[[bool; 32]; 32], n: usize, s: [bool; 32]) -> [bool; 32]
+fn lower_bounds(t: &[[bool; 32]; 32], n: usize, s: [bool; 32]) -> [bool; 32]
     ensures { λ r. ⌜ ((c : ℕ) → Among 32 c → marks r c ≡ (leb c (min n 32) && upper (min n 32) (turned (mark (now (t .entry)))) (marks s) c)) ⌝ }
 {
     let m = super::marks::lesser(n, 32);

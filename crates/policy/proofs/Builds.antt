@@ -1,70 +1,34 @@
 -- The stages of a load put together: the verdict is the first refusal of the stages, and each table stays as its stage left it. Assumes nothing.
-use Prim.Native.Nat.{ℕ, zero, suc, _+_, _*_, _-_, _≤_, _<_}
-use mathlib.Core.Path.{_≡_, refl, sym, ap, _∙_}
+use Prim.Native.Nat.{ℕ, _+_, _*_, _-_, _≤_, _<_}
+use mathlib.Core.Path.{_≡_, sym, _∙_}
 use mathlib.Core.List.{List}
 use native.Mathlib.Omega.{arith}
 use lib.ListN.{getD}
 use Rattle.roleset.specs.Row.{member}
 use Rattle.roleset.proofs.Rows.{same-bytes}
-use Rattle.order.specs.Closure.{circle}
-use Rattle.order.specs.Bound.{partnerWithoutBound, unjoined}
 use Rattle.rolefile.specs.declared.Verdict.{Verdict}
 use Rattle.rolefile.specs.Line.{lines}
-use Rattle.rolefile.specs.Form.{fine, refusal, unless, either, _then_, sized, scan, found, lineVerdict, linesVerdict, unlabelledVerdict, formVerdict}
-use Rattle.rolefile.specs.Said.{labels, roles, over}
-use Rattle.rolefile.proofs.Verdicts.{Refuses, then-next, then-stop}
-use Rattle.policy.specs.Policy.{dominates}
-use Rattle.policy.specs.Verdict.{assignmentVerdict, policyVerdict, verdict}
+use Rattle.rolefile.specs.Form.{_then_, scan, linesVerdict, unlabelledVerdict, formVerdict}
+use Rattle.rolefile.specs.Said.{labels, roles}
+use Rattle.rolefile.proofs.Verdicts.{Refuses, then-next, then-stop, then-joined}
+use Rattle.policy.specs.Verdict.{labelVerdict, roleVerdict, assignmentVerdict, policyVerdict, verdict}
 use Rattle.policy.specs.Tables.{dominanceAt, clearancesAt, cardLabelsAt, rLevelsAt, wLevelsAt, seniorsAt, assignedAt, readersAt, writersAt, word, rowOf}
 use Rattle.policy.specs.Image.{Labelled, Dominating, Seniors, Permitting, Levelled, Describes, Image}
-use Rattle.policy.specs.Stages.{Zeros, Noting, roleVerdict, Ranking, Granting, Finishing, Built}
+use Rattle.policy.specs.Stages.{Zeros, Noting, Ranking, Granting, Finishing, Built}
 
 -- ---- the verdict, stage by stage
 
-then-joined : (u v w : Verdict) → ((u then v) then w) ≡ (u then (v then w))
-then-joined u v w = go (u .number) refl
-  where
-    go : (n : ℕ) → u .number ≡ n → (either n u v then w) ≡ either n u (v then w)
-    go zero e = refl
-    go (suc n) e = then-stop u w (λ z. omega arith)
-
--- 11 and 12
-unfoldable pub labelVerdict : List ℕ → Verdict
-labelVerdict f =
-    let a = circle (labels f) (over f) in
-    let b = unjoined (labels f) (dominates f) in
-    found a (refusal 11 a 0) then found b (refusal 12 b (partnerWithoutBound (labels f) (dominates f) b))
-
 module _ (f : List ℕ) where
-  pub last-stage : Verdict
-  last-stage = scan (lines f) (assignmentVerdict f)
-
-  pub third-stage : Verdict
-  third-stage = labelVerdict f then (roleVerdict f then scan (lines f) (assignmentVerdict f))
-
-  policy-stages : policyVerdict f ≡ third-stage
-  unfolding policyVerdict labelVerdict roleVerdict third-stage
-  policy-stages =
-      let a = circle (labels f) (over f) in
-      let b = unjoined (labels f) (dominates f) in
-      sym (then-joined (found a (refusal 11 a 0)) (found b (refusal 12 b (partnerWithoutBound (labels f) (dominates f) b)))
-      (roleVerdict f then scan (lines f) (assignmentVerdict f)))
-
-  pub stages : verdict f ≡ (linesVerdict f then (unlabelledVerdict f then third-stage))
-  unfolding verdict formVerdict linesVerdict
-  stages =
-      then-joined (unless (sized f) (refusal 1 0 0) fine) (scan (lines f) (lineVerdict f) then unlabelledVerdict f) (policyVerdict f)
-      ∙ ap (λ v. unless (sized f) (refusal 1 0 0) fine then v)
-      (then-joined (scan (lines f) (lineVerdict f)) (unlabelledVerdict f) (policyVerdict f)
-      ∙ ap (λ v. scan (lines f) (lineVerdict f) then (unlabelledVerdict f then v)) policy-stages)
-      ∙ sym (then-joined (unless (sized f) (refusal 1 0 0) fine) (scan (lines f) (lineVerdict f)) (unlabelledVerdict f then third-stage))
+  stages : verdict f ≡ (linesVerdict f then (unlabelledVerdict f then policyVerdict f))
+  unfolding verdict formVerdict
+  stages = then-joined (linesVerdict f) (unlabelledVerdict f) (policyVerdict f)
 
   -- each stage's refusal is the file's where those before refuse nothing
   pub refused-lines : Refuses (linesVerdict f) → linesVerdict f ≡ verdict f
   refused-lines h = sym (stages ∙ then-stop (linesVerdict f) _ h)
 
   module _ (first : linesVerdict f .number ≡ 0) where
-    from-second : verdict f ≡ (unlabelledVerdict f then third-stage)
+    from-second : verdict f ≡ (unlabelledVerdict f then policyVerdict f)
     from-second = stages ∙ then-next (linesVerdict f) _ first
 
     pub refused-labels : Refuses (unlabelledVerdict f) → unlabelledVerdict f ≡ verdict f
@@ -72,7 +36,7 @@ module _ (f : List ℕ) where
 
     module _ (second : unlabelledVerdict f .number ≡ 0) where
       from-third : verdict f ≡ (labelVerdict f then (roleVerdict f then scan (lines f) (assignmentVerdict f)))
-      unfolding third-stage
+      unfolding policyVerdict
       from-third = from-second ∙ then-next (unlabelledVerdict f) _ second
 
       pub refused-order : Refuses (labelVerdict f) → labelVerdict f ≡ verdict f

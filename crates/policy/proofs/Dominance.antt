@@ -16,13 +16,14 @@ use Rattle.order.specs.Table.{mark, Rows, reflexive}
 use Rattle.order.proofs.Closure.{via-agree}
 use Rattle.order.proofs.Bound.{first-apart-agree}
 use Rattle.rolefile.specs.Line.{D, fields}
-use Rattle.rolefile.specs.Form.{refusal, _then_, found, header}
+use Rattle.rolefile.specs.Form.{refusal, found, header}
 use Rattle.rolefile.specs.Said.{labels, over}
 use Rattle.rolefile.specs.Section.{one, two}
 use Rattle.rolefile.proofs.Sections.{part, Section, says-two}
 use Rattle.policy.specs.Policy.{dominates}
 use Rattle.policy.specs.Tables.{pairs}
-use Rattle.policy.specs.Stages.{Paths, Closed, orderVerdict}
+use Rattle.policy.specs.Verdict.{orderVerdict, labelVerdict}
+use Rattle.policy.specs.Stages.{Paths, Closed}
 use Rattle.policy.proofs.Marked.{Marking}
 use Rattle.policy.proofs.Readying.{Good, one-within, limits-d}
 
@@ -72,11 +73,8 @@ apart-verdict n ge a b h = rw (← (h .lower)) (go a (h .higher))
     go (suc a) e = rw (e, lt-ltb 0 (suc a) (omega arith))
 
 pub order-verdict-is : (f : List ℕ) (t c : List (List Bool)) → labels f ≤ 32 → Paths f t → Closed f c
-    → orderVerdict (labels f) (mark t) (mark c)
-    ≡ (found (circle (labels f) (over f)) (refusal 11 (circle (labels f) (over f)) 0)
-    then found (unjoined (labels f) (dominates f))
-    (refusal 12 (unjoined (labels f) (dominates f)) (partnerWithoutBound (labels f) (dominates f) (unjoined (labels f) (dominates f)))))
-unfolding orderVerdict
+    → orderVerdict (labels f) (mark t) (mark c) ≡ labelVerdict f
+unfolding orderVerdict labelVerdict
 order-verdict-is f t c few p closed =
     rw (loops, apart-verdict n (mark c) a b here, apart-verdict n (dominates f) a b (first-apart-agree n (mark c) (dominates f) agree a b here))
   where

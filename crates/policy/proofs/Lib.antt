@@ -1,4 +1,5 @@
 pub mod Levels
+pub mod Defined
 pub mod Checks
 pub mod Outcomes
 pub mod Relating

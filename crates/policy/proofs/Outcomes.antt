@@ -4,17 +4,18 @@ use mathlib.Core.Path.{_≡_, refl, sym}
 use mathlib.Core.Logic.{_↔_, _⊎_, inl, inr, ⊎-elim}
 use mathlib.Core.List.{List}
 use native.Mathlib.Omega.{arith}
-use Rattle.order.specs.Closure.{Relation}
-use Rattle.order.specs.Bound.{AllJoined}
+use Rattle.order.specs.Closure.{Relation, circle}
+use Rattle.order.specs.Bound.{unjoined, partnerWithoutBound, AllJoined}
 use Rattle.rolefile.specs.declared.Verdict.{Verdict}
 use Rattle.rolefile.specs.Line.{U, O, lines}
-use Rattle.rolefile.specs.Form.{fine, refusal}
+use Rattle.rolefile.specs.Form.{fine, refusal, _then_, scan, found}
 use Rattle.rolefile.specs.Said.{labels, roles, users, cards, over, above}
 use Rattle.rolefile.specs.WellFormed.{WellFormed}
+use Rattle.rolefile.proofs.Verdicts.{then-joined}
 use Rattle.rolefile.proofs.Decides.{Decides, Else, Earliest, decides-zero, decides-fine, decides-when, then-decides, scan-decides}
 use Rattle.rolefile.proofs.Formed.{LineRefusal, LowestWithout, FormRefusal, form-decides}
 use Rattle.policy.specs.Policy.{dominates, senior}
-use Rattle.policy.specs.Verdict.{policyVerdict, verdict}
+use Rattle.policy.specs.Verdict.{orderVerdict, labelVerdict, roleVerdict, assignmentVerdict, policyVerdict, verdict}
 use Rattle.policy.specs.Accepted.{GoodOrder, LabelOrder, Accepted, LineRefused, LowestUnlabelled, LowestOnCircle, AssignRefused, Outcome}
 use Rattle.policy.specs.Accepted.{noHeader, badCounts, malformed, badNumbers, unordered, noLevel, readsMore, writesLess}
 use Rattle.policy.specs.Accepted.{accepted, badSize, badLine, badUser, badCard, labelCircle, noBound, roleCircle, badAssignment}
@@ -50,9 +51,13 @@ Refusal f =
     (Earliest (GoodAssignment f) (AssignmentRefusal f) (lines f)))))
 
 verdict-decides : (f : List ℕ) → Decides (verdict f) (Accepted f) (Refusal f)
-unfolding verdict policyVerdict dominates senior
+unfolding verdict policyVerdict labelVerdict orderVerdict roleVerdict dominates senior
 verdict-decides f =
-    decides-when
+    let a = circle (labels f) (over f) in
+    let b = unjoined (labels f) (dominates f) in
+    rw (then-joined (found a (refusal 11 a 0)) (found b (refusal 12 b (partnerWithoutBound (labels f) (dominates f) b)))
+    (roleVerdict f then scan (lines f) (assignmentVerdict f)))
+    (decides-when
     (then-decides (form-decides f) (λ w.
     then-decides (circle-decides (labels f) (over f) 10) (λ d.
     then-decides (pair-decides (labels f) (dominates f) (d .order)) (λ j.
@@ -60,7 +65,7 @@ verdict-decides f =
     scan-decides (assignment-decides f (d .order)) (lines f)))))) (
       λ (w, (d, (j, (s, a)))). record { ordered = record { form = w; dominance = d; joins = j }; seniority = s; assignments = a },
       λ a. let o = a .ordered in (o .form, (o .dominance, (o .joins, (a .seniority, a .assignments)))),
-    )
+    ))
 
 on-circle : (n : ℕ) (e : Relation) (a : ℕ) → OnCircleFirst n e a ↔ LowestOnCircle n e a
 on-circle n e a = (λ (w, c, low). record { inside = w; circle = c; lower = low }, λ l. (l .inside, l .circle, l .lower))

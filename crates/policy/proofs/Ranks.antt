@@ -26,7 +26,8 @@ use Rattle.rolefile.proofs.Sections.{part, Section, says-two}
 use Rattle.policy.specs.Policy.{senior}
 use Rattle.policy.specs.Tables.{rowOf, seniorsAt, Kept, pairs, Related}
 use Rattle.policy.specs.Image.{Seniors}
-use Rattle.policy.specs.Stages.{Ready, Zeros, roleVerdict, Ranking}
+use Rattle.policy.specs.Verdict.{roleVerdict}
+use Rattle.policy.specs.Stages.{Ready, Zeros, Ranking}
 use Rattle.policy.specs.declared.build.Parts.{Parts}
 use Rattle.policy.proofs.Readying.{Good, good-of, counts-of, section-s, one-within, two-within, limits-s}
 

@@ -6,19 +6,18 @@ use mathlib.Core.Bool.{Bool, false, _&&_}
 use lib.Dec.{leb}
 use lib.ListN.{getD, drop}
 use Rattle.search.specs.Search.{Among}
-use Rattle.order.specs.Closure.{Relation, path, loop, circle}
-use Rattle.order.specs.Bound.{partnerWithoutBound, unjoined}
+use Rattle.order.specs.Closure.{path}
 use Rattle.order.specs.Table.{mark}
 use Rattle.rolefile.specs.declared.Line.{Line}
 use Rattle.rolefile.specs.declared.Verdict.{Verdict}
 use Rattle.rolefile.specs.Line.{lineAt}
-use Rattle.rolefile.specs.Form.{refusal, _then_, found, linesVerdict, unlabelledVerdict}
-use Rattle.rolefile.specs.Said.{labels, roles, over, above}
+use Rattle.rolefile.specs.Form.{linesVerdict, unlabelledVerdict}
+use Rattle.rolefile.specs.Said.{labels, over}
 use Rattle.rolefile.specs.Section.{Leads}
 use Rattle.policy.specs.declared.build.Parts.{Parts}
 use Rattle.policy.specs.Policy.{dominates}
 use Rattle.policy.specs.Tables.{word, Kept}
-use Rattle.policy.specs.Verdict.{verdict}
+use Rattle.policy.specs.Verdict.{roleVerdict, verdict}
 use Rattle.policy.specs.Image.{Labelled, Dominating, Seniors, Permitting, Levelled, Assigning, Counted, Image}
 
 -- the lines of each letter stand where q says
@@ -60,17 +59,7 @@ pub record Paths (f : List ℕ) (t : List (List Bool)) : Type 0 where
 abbrev pub Closed : List ℕ → List (List Bool) → Type 0
 Closed f t = (a b : ℕ) → Among 32 a → Among 32 b → mark t a b ≡ (leb a (labels f) && dominates f a b)
 
--- 11 and 12, of paths and of a closed order
-unfoldable pub orderVerdict : ℕ → Relation → Relation → Verdict
-orderVerdict n paths ge =
-    let a = loop n paths in
-    let b = unjoined n ge in
-    found a (refusal 11 a 0) then found b (refusal 12 b (partnerWithoutBound n ge b))
-
 -- 13
-unfoldable pub roleVerdict : List ℕ → Verdict
-roleVerdict f = let r = circle (roles f) (above f) in found r (refusal 13 r 0)
-
 pub record Ranking (f : List ℕ) (v : Verdict) (xs ys : List ℕ) : Type 0 where
   pub answer : v ≡ roleVerdict f
   pub done : v .number ≡ 0 → Seniors f ys

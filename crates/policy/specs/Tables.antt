@@ -7,7 +7,7 @@ use lib.Dec.{leb, eqb}
 use lib.ListN.{length, getD}
 use Rattle.search.specs.Search.{among, some, Among}
 use Rattle.roleset.specs.Row.{member}
-use Rattle.order.specs.Closure.{Relation}
+use Rattle.order.specs.Closure.{Relation, circle}
 use Rattle.rolefile.specs.declared.Verdict.{Verdict}
 use Rattle.rolefile.specs.Form.{fine, refusal, unless}
 use Rattle.rolefile.specs.Section.{one, two, three}
@@ -116,7 +116,7 @@ pub record Granted (said : ℕ → ℕ → ℕ → Bool) (xs ys : List ℕ) : Ty
 unfoldable pub flowing : List ℕ → ℕ → Relation
 flowing xs n r q = not (eqb r q) && some n (λ o. member xs (rowOf writersAt o) r && member xs (rowOf readersAt o) q)
 
--- the counts that a state holds, none above its limit
+-- the counts in a state, none above its limit
 abbrev pub rolesUpTo : List ℕ → ℕ
 rolesUpTo xs = min (word xs 2) 128
 
@@ -127,11 +127,30 @@ cardsUpTo xs = min (word xs 6) 512
 abbrev pub isState : List ℕ → Bool
 isState xs = leb stateSize (length xs)
 
--- role flow in a state; what is too short for one has none
+-- ---- what a list of bytes tells of its roles; what is too short for a state has none
+
+abbrev pub roleCount : List ℕ → ℕ
+roleCount xs = cond (isState xs) (rolesUpTo xs) 0
+
+abbrev pub cardCount : List ℕ → ℕ
+cardCount xs = cond (isState xs) (cardsUpTo xs) 0
+
+-- the role's byte of the table of levels at `at`
+abbrev pub levelIn : List ℕ → ℕ → ℕ → ℕ
+levelIn xs at role = cond (isState xs && among 128 role) (byteOf xs at role) 0
+
 abbrev pub flowsIn : List ℕ → Relation
 flowsIn xs r q = isState xs && flowing xs (cardsUpTo xs) r q
 
+-- the lowest role on a circle of flow, or 0
+abbrev pub circleIn : List ℕ → ℕ
+circleIn xs = cond (isState xs) (circle (rolesUpTo xs) (flowing xs (cardsUpTo xs))) 0
+
 -- ---- 14 to 16 by the tables
+
+-- label a dominates label b, one of which is a level: 0, a free one, always passes; 99, an undefined one, is no label and never does
+abbrev pub passesIn : List ℕ → ℕ → ℕ → ℕ → Bool
+passesIn xs level a b = eqb level 0 || marked xs a b
 
 unfoldable pub assignByTables : List ℕ → ℕ → ℕ → Verdict
 assignByTables xs u r =
@@ -139,5 +158,5 @@ assignByTables xs u r =
     let reads = byteOf xs rLevelsAt r in
     let writes = byteOf xs wLevelsAt r in
     unless (not (eqb writes 99)) (refusal 14 u r)
-    (unless (eqb reads 0 || marked xs c reads) (refusal 15 u r)
-    (unless (eqb writes 0 || marked xs writes c) (refusal 16 u r) fine))
+    (unless (passesIn xs reads c reads) (refusal 15 u r)
+    (unless (passesIn xs writes writes c) (refusal 16 u r) fine))

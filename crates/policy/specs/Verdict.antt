@@ -3,13 +3,27 @@ use Prim.Native.Nat.{ℕ}
 use mathlib.Core.List.{List}
 use mathlib.Core.Bool.{cond}
 use lib.Dec.{eqb}
-use Rattle.order.specs.Closure.{circle}
+use Rattle.order.specs.Closure.{Relation, path, loop, circle}
 use Rattle.order.specs.Bound.{unjoined, partnerWithoutBound}
 use Rattle.rolefile.specs.declared.Verdict.{Verdict}
 use Rattle.rolefile.specs.Line.{A, lineAt, lines}
 use Rattle.rolefile.specs.Form.{fine, refusal, unless, _then_, scan, found, formVerdict}
 use Rattle.rolefile.specs.Said.{labels, roles, over, above, clearance}
 use Rattle.policy.specs.Policy.{dominates, rLevel, wLevel, passes, isDefined}
+
+-- 11 and 12, of the paths over a relation and of the order that they close it to
+unfoldable pub orderVerdict : ℕ → Relation → Relation → Verdict
+orderVerdict n paths ge =
+    let a = loop n paths in
+    let b = unjoined n ge in
+    found a (refusal 11 a 0) then found b (refusal 12 b (partnerWithoutBound n ge b))
+
+unfoldable pub labelVerdict : List ℕ → Verdict
+labelVerdict f = orderVerdict (labels f) (path (labels f) (over f)) (dominates f)
+
+-- 13
+unfoldable pub roleVerdict : List ℕ → Verdict
+roleVerdict f = let r = circle (roles f) (above f) in found r (refusal 13 r 0)
 
 -- 14 to 16: "the w-level must not be undefined, the clearance must dominate the r-level, and the w-level must dominate the clearance"
 unfoldable pub assignVerdict : List ℕ → ℕ → ℕ → Verdict
@@ -24,14 +38,7 @@ assignmentVerdict f i = cond (eqb (lineAt f i .letter) A) (assignVerdict f (line
 
 -- "11, 12, 13, then assignments in file order, 14 to 16 within each"
 unfoldable pub policyVerdict : List ℕ → Verdict
-policyVerdict f =
-    let a = circle (labels f) (over f) in
-    let b = unjoined (labels f) (dominates f) in
-    let r = circle (roles f) (above f) in
-    found a (refusal 11 a 0)
-    then (found b (refusal 12 b (partnerWithoutBound (labels f) (dominates f) b))
-    then (found r (refusal 13 r 0)
-    then scan (lines f) (assignmentVerdict f)))
+policyVerdict f = labelVerdict f then (roleVerdict f then scan (lines f) (assignmentVerdict f))
 
 unfoldable pub verdict : List ℕ → Verdict
 verdict f = formVerdict f then policyVerdict f

@@ -18,8 +18,8 @@ ghost use Rattle.rolefile.specs.Section.{Leads};
 ghost use Rattle.rolefile.specs.WellFormed.{GoodCounts};
 ghost use Rattle.policy.specs.Tables.{word, Kept};
 ghost use Rattle.policy.specs.Image.{Labelled, Seniors, Levelled, Dominating};
-ghost use Rattle.policy.specs.Verdict.{assignmentVerdict};
-ghost use Rattle.policy.specs.Stages.{Laid, Ready, Zeros, Noting, Paths, Closed, orderVerdict, Ranking, Granting, Counts, Finishing, Built, Copied};
+ghost use Rattle.policy.specs.Verdict.{orderVerdict, assignmentVerdict};
+ghost use Rattle.policy.specs.Stages.{Laid, Ready, Zeros, Noting, Paths, Closed, Ranking, Granting, Counts, Finishing, Built, Copied};
 
 // The lines of one letter: how many stand before them, and how many they are.
 pub struct Part {

@@ -2,15 +2,14 @@
 //
 // Every public function takes any slice. One that is too short to be a state has no roles.
 ghost use mathlib.Core.Path.{_≡_};
-ghost use mathlib.Core.Bool.{not, _&&_, _||_, cond};
+ghost use mathlib.Core.Bool.{not, _&&_, _||_};
 ghost use Prim.Native.Nat.{ℕ, _+_, _*_, _≤_, _<_};
 ghost use lib.Dec.{eqb};
 ghost use lib.ListN.{length};
-ghost use Rattle.search.specs.Search.{among, some, Among};
+ghost use Rattle.search.specs.Search.{some, Among};
 ghost use Rattle.roleset.specs.Row.{member, Placed};
-ghost use Rattle.order.specs.Closure.{circle};
 ghost use Rattle.order.specs.Table.{related, Tabled};
-ghost use Rattle.policy.specs.Tables.{word, byteOf, rowOf, rLevelsAt, wLevelsAt, readersAt, writersAt, flowing, rolesUpTo, cardsUpTo, isState, flowsIn};
+ghost use Rattle.policy.specs.Tables.{word, rowOf, rLevelsAt, wLevelsAt, readersAt, writersAt, roleCount, cardCount, levelIn, flowsIn, circleIn};
 
 // The number in two bytes, the lower first.
 fn word(s: &[u8], at: usize) -> usize
@@ -22,7 +21,7 @@ fn word(s: &[u8], at: usize) -> usize
 
 // How many roles the state holds.
 pub fn roles(s: &[u8]) -> usize
-    ensures { λ r. ⌜ r ≡ cond (isState (now (s .entry))) (rolesUpTo (now (s .entry))) 0 ⌝ }
+    ensures { λ r. ⌜ r ≡ roleCount (now (s .entry)) ⌝ }
 {
     if s.len() < 65536 {
         return 0;
@@ -31,8 +30,8 @@ pub fn roles(s: &[u8]) -> usize
 }
 
 // How many cards the state holds.
-pub fn cards(s: &[u8]) -> usize
-    ensures { λ r. ⌜ r ≡ cond (isState (now (s .entry))) (cardsUpTo (now (s .entry))) 0 ⌝ }
+fn cards(s: &[u8]) -> usize
+    ensures { λ r. ⌜ r ≡ cardCount (now (s .entry)) ⌝ }
 {
     if s.len() < 65536 {
         return 0;
@@ -43,7 +42,7 @@ pub fn cards(s: &[u8]) -> usize
 // The role's byte of the table of levels at `at`.
 fn level(s: &[u8], at: usize, role: usize) -> u8
     requires { ⌜ at + 128 ≤ 65536 ⌝ }
-    ensures { λ r. ⌜ r ≡ cond (isState (now (s .entry)) && among 128 role) (byteOf (now (s .entry)) at role) 0 ⌝ }
+    ensures { λ r. ⌜ r ≡ levelIn (now (s .entry)) at role ⌝ }
 {
     if s.len() < 65536 {
         return 0;
@@ -59,14 +58,14 @@ fn level(s: &[u8], at: usize, role: usize) -> u8
 
 // The r-level of a role: its label, 0 for free, 99 for undefined; 0 for a number that is no role's.
 pub fn r_level(s: &[u8], role: usize) -> u8
-    ensures { λ r. ⌜ r ≡ cond (isState (now (s .entry)) && among 128 role) (byteOf (now (s .entry)) rLevelsAt role) 0 ⌝ }
+    ensures { λ r. ⌜ r ≡ levelIn (now (s .entry)) rLevelsAt role ⌝ }
 {
     level(s, 1808, role)
 }
 
 // The w-level of a role, in the same way.
 pub fn w_level(s: &[u8], role: usize) -> u8
-    ensures { λ r. ⌜ r ≡ cond (isState (now (s .entry)) && among 128 role) (byteOf (now (s .entry)) wLevelsAt role) 0 ⌝ }
+    ensures { λ r. ⌜ r ≡ levelIn (now (s .entry)) wLevelsAt role ⌝ }
 {
     level(s, 1936, role)
 }
@@ -81,7 +80,7 @@ fn passes(s: &[u8], o: usize, from: usize, to: usize) -> bool
 
 // Whether role `from` flows to role `to`.
 pub fn flows(s: &[u8], from: usize, to: usize) -> bool
-    ensures { λ r. ⌜ r ≡ (isState (now (s .entry)) && flowing (now (s .entry)) (cardsUpTo (now (s .entry))) from to) ⌝ }
+    ensures { λ r. ⌜ r ≡ flowsIn (now (s .entry)) from to ⌝ }
 {
     if s.len() < 65536 {
         return false;
@@ -163,7 +162,7 @@ pub fn table(s: &[u8]) -> [u8; 2048]
 
 // The lowest role on a circle of flow, or 0.
 pub fn flow_circle(s: &[u8]) -> usize
-    ensures { λ r. ⌜ r ≡ cond (isState (now (s .entry))) (circle (rolesUpTo (now (s .entry))) (flowing (now (s .entry)) (cardsUpTo (now (s .entry))))) 0 ⌝ }
+    ensures { λ r. ⌜ r ≡ circleIn (now (s .entry)) ⌝ }
 {
     if s.len() < 65536 {
         return 0;

@@ -15,7 +15,6 @@ use Rattle.search.specs.Search.{some}
 use Rattle.rolefile.specs.Decimal.{digits, columnsOf}
 use Rattle.text.specs.Text.{ascii}
 use Rattle.monitor.specs.Review.{counted, clearanceOf, mayOpen, mayTake}
-use Rattle.rights.specs.declared.list.Listed.{Listed}
 use Rattle.rights.specs.declared.list.Listed.the-variants.{Assigned, Inherited, Taken, Untaken, Read, Written, Unread}
 use Rattle.rights.specs.Lists.{rangesOf}
 

@@ -1,12 +1,7 @@
 // What the program is asked.
 ghost use mathlib.Core.Path.{_≡_};
-ghost use mathlib.Core.Bool.{cond};
-ghost use Prim.Native.Nat.{_<_, _≤_};
-ghost use lib.ListN.{length};
-ghost use Rattle.text.specs.Text.{ascii};
+ghost use Prim.Native.Nat.{_<_};
 ghost use Rattle.rolefile.specs.Field.{isDigit};
-ghost use Rattle.monitor.specs.Review.{counted};
-ghost use Rattle.search.specs.Search.{among};
 ghost use Rattle.rights.specs.Arguments as arguments;
 
 // Whether the byte is a digit.

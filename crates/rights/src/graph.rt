@@ -3,12 +3,12 @@
 // Relations among the labels or the roles are looked at as tables of 128 rows of 16 bytes, as in
 // `order::rows`: row a has the things that a is related to.
 ghost use mathlib.Core.Path.{_≡_};
-ghost use mathlib.Core.Bool.{_&&_, _||_};
+ghost use mathlib.Core.Bool.{_&&_};
 ghost use Prim.Native.Nat.{ℕ, _+_, _≤_, _<_};
-ghost use lib.Dec.{leb, eqb};
+ghost use lib.Dec.{leb};
 ghost use lib.ListN.{length, take};
-ghost use Rattle.search.specs.Search.{among, Among};
-ghost use Rattle.roleset.specs.Row.{member, Placed};
+ghost use Rattle.search.specs.Search.{Among};
+ghost use Rattle.roleset.specs.Row.{member};
 ghost use Rattle.order.specs.Table.{related};
 ghost use Rattle.text.specs.Text.{Puts};
 ghost use Rattle.rights.specs.Graph as graph;

@@ -5,8 +5,7 @@ use mathlib.Core.List.{List}
 use native.Mathlib.Omega.{arith}
 use Rattle.search.proofs.Found.{first-within}
 use Rattle.order.specs.Closure.{path}
-use Rattle.policy.specs.Tables.{isState, flowing, rolesUpTo, cardsUpTo}
-use Rattle.rolecheck.specs.Report.{roleCount, circleIn}
+use Rattle.policy.specs.Tables.{isState, flowing, rolesUpTo, cardsUpTo, roleCount, circleIn}
 
 few : (b : Bool) {m : ℕ} → m ≤ 128 → cond b m 0 ≤ 128
 few true l = l

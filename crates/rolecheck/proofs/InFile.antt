@@ -11,11 +11,11 @@ use Rattle.rolefile.specs.Said.{roles}
 use Rattle.rolefile.specs.WellFormed.{WellFormed}
 use Rattle.policy.specs.Policy.{rLevel, wLevel, shown}
 use Rattle.policy.specs.Flow.{flows, flowCircle}
-use Rattle.policy.specs.Tables.{rLevelsAt, wLevelsAt}
+use Rattle.policy.specs.Tables.{rLevelsAt, wLevelsAt, levelIn, flowsIn, roleCount, circleIn}
 use Rattle.policy.specs.Image.{Describes}
 use Rattle.policy.proofs.Flowing.{a-state}
 use Rattle.policy.proofs.Meaning.{counts-known, roles-file, flow-file, circle-file}
-use Rattle.rolecheck.specs.Report.{roleLines, flowLine, flowsFrom, flowLines, policyLines, fileLines, levelIn, flowIn, roleCount, circleIn, stateLines}
+use Rattle.rolecheck.specs.Report.{roleLines, flowLine, flowsFrom, flowLines, policyLines, fileLines, stateLines}
 
 -- ---- the lines see only the levels and the flow of the n roles
 
@@ -52,7 +52,7 @@ module _ (f : List ℕ) (form : WellFormed f) (xs : List ℕ) (long : 65536 ≤ 
   levels-file r w =
       rw (a-state xs long, among-iff 128 r .1 (role r w)) (tables .levelled .reads r (role r w), tables .levelled .writes r (role r w))
 
-  pub flow-in-file : (r q : ℕ) → Among (roles f) r → Among (roles f) q → flowIn xs r q ≡ flows f r q
+  pub flow-in-file : (r q : ℕ) → Among (roles f) r → Among (roles f) q → flowsIn xs r q ≡ flows f r q
   flow-in-file r q v w = rw (a-state xs long) (flow-file f form xs tables r q (role r v) (role q w))
 
   pub circle-in-file : circleIn xs ≡ flowCircle f
@@ -65,5 +65,5 @@ module _ (f : List ℕ) (form : WellFormed f) (xs : List ℕ) (long : 65536 ≤ 
         count-file,
         circle-in-file,
         role-lines-agree (levelIn xs rLevelsAt) (λ r. shown (rLevel f r)) (levelIn xs wLevelsAt) (λ r. shown (wLevel f r)) (roles f) levels-file,
-        flow-lines-agree (flowIn xs) (flows f) (roles f) (roles f) flow-in-file,
+        flow-lines-agree (flowsIn xs) (flows f) (roles f) (roles f) flow-in-file,
       )

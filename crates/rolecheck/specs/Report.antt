@@ -2,16 +2,15 @@
 -- undefined), F for each flow in rising order (from, to), C (role on a circle or 0)"; of a file that is refused, V alone. Assumes nothing.
 use Prim.Native.Nat.{ℕ, zero, suc}
 use mathlib.Core.List.{List, [], _∷_, _++_}
-use mathlib.Core.Bool.{_&&_, cond}
+use mathlib.Core.Bool.{cond}
 use lib.Dec.{leb, eqb}
-use Rattle.search.specs.Search.{among}
-use Rattle.order.specs.Closure.{Relation, circle}
+use Rattle.order.specs.Closure.{Relation}
 use Rattle.rolefile.specs.Said.{roles}
 use Rattle.rolefile.specs.Decimal.{blanks, columnsOf}
 use Rattle.policy.specs.Policy.{rLevel, wLevel, shown}
 use Rattle.policy.specs.Verdict.{verdict}
 use Rattle.policy.specs.Flow.{flows, flowCircle}
-use Rattle.policy.specs.Tables.{byteOf, rLevelsAt, wLevelsAt, flowing, rolesUpTo, cardsUpTo, isState}
+use Rattle.policy.specs.Tables.{rLevelsAt, wLevelsAt, roleCount, levelIn, flowsIn, circleIn}
 
 -- a line: the byte of its letter, as many of three numbers as are in use, a field without use, and byte 10
 unfoldable pub line : ℕ → ℕ → ℕ → ℕ → ℕ → List ℕ
@@ -53,18 +52,5 @@ report f =
 
 -- ---- the same lines of a state
 
--- the role's byte of the table of levels at `at`
-abbrev pub levelIn : List ℕ → ℕ → ℕ → ℕ
-levelIn xs at role = cond (isState xs && among 128 role) (byteOf xs at role) 0
-
-abbrev pub flowIn : List ℕ → Relation
-flowIn xs from to = isState xs && flowing xs (cardsUpTo xs) from to
-
-abbrev pub roleCount : List ℕ → ℕ
-roleCount xs = cond (isState xs) (rolesUpTo xs) 0
-
-abbrev pub circleIn : List ℕ → ℕ
-circleIn xs = cond (isState xs) (circle (rolesUpTo xs) (flowing xs (cardsUpTo xs))) 0
-
 abbrev pub stateLines : List ℕ → List ℕ
-stateLines xs = policyLines (roleCount xs) (levelIn xs rLevelsAt) (levelIn xs wLevelsAt) (flowIn xs) (circleIn xs)
+stateLines xs = policyLines (roleCount xs) (levelIn xs rLevelsAt) (levelIn xs wLevelsAt) (flowsIn xs) (circleIn xs)

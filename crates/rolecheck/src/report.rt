@@ -4,9 +4,9 @@ ghost use mathlib.Core.Path.{_≡_};
 ghost use Prim.Native.Nat.{_≤_, _<_};
 ghost use lib.ListN.{length, take};
 ghost use Rattle.io.specs.Counts.{Counts};
-ghost use Rattle.policy.specs.Tables.{rLevelsAt, wLevelsAt};
+ghost use Rattle.policy.specs.Tables.{rLevelsAt, wLevelsAt, levelIn, flowsIn, roleCount};
 ghost use Rattle.text.specs.Text.{Puts};
-ghost use Rattle.rolecheck.specs.Report.{levelIn, flowIn, roleCount, roleLines, flowLine, flowsFrom, flowLines, stateLines, report};
+ghost use Rattle.rolecheck.specs.Report.{roleLines, flowLine, flowsFrom, flowLines, stateLines, report};
 
 // Puts the line of each role into `out` after its first `at` bytes, and answers how many bytes are
 // then in use. So do the three functions below.
@@ -29,7 +29,7 @@ fn role_lines(state: &[u8], out: &mut [u8], at: usize) -> usize
 // The line of the flow from a role to another, where there is one.
 fn flow_line(state: &[u8], from: usize, to: usize, out: &mut [u8], at: usize) -> usize
     requires { ⌜ (from < 100000) × (to < 100000) × (at ≤ length (now out)) ⌝ }
-    ensures { λ r. ⌜ Puts (flowLine (flowIn (now (state .entry))) from to) at (now (out .entry)) r (now (out .exit)) ⌝ }
+    ensures { λ r. ⌜ Puts (flowLine (flowsIn (now (state .entry))) from to) at (now (out .entry)) r (now (out .exit)) ⌝ }
 {
     if !policy::flow::flows(state, from, to) {
         return at;
@@ -40,7 +40,7 @@ fn flow_line(state: &[u8], from: usize, to: usize, out: &mut [u8], at: usize) ->
 // The lines of the flows from a role, in rising order.
 fn flows_from(state: &[u8], from: usize, out: &mut [u8], at: usize) -> usize
     requires { ⌜ (from < 100000) × (at ≤ length (now out)) ⌝ }
-    ensures { λ r. ⌜ Puts (flowsFrom (flowIn (now (state .entry))) from (roleCount (now (state .entry)))) at (now (out .entry)) r (now (out .exit)) ⌝ }
+    ensures { λ r. ⌜ Puts (flowsFrom (flowsIn (now (state .entry))) from (roleCount (now (state .entry)))) at (now (out .entry)) r (now (out .exit)) ⌝ }
 {
     let n = policy::flow::roles(state);
     let mut used = at;
@@ -55,7 +55,7 @@ fn flows_from(state: &[u8], from: usize, out: &mut [u8], at: usize) -> usize
 // The lines of all flows, in rising order.
 fn flow_lines(state: &[u8], out: &mut [u8], at: usize) -> usize
     requires { ⌜ at ≤ length (now out) ⌝ }
-    ensures { λ r. ⌜ Puts (flowLines (flowIn (now (state .entry))) (roleCount (now (state .entry))) (roleCount (now (state .entry)))) at (now (out .entry)) r (now (out .exit)) ⌝ }
+    ensures { λ r. ⌜ Puts (flowLines (flowsIn (now (state .entry))) (roleCount (now (state .entry))) (roleCount (now (state .entry)))) at (now (out .entry)) r (now (out .exit)) ⌝ }
 {
     let n = policy::flow::roles(state);
     let mut used = at;

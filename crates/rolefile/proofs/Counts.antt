@@ -1,11 +1,10 @@
 -- The number of the things 1 to n of which p holds is 1 just where p holds of one of them alone, and then the last of them is that one.
 -- Assumes nothing.
 use Prim.Native.Nat.{ℕ, zero, suc, _+_}
-use mathlib.Core.Path.{_≡_, refl, ap}
+use mathlib.Core.Path.{_≡_, refl}
 use mathlib.Core.Logic.{_↔_, ⊎-elim}
 use mathlib.Core.Bool.{Bool, true, false, cond}
 use native.Mathlib.Omega.{arith}
-use native.Mathlib.Numerals.{add-one}
 use Rattle.search.specs.Search.{Among}
 use Rattle.search.proofs.Truth.{untrue, both}
 use Rattle.search.proofs.Found.{last-or, None}
@@ -54,21 +53,3 @@ module _ (p : ℕ → Bool) where
         λ z. let (a, s) = ih .0 (omega arith) in (a, alone-more n a e .0 s),
         λ (a, s). let q = ih .1 (a, alone-more n a e .1 s) in omega arith,
       )
-
-  pub last-alone : (v : ℕ → ℕ) (n a : ℕ) → Alone n a → last n p v ≡ v a
-  unfolding last
-  last-alone v zero a s = absurd (omega arith)
-  last-alone v (suc n) a s = go (p (suc n)) refl (last-alone v n a)
-    where
-      go : (b : Bool) → p (suc n) ≡ b → (Alone n a → last n p v ≡ v a) → cond b (v (suc n)) (last n p v) ≡ v a
-      go true e ih = ap v (s .2 (suc n) (omega arith) e)
-      go false e ih = ih (alone-more n a e .1 s)
-
-  -- one turn of a loop
-  pub count-more : (i : ℕ) → count (i + 1) p ≡ count i p + cond (p (i + 1)) 1 0
-  unfolding count
-  count-more i = rw add-one
-
-  pub last-more : (v : ℕ → ℕ) (i : ℕ) → last (i + 1) p v ≡ cond (p (i + 1)) (v (i + 1)) (last i p v)
-  unfolding last
-  last-more v i = rw add-one

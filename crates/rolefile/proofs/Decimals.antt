@@ -186,9 +186,6 @@ module _ (f : List ℕ) (at : ℕ) where
   pub field-blank : (fieldAt f at ≡ Blank) ↔ (five f at ≡ blanks)
   field-blank = reads-blank (five f at) refl
 
-  pub field-bad : (fieldAt f at ≡ Bad) ↔ ((five f at ≡ blanks → ⊥) × ((n : ℕ) → n < 100000 → five f at ≡ padded n → ⊥))
-  field-bad = reads-bad (five f at) refl
-
 -- ---- a number by its columns' last four bits: a blank is 32, the digit 0 is 48, and both are multiples of 16
 
 -- the figures v are the number that f says

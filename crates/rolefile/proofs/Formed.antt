@@ -16,13 +16,13 @@ use Rattle.rolefile.specs.declared.Line.{Line}
 use Rattle.rolefile.specs.declared.Verdict.{Verdict}
 use Rattle.rolefile.specs.Line.{H, U, O, P, lineAt, lines}
 use Rattle.rolefile.specs.Form.{refusal, sized, header, counted, firstLimit, secondLimit, ranged, before, rises}
-use Rattle.rolefile.specs.Form.{headVerdict, bodyVerdict, lineVerdict, count, about, unlabelled, found, unlabelledVerdict, formVerdict, fine}
-use Rattle.rolefile.specs.Said.{users, cards, labelBy}
+use Rattle.rolefile.specs.Form.{headVerdict, bodyVerdict, lineVerdict, count, about, unlabelled, found, unlabelledVerdict, linesVerdict, formVerdict, fine, unless, scan}
+use Rattle.rolefile.specs.Said.{users, cards}
 use Rattle.rolefile.specs.WellFormed.{Sized, GoodCounts, GoodNumbers, Before, Rises, GoodHead, GoodBody, GoodLine, One, WellFormed}
-use Rattle.rolefile.proofs.Verdicts.{Clean}
+use Rattle.rolefile.proofs.Verdicts.{Clean, then-joined}
 use Rattle.rolefile.proofs.Decides.{Decides, Fails, Else, Earliest, LowestOf, decides-fine, decides-clean, decides-when}
 use Rattle.rolefile.proofs.Decides.{then-decides, cond-decides, test-decides, unless-decides, search-decides, scan-decides}
-use Rattle.rolefile.proofs.Counts.{count-one, last-alone}
+use Rattle.rolefile.proofs.Counts.{count-one}
 
 -- ---- tests and what they tell
 
@@ -140,10 +140,6 @@ module _ (f : List ℕ) (k : ℕ) where
         λ o. eq-eqb (count (lines f) (about f k x)) 1 (t .1 (o .line, (o .inside, o .tells, o .only))),
       )
 
-  pub label-by : (x : ℕ) (o : One f k x) → labelBy f k x ≡ lineAt f (o .line) .b
-  unfolding labelBy
-  label-by x o = last-alone (about f k x) (λ i. lineAt f i .b) (lines f) (o .line) (o .inside, o .tells, o .only)
-
   -- the lowest of n things that has no line of the letter k or more than one
   abbrev pub LowestWithout : ℕ → ℕ → Type 0
   LowestWithout = LowestOf (λ x. One f k x → ⊥) (One f k)
@@ -178,16 +174,14 @@ FormRefusal f =
     (λ v. (o : ℕ) × LowestWithout f O (cards f) o × (v ≡ refusal 6 2 o))))
 
 pub form-decides : (f : List ℕ) → Decides (formVerdict f) (WellFormed f) (FormRefusal f)
-unfolding formVerdict unlabelledVerdict
+unfolding formVerdict linesVerdict unlabelledVerdict
 form-decides f =
-    decides-when
+    rw (then-joined (unless (sized f) (refusal 1 0 0) fine) (scan (lines f) (lineVerdict f)) (unlabelledVerdict f))
+    (decides-when
     (then-decides (test-decides (sized-iff f) (refusal 1 0 0) (omega arith)) (λ s.
     then-decides (scan-decides (line-decides f) (lines f)) (λ g.
     then-decides (unlabelled-decides f U (users f) 1) (λ u.
     unlabelled-decides f O (cards f) 2)))) (
       λ (s, (g, (u, o))). record { sized = s; good = g; user = u; card = o },
       λ w. (w .sized, (w .good, (w .user, w .card))),
-    )
-
-pub form-iff : (f : List ℕ) → (formVerdict f ≡ fine) ↔ WellFormed f
-form-iff f = decides-fine (form-decides f)
+    ))

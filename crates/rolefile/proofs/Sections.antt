@@ -15,10 +15,9 @@ use borrow.Author.Tests.{eqb-true, eq-eqb, le-leb}
 use Rattle.search.specs.Search.{Among, some}
 use Rattle.search.proofs.Truth.{and-iff}
 use Rattle.rolefile.specs.declared.Line.{Line}
-use Rattle.rolefile.specs.declared.Verdict.{Verdict}
 use Rattle.rolefile.specs.Field.{fieldAt}
 use Rattle.rolefile.specs.Line.{P, letterOf, fields, start, lineAt, lines}
-use Rattle.rolefile.specs.Form.{fine, scan, count, about}
+use Rattle.rolefile.specs.Form.{count, about}
 use Rattle.rolefile.specs.Said.{is, says, last, labelBy}
 use Rattle.rolefile.specs.WellFormed.{GoodLine}
 use Rattle.rolefile.specs.Decimal.{letterByte, inUse}
@@ -26,7 +25,7 @@ use Rattle.rolefile.specs.Section.{one, two, three, letterAt, Leads}
 use Rattle.rolefile.proofs.Decimals.{figures}
 use Rattle.rolefile.proofs.Written.{Reads, Stands, letter-iff, line-iff}
 use Rattle.rolefile.proofs.Parts.{part-line, part-lines}
-use Rattle.rolefile.proofs.Within.{Within, some-within, count-within, last-within, scan-within}
+use Rattle.rolefile.proofs.Within.{Within, some-within, count-within, last-within}
 
 -- the part of a file after j lines
 abbrev pub part : List ℕ → ℕ → List ℕ
@@ -90,9 +89,6 @@ module _ (f : List ℕ) (good : (k : ℕ) → Among (lines f) k → GoodLine f k
   first-byte : (i : ℕ) → Among (lines f) i → letterOf (getD f (start i) 0) ≡ lineAt f i .letter
   first-byte i w = line-iff f i (lineAt f i) .0 (refl, some-letter i w) .letter
 
-  pub letter-among : (i : ℕ) → Among (lines f) i → Among 7 (lineAt f i .letter)
-  letter-among i w = letter-iff (getD f (start i) 0) (lineAt f i .letter) .0 (first-byte i w, some-letter i w) .1
-
   -- a line's letter is k just where its first byte is that of k
   letter-byte : (i k : ℕ) → Among (lines f) i → Among 7 k → (lineAt f i .letter ≡ k) ↔ (letterAt f i ≡ letterByte k)
   unfolding letterAt
@@ -144,28 +140,9 @@ module _ (f : List ℕ) (good : (k : ℕ) → Among (lines f) k → GoodLine f k
 -- ---- searches for lines of one letter
 
 module _ {f : List ℕ} {k j m : ℕ} (s : Section f k j m) where
-  module _ (q : ℕ → Bool) (of : (i : ℕ) → Among (lines f) i → q i ≡ true → lineAt f i .letter ≡ k) where
-    only-within : (i : ℕ) → Among (lines f) i → q i ≡ true → Within j m i
-    only-within i w e = s .only i w (of i w e)
-
-    pub some-section : some (lines f) q ≡ some m (λ i. q (j + i))
-    some-section = some-within (lines f) j m (s .fits) q (λ i. q (j + i)) only-within (λ i w. refl)
-
-    pub count-section : count (lines f) q ≡ count m (λ i. q (j + i))
-    count-section = count-within (lines f) j m (s .fits) q (λ i. q (j + i)) only-within (λ i w. refl)
-
-    pub last-section : (v : ℕ → ℕ) → last (lines f) q v ≡ last m (λ i. q (j + i)) (λ i. v (j + i))
-    last-section v = last-within (lines f) j m (s .fits) q (λ i. q (j + i)) only-within (λ i w. refl) v (λ i. v (j + i)) (λ i w. refl)
-
   -- a test that begins with the letter
   tested : (rest : ℕ → Bool) (i : ℕ) → Among (lines f) i → (eqb (lineAt f i .letter) k && rest i) ≡ true → Within j m i
   tested rest i w e = s .only i w (eqb-true (lineAt f i .letter) k (and-iff (eqb (lineAt f i .letter) k) (rest i) .0 e .0))
-
-  -- v refuses lines of the letter k alone, and says nothing else where it does not refuse
-  pub scan-section : (v : ℕ → Verdict) → ((i : ℕ) → Among (lines f) i → v i .number ≡ 0 → v i ≡ fine)
-      → ((i : ℕ) → Among (lines f) i → (lineAt f i .letter ≡ k → ⊥) → v i ≡ fine) → scan (lines f) v ≡ scan m (λ i. v (j + i))
-  scan-section v clean other =
-      scan-within (lines f) j m (s .fits) v (λ i. v (j + i)) clean (λ i w out. other i w (λ e. out (s .only i w e))) (λ i w. refl)
 
 -- ---- the numbers of lines
 

@@ -7,11 +7,11 @@ use native.Mathlib.Nat.{eq-or-lt-of-le}
 use native.Mathlib.Omega.{arith}
 use native.Mathlib.Numerals.{add-one}
 use lib.Dec.{eqb}
-use borrow.Author.Tests.{eqb-true, eq-eqb}
+use borrow.Author.Tests.{eqb-true, eqb-false, ne-eqb}
 use Rattle.search.specs.Search.{Among}
 use Rattle.search.proofs.Found.{last-or}
 use Rattle.rolefile.specs.declared.Verdict.{Verdict}
-use Rattle.rolefile.specs.Form.{fine, unless, either, _then_, scan, found}
+use Rattle.rolefile.specs.Form.{fine, unless, _then_, scan}
 
 abbrev pub Refuses : Verdict → Type 0
 Refuses v = v .number ≡ 0 → ⊥
@@ -25,18 +25,14 @@ module _ (v w : Verdict) where
   then-next e = rw e
 
   pub then-stop : Refuses v → (v then w) ≡ v
-  then-stop h = go (v .number) h
-    where
-      go : (n : ℕ) → (n ≡ 0 → ⊥) → either n v w ≡ v
-      go zero h = absurd (h refl)
-      go (suc n) h = refl
+  then-stop h = rw (ne-eqb (v .number) 0 h)
 
   pub then-zero : ((v then w) .number ≡ 0) ↔ ((v .number ≡ 0) × (w .number ≡ 0))
-  then-zero = go (v .number) refl
+  then-zero = go (eqb (v .number) 0) refl
     where
-      go : (n : ℕ) → v .number ≡ n → (either n v w .number ≡ 0) ↔ ((n ≡ 0) × (w .number ≡ 0))
-      go zero q = (λ e. (refl, e), λ s. s .1)
-      go (suc n) q = (λ e. absurd (omega arith), λ s. absurd (omega arith))
+      go : (t : Bool) → eqb (v .number) 0 ≡ t → (unless t v w .number ≡ 0) ↔ ((v .number ≡ 0) × (w .number ≡ 0))
+      go true q = (λ e. (eqb-true (v .number) 0 q, e), λ s. s .1)
+      go false q = (λ e. absurd (eqb-false (v .number) 0 q e), λ s. absurd (eqb-false (v .number) 0 q (s .0)))
 
   pub unless-zero : (t : Bool) → Refuses v → (unless t v w .number ≡ 0) ↔ ((t ≡ true) × (w .number ≡ 0))
   unless-zero true h = (λ e. (refl, e), λ s. s .1)
@@ -46,15 +42,16 @@ module _ (v w : Verdict) where
   unless-then true h = refl
   unless-then false h = sym (then-stop h)
 
+pub then-joined : (u v w : Verdict) → ((u then v) then w) ≡ (u then (v then w))
+then-joined u v w = go (eqb (u .number) 0) refl
+  where
+    go : (t : Bool) → eqb (u .number) 0 ≡ t → (unless t u v then w) ≡ unless t u (v then w)
+    go true e = refl
+    go false e = then-stop u w (eqb-false (u .number) 0 e)
+
 pub unless-clean : (t : Bool) (v : Verdict) {w : Verdict} → Refuses v → Clean w → Clean (unless t v w)
 unless-clean true v h k e = k e
 unless-clean false v h k e = absurd (h e)
-
-pub found-zero : (x : ℕ) (v : Verdict) → Refuses v → (found x v .number ≡ 0) ↔ (x ≡ 0)
-found-zero x v h = (
-  λ e. eqb-true x 0 (unless-zero v fine (eqb x 0) h .0 e .0),
-  λ e. unless-zero v fine (eqb x 0) h .1 (eq-eqb x 0 e, refl),
-)
 
 module _ (v : ℕ → Verdict) where
   pub scan-zero : (n : ℕ) → (scan n v .number ≡ 0) ↔ ((k : ℕ) → Among n k → v k .number ≡ 0)

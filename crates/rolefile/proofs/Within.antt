@@ -3,12 +3,14 @@ use Prim.Native.Nat.{ℕ, zero, suc, _+_, _≤_, _<_}
 use mathlib.Core.Path.{_≡_, refl, sym, ap, _∙_}
 use mathlib.Core.Logic.{⊎-elim}
 use mathlib.Core.Bool.{Bool, true, false, or-false}
+use lib.Dec.{eqb}
 use native.Mathlib.Omega.{arith}
 use native.Mathlib.Nat.{add-zero, add-suc, eq-or-lt-of-le}
+use borrow.Author.Tests.{eqb-true}
 use Rattle.search.specs.Search.{Among, some}
 use Rattle.search.proofs.Truth.{untrue}
 use Rattle.rolefile.specs.declared.Verdict.{Verdict}
-use Rattle.rolefile.specs.Form.{fine, either, _then_, scan, count}
+use Rattle.rolefile.specs.Form.{fine, unless, _then_, scan, count}
 use Rattle.rolefile.specs.Said.{last}
 use Rattle.rolefile.proofs.Verdicts.{scan-clean}
 
@@ -43,11 +45,11 @@ module _ {X : Type 0} (s t : ℕ → X) where
 -- ---- each search
 
 then-fine : (v : Verdict) → (v .number ≡ 0 → v ≡ fine) → (v then fine) ≡ v
-then-fine v clean = go (v .number) refl
+then-fine v clean = go (eqb (v .number) 0) refl
   where
-    go : (n : ℕ) → v .number ≡ n → either n v fine ≡ v
-    go zero e = sym (clean e)
-    go (suc n) e = refl
+    go : (t : Bool) → eqb (v .number) 0 ≡ t → unless t v fine ≡ v
+    go true e = sym (clean (eqb-true (v .number) 0 e))
+    go false e = refl
 
 module _ (n j m : ℕ) (fits : j + m ≤ n) where
   -- q finds only things within, and says of them what p says

@@ -22,13 +22,9 @@ abbrev pub unless : Bool → Verdict → Verdict → Verdict
 unless ok v rest = cond ok rest v
 
 -- the first refusal of two
-abbrev pub either : ℕ → Verdict → Verdict → Verdict
-either zero v w = w
-either (suc n) v w = v
-
 infixr 20 _then_
 abbrev pub _then_ : Verdict → Verdict → Verdict
-v then w = either (v .number) v w
+v then w = unless (eqb (v .number) 0) v w
 
 -- the first refusal among those of 1 to n
 unfoldable pub scan : ℕ → (ℕ → Verdict) → Verdict
@@ -112,4 +108,4 @@ unfoldable pub linesVerdict : List ℕ → Verdict
 linesVerdict f = unless (sized f) (refusal 1 0 0) fine then scan (lines f) (lineVerdict f)
 
 unfoldable pub formVerdict : List ℕ → Verdict
-formVerdict f = unless (sized f) (refusal 1 0 0) fine then (scan (lines f) (lineVerdict f) then unlabelledVerdict f)
+formVerdict f = linesVerdict f then unlabelledVerdict f

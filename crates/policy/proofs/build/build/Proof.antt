@@ -10,11 +10,11 @@ use Rattle.rolefile.specs.Line.{lines}
 use Rattle.rolefile.specs.Form.{linesVerdict, unlabelledVerdict}
 use Rattle.rolefile.proofs.Verdicts.{scan-clean}
 use Rattle.policy.proofs.Checks.{assignment-clean}
-use Rattle.policy.specs.Verdict.{assignmentVerdict, verdict}
-use Rattle.policy.specs.Stages.{Ready, Closed, roleVerdict}
+use Rattle.policy.specs.Verdict.{labelVerdict, roleVerdict, assignmentVerdict, verdict}
+use Rattle.policy.specs.Stages.{Ready, Closed}
 use Rattle.policy.proofs.Readying.{counts-of}
 use Rattle.policy.proofs.Dominance.{closed-of, order-verdict-is}
-use Rattle.policy.proofs.Builds.{labelVerdict, refused-lines, refused-labels, refused-order, refused-roles, the-last, level-zeros, row-zeros, second-labelled, third-labelled, third-zeros, image, built-refused}
+use Rattle.policy.proofs.Builds.{refused-lines, refused-labels, refused-order, refused-roles, the-last, level-zeros, row-zeros, second-labelled, third-labelled, third-zeros, image, built-refused}
 use Rattle.policy.proofs.build.build.Statement.{statement}
 use Rattle.policy.proofs.build.build.Tie as tie
 
@@ -40,7 +40,6 @@ closed c = closed-of _ (c .before .dominance .result) (c .reflected .result) (c 
 
 -- the order's verdict is the file's
 order-is : (c : tie.After-judge-labels) → c .judge-labels .result ≡ labelVerdict (now (c .before .before .before .before .before .before .before .before .before .before .before .before .before .before .before .before .args .f))
-unfolding labelVerdict
 order-is c =
     let r = ready (c .before .before .before .before .before .before .before .before .before) in
     c .judge-labels .ensures

@@ -1,7 +1,7 @@
 -- The circle is looked for first, and then the pair.
 use borrow.Author.Needs.{needs}
 use borrow.Author.Tests.{ne-eqb}
-use Rattle.policy.specs.Stages.{orderVerdict}
+use Rattle.policy.specs.Verdict.{orderVerdict}
 use Rattle.policy.proofs.Dominance.{apart-verdict}
 use Rattle.policy.proofs.build.judge_labels.Statement.{statement}
 use Rattle.policy.proofs.build.judge_labels.Tie as tie

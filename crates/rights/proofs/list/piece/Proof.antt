@@ -9,7 +9,7 @@ use Rattle.search.proofs.Truth.{passed, failed}
 use Rattle.roleset.specs.Row.{member}
 use Rattle.rolefile.specs.Decimal.{digits}
 use Rattle.text.specs.Text.{ascii}
-use Rattle.text.proofs.Text.{puts-then, puts-nothing, puts-as}
+use Rattle.text.proofs.Text.{puts-nothing, puts-as}
 use Rattle.rights.specs.Lists.{piece, listed}
 use Rattle.rights.proofs.list.piece.Statement.{statement}
 use Rattle.rights.proofs.list.piece.Tie as tie

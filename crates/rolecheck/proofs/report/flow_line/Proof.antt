@@ -8,7 +8,8 @@ use denote.Ref.{now}
 use Rattle.search.proofs.Truth.{passed, failed}
 use Rattle.order.specs.Closure.{Relation}
 use Rattle.text.proofs.Text.{puts-as, puts-nothing}
-use Rattle.rolecheck.specs.Report.{line, flowIn, flowLine}
+use Rattle.policy.specs.Tables.{flowsIn}
+use Rattle.rolecheck.specs.Report.{line, flowLine}
 use Rattle.rolecheck.proofs.report.flow_line.Statement.{statement}
 use Rattle.rolecheck.proofs.report.flow_line.Tie as tie
 
@@ -24,14 +25,14 @@ module _ (flow : Relation) (from to : ℕ) where
 returns : tie.Need-returns
 returns c =
     let a = c .before .before .before .before .args in
-    puts-as (no-line (flowIn (now (a .state))) (a .from) (a .to) (failed (c .before .flows .ensures) (c .if1 .taken)))
+    puts-as (no-line (flowsIn (now (a .state))) (a .from) (a .to) (failed (c .before .flows .ensures) (c .if1 .taken)))
     (puts-nothing (a .at) (now (a .out)) (search needs))
 
 returns-2 : tie.Need-returns-2
 returns-2 c =
     let tested = c .before .before .before .before in
     let a = tested .before .before .before .before .args in
-    puts-as (its-line (flowIn (now (a .state))) (a .from) (a .to) (passed (tested .before .flows .ensures) (tested .if1 .left))) (c .before .before .line .ensures)
+    puts-as (its-line (flowsIn (now (a .state))) (a .from) (a .to) (passed (tested .before .flows .ensures) (tested .if1 .left))) (c .before .before .line .ensures)
 
 pub flow-line-spec : {M : Type 1} → statement M
 flow-line-spec = tie.close (tie.spec (λ c κs. search needs) returns (λ c κs. search needs) (λ c. search needs) returns-2)

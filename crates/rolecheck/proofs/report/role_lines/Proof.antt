@@ -6,10 +6,10 @@ use native.Mathlib.Omega.{arith}
 use native.Mathlib.Numerals.{add-one}
 use borrow.Author.Needs.{needs}
 use denote.Ref.{now}
-use Rattle.policy.specs.Tables.{rLevelsAt, wLevelsAt}
+use Rattle.policy.specs.Tables.{rLevelsAt, wLevelsAt, levelIn}
 use Rattle.text.specs.Text.{Puts}
 use Rattle.text.proofs.Text.{puts-as, puts-then, puts-nothing}
-use Rattle.rolecheck.specs.Report.{line, levelIn, roleLines}
+use Rattle.rolecheck.specs.Report.{line, roleLines}
 use Rattle.rolecheck.proofs.Counted.{few-roles}
 use Rattle.rolecheck.proofs.report.role_lines.Statement.{statement}
 use Rattle.rolecheck.proofs.report.role_lines.Tie as tie
