@@ -9,9 +9,13 @@
  *   state  65,536 bytes or more, of which the first 65,536 are used; all that a
  *          load and the sessions leave behind. It may be copied and moved.
  *   store  the cards: card o fills bytes 64 * (o - 1) to 64 * o - 1. It has
- *          64 * cards bytes or more.
+ *          64 * cards bytes or more, where cards is the fourth count of the
+ *          file's line H; 32,768 bytes are enough for every file.
+ * A buffer that several calls are lent as const may be lent to them at the
+ * same time. A load needs some 80 KB of stack, every other call 8 KB at most.
  *
- * Numbers. Labels, roles, users, cards and the 64 places are numbered from 1.
+ * Numbers. Labels, roles, users, cards and the 64 places are numbered from 1;
+ * a file has 1 to 32 labels and up to 128 roles, 256 users and 512 cards.
  * Every value of a uint64_t may be handed in. 0 is done; any other answer is a
  * refusal, which leaves state, store and every other buffer unchanged. A call
  * that is done changes nothing past what it fills. Where several numbers
@@ -66,6 +70,18 @@
 #ifdef __cplusplus
 extern "C" {
 #endif
+
+/* Sizes in bytes, and the most that there can be of each thing. */
+enum {
+    MONITOR_STATE_BYTES = 65536,
+    MONITOR_FILE_BYTES = 63800,
+    MONITOR_CARD_BYTES = 64,
+    MONITOR_LABELS = 32,
+    MONITOR_ROLES = 128,
+    MONITOR_USERS = 256,
+    MONITOR_CARDS = 512,
+    MONITOR_PLACES = 64
+};
 
 /* A load's number and its place; all three are 0 where the load is done. */
 struct monitor_verdict {
