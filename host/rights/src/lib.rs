@@ -47,6 +47,9 @@ impl Printed {
 
 const USAGE: &str = "usage: rights FILE [USER ...] | rights dot FILE";
 
+/// An argument that is longer than a path isn't repeated.
+const LONGEST_PATH: usize = 4_096;
+
 /// What a run with these arguments prints.
 pub fn expected(arguments: &[OsString]) -> Printed {
     match arguments {
@@ -65,12 +68,21 @@ pub fn expected(arguments: &[OsString]) -> Printed {
 /// accepted one.
 fn about(name: &OsString, accepted: impl Fn(&Policy) -> Printed) -> Printed {
     match std::fs::read(name) {
-        Err(problem) => Printed::problem("", name.as_bytes(), &format!(": {}", words(&problem))),
+        Err(problem) => {
+            let shown = repeated(name).unwrap_or(b"rights");
+            Printed::problem("", shown, &format!(": {}", words(&problem)))
+        }
         Ok(file) => match Policy::of(&file) {
             Err(verdict) => Printed::output(refusal::text(&file, &verdict)),
             Ok(policy) => accepted(&policy),
         },
     }
+}
+
+/// The argument, where a line repeats it.
+fn repeated(argument: &OsString) -> Option<&[u8]> {
+    let bytes = argument.as_bytes();
+    (bytes.len() <= LONGEST_PATH).then_some(bytes)
 }
 
 /// The system's words, without the number that Rust puts behind them.
@@ -88,8 +100,9 @@ fn of_users(policy: &Policy, names: &[OsString]) -> Printed {
         match user(name.as_bytes(), policy.counts.users) {
             Some(user) => asked.push(user),
             None => {
+                let shown = repeated(name).unwrap_or_default();
                 let after = " is not the number of a user of this file";
-                return Printed::problem("rights: ", name.as_bytes(), after);
+                return Printed::problem("rights: ", shown, after);
             }
         }
     }
