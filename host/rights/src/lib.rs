@@ -10,15 +10,17 @@ pub mod model;
 
 pub mod graph;
 pub mod list;
-pub mod program;
 pub mod questions;
 pub mod refusal;
 pub mod report;
+pub mod temporary;
 
 use model::Policy;
+use second_checker::program;
 use std::ffi::OsString;
 use std::io;
 use std::os::unix::ffi::OsStrExt;
+use std::path::Path;
 
 /// What a run prints.
 #[derive(Clone, Debug, Default, PartialEq, Eq)]
@@ -43,6 +45,18 @@ impl Printed {
             problems: [before.as_bytes(), name, after.as_bytes(), b"\n"].concat(),
         }
     }
+}
+
+/// What the program prints with these arguments.
+pub fn run(program: &Path, arguments: &[OsString]) -> Result<Printed, String> {
+    let ended = program::run(program, arguments, b"")?;
+    if ended.code != 0 {
+        return Err(format!("ended with exit status {}", ended.code));
+    }
+    Ok(Printed {
+        output: ended.output,
+        problems: ended.problems,
+    })
 }
 
 const USAGE: &str = "usage: rights FILE [USER ...] | rights dot FILE";
@@ -86,7 +100,7 @@ fn repeated(argument: &OsString) -> Option<&[u8]> {
 }
 
 /// The system's words, without the number that Rust puts behind them.
-pub fn words(problem: &io::Error) -> String {
+fn words(problem: &io::Error) -> String {
     let text = problem.to_string();
     match text.rfind(" (os error") {
         Some(end) => text[..end].to_string(),
