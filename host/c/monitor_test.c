@@ -181,14 +181,10 @@ static void files(void)
     verdict(load("H   33    0    0    0\n", state), 3, 1, 0,
             "only H with 33 labels: 3 at [1, 0]");
     verdict(load("", state), 1, 0, 0, "an empty file: 1");
-    verdict(load("H    2    2    1    2\n"
-                 "X    2    1          \n",
-                 state),
-            2, 2, 0, "an unknown letter: 2 at [2, 0]");
-    verdict(load("H    2    2    1    2\n"
-                 "D    2    3          \n",
-                 state),
-            4, 2, 0, "a label out of its range: 4 at [2, 0]");
+    verdict(load(COUNTS "X    2    1          \n", state), 2, 2, 0,
+            "an unknown letter: 2 at [2, 0]");
+    verdict(load(COUNTS "D    2    3          \n", state), 4, 2, 0,
+            "a label out of its range: 4 at [2, 0]");
     verdict(load(COUNTS DOMINANCE DOMINANCE, state), 5, 3, 0,
             "a line repeated: 5 at [3, 0]");
     verdict(load(COUNTS DOMINANCE SENIORITY CARDS, state), 6, 1, 1,

@@ -106,6 +106,9 @@ pub struct RoleFile {
     pub assignments: Vec<(usize, usize)>,
 }
 
+/// The numbers that a refused file can get.
+pub const REFUSALS: [usize; 12] = [1, 2, 3, 4, 5, 6, 11, 12, 13, 14, 15, 16];
+
 /// "role r may read (m = 1) or write (m = 2) card o"
 pub const READ: usize = 1;
 /// "role r may read (m = 1) or write (m = 2) card o"

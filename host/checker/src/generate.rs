@@ -9,10 +9,7 @@ use crate::random::Random;
 use std::collections::BTreeSet;
 
 /// The largest counts: labels, roles, users, cards.
-const LIMITS: [usize; 4] = [32, 128, 256, 512];
-
-/// The numbers a file's check can come to, acceptance apart.
-pub const BENT_NUMBERS: [usize; 12] = [1, 2, 3, 4, 5, 6, 11, 12, 13, 14, 15, 16];
+pub const LIMITS: [usize; 4] = [32, 128, 256, 512];
 
 /// How large a file is made.
 #[derive(Clone, Copy, Debug, PartialEq, Eq)]
@@ -218,8 +215,7 @@ fn label_order(random: &mut Random, labels: usize) -> Vec<(usize, usize)> {
         grow(random, &mut over, style);
     }
     let extra = random.pick(&[0, 0, 15, 100]);
-    let mut names: Vec<usize> = (1..=labels).collect();
-    random.shuffle(&mut names);
+    let names = random.shuffled(labels);
     let mut pairs = Vec::new();
     for upper in 0..labels {
         for lower in 0..labels {
@@ -329,18 +325,12 @@ fn random_order_with_top(random: &mut Random, labels: usize) -> Table {
 fn grow(random: &mut Random, over: &mut Table, style: usize) {
     let parent = random.below(over.len());
     let step = if style == 3 { random.below(4) } else { style };
+    let size = over.len();
     match step {
-        0 => add_below(over, parent),
         1 => add_above(over, parent),
-        2 if random.percent(50) => {
-            let size = over.len();
-            let row = vec![true; size];
-            add(over, row, vec![false; size]);
-        }
-        2 => {
-            let size = over.len();
-            add(over, vec![false; size], vec![true; size]);
-        }
+        // Over all others, or under them.
+        2 if random.percent(50) => add(over, vec![true; size], vec![false; size]),
+        2 => add(over, vec![false; size], vec![true; size]),
         _ => add_below(over, parent),
     }
 }
@@ -378,8 +368,7 @@ fn role_seniority(random: &mut Random, roles: usize, most: usize) -> Vec<(usize,
     if roles < 2 || most == 0 {
         return Vec::new();
     }
-    let mut names: Vec<usize> = (1..=roles).collect();
-    random.shuffle(&mut names);
+    let names = random.shuffled(roles);
     let mut places = Vec::new();
     match random.below(6) {
         // No seniority at all.
@@ -438,8 +427,7 @@ fn add_permissions(
     let role_home: Vec<usize> = (0..=counts.roles).map(|_| random.pick(homes)).collect();
     // Some roles stay without permissions, and some only read or only write.
     let habit: Vec<usize> = (0..=counts.roles).map(|_| random.below(10)).collect();
-    let mut permissions: BTreeSet<(usize, usize, usize)> =
-        file.permissions.iter().copied().collect();
+    let mut permissions = BTreeSet::new();
     for _ in 0..most * 2 {
         if permissions.len() == most {
             break;
@@ -531,8 +519,7 @@ fn fill(random: &mut Random, file: &mut RoleFile, lines: usize) {
 pub fn sparse_flow(random: &mut Random) -> RoleFile {
     let most_roles = random.pick(&[4, 8, 8, 20, 128]);
     let roles = random.between(2, most_roles);
-    let mut names: Vec<usize> = (1..=roles).collect();
-    random.shuffle(&mut names);
+    let names = random.shuffled(roles);
     let mut flows = Vec::new();
     for _ in 0..random.below(roles + roles / 2) {
         let from = random.below(roles - 1);
@@ -580,8 +567,7 @@ pub fn sparse_flow(random: &mut Random) -> RoleFile {
     if random.percent(25) {
         file.seniority = role_seniority(random, roles, 3);
     }
-    let mut cards: Vec<usize> = (1..=file.counts.cards).collect();
-    random.shuffle(&mut cards);
+    let cards = random.shuffled(file.counts.cards);
     for (&(from, to), &card) in flows.iter().zip(&cards) {
         file.permissions.push((names[from], card, WRITE));
         file.permissions.push((names[to], card, READ));
@@ -602,23 +588,26 @@ fn any_size(random: &mut Random) -> Size {
     }
 }
 
+fn small_size(random: &mut Random) -> Size {
+    random.pick(&[Size::Tiny, Size::Small])
+}
+
 // ---------------------------------------------------------------------------
 // Bent files
 
 /// An accepted file with one rule broken, so that it gets this number.
 pub fn bent(random: &mut Random, number: usize) -> Vec<u8> {
-    loop {
-        let size = any_size(random);
-        if let Some(bytes) = bent_once(random, number, size) {
-            return bytes;
-        }
-    }
+    bent_of_size(random, number, any_size)
 }
 
 /// The same with a small file only, which takes less time.
 pub fn bent_small(random: &mut Random, number: usize) -> Vec<u8> {
+    bent_of_size(random, number, small_size)
+}
+
+fn bent_of_size(random: &mut Random, number: usize, size: fn(&mut Random) -> Size) -> Vec<u8> {
     loop {
-        let size = random.pick(&[Size::Tiny, Size::Small]);
+        let size = size(random);
         if let Some(bytes) = bent_once(random, number, size) {
             return bytes;
         }
@@ -663,7 +652,7 @@ pub fn one_wrong_byte(random: &mut Random, step: usize) -> Vec<u8> {
     const LETTERS: usize = 4;
     let kinds = LIKE_A_BLANK.len() * 3 + ENDS.len() + DIGITS + LETTERS;
     loop {
-        let size = random.pick(&[Size::Tiny, Size::Small]);
+        let size = small_size(random);
         let mut lines = split(&write(&accepted(random, size)));
         let place = random.place(0, lines.len());
         let line = &mut lines[place];
@@ -803,8 +792,7 @@ fn add_circle(random: &mut Random, pairs: &mut Vec<(usize, usize)>, size: usize)
                 pairs.push((end, start));
             }
             _ => {
-                let mut ring: Vec<usize> = (1..=size).collect();
-                random.shuffle(&mut ring);
+                let mut ring = random.shuffled(size);
                 ring.truncate(random.between(1, 6));
                 for index in 0..ring.len() {
                     pairs.push((ring[index], ring[(index + 1) % ring.len()]));
@@ -817,8 +805,7 @@ fn add_circle(random: &mut Random, pairs: &mut Vec<(usize, usize)>, size: usize)
 /// Two labels without a least upper bound.
 fn bend_bounds(random: &mut Random, file: &mut RoleFile) {
     let labels = file.counts.labels;
-    let mut names: Vec<usize> = (1..=labels).collect();
-    random.shuffle(&mut names);
+    let names = random.shuffled(labels);
     match random.below(4) {
         // One more label that nothing is said of.
         0 if labels < LIMITS[0] => file.counts.labels += 1,
@@ -914,14 +901,7 @@ fn bend_assignments(random: &mut Random, file: &mut RoleFile, number: usize) {
     }
     file.assignments
         .retain(|&(user, role)| meaning.assignment_number(user, role) == 0);
-    let mut wrong = Vec::new();
-    for user in 1..=counts.users {
-        for role in 1..=counts.roles {
-            if meaning.assignment_number(user, role) == number {
-                wrong.push((user, role));
-            }
-        }
-    }
+    let wrong = assignments_with(file, number);
     if wrong.is_empty() {
         return;
     }
@@ -934,6 +914,15 @@ fn bend_assignments(random: &mut Random, file: &mut RoleFile, number: usize) {
             file.assignments.push((counts.users, role));
         }
     }
+}
+
+/// The assignments that would get this number; 0 are the good ones.
+pub fn assignments_with(file: &RoleFile, number: usize) -> Vec<(usize, usize)> {
+    let meaning = Meaning::of(file);
+    (1..=file.counts.users)
+        .flat_map(|user| (1..=file.counts.roles).map(move |role| (user, role)))
+        .filter(|&(user, role)| meaning.assignment_number(user, role) == number)
+        .collect()
 }
 
 /// Breaks a rule of the file's form: number 2 to 5.
@@ -1165,11 +1154,7 @@ fn bend_order(random: &mut Random, lines: &mut Vec<Vec<u8>>) {
         // A line repeated right after itself, or later.
         0 | 1 => {
             let line = lines[place].clone();
-            if lines.len() >= MOST_LINES {
-                lines.pop();
-            }
-            let target = (place + 1).min(lines.len());
-            lines.insert(target, line);
+            insert_after(lines, place, line);
         }
         2 => {
             let line = lines[place].clone();
@@ -1198,11 +1183,7 @@ fn bend_order(random: &mut Random, lines: &mut Vec<Vec<u8>>) {
                 let number = number_in(&next, field);
                 put_number(&mut next, field, number + random.below(2));
             }
-            if lines.len() >= MOST_LINES {
-                lines.pop();
-            }
-            let target = (place + 1).min(lines.len());
-            lines.insert(target, next);
+            insert_after(lines, place, next);
         }
         // A line put elsewhere.
         5 => {
@@ -1224,6 +1205,16 @@ fn bend_order(random: &mut Random, lines: &mut Vec<Vec<u8>>) {
             *lines = rest;
         }
     }
+}
+
+/// Puts a line after the one at a place; the last line goes where there is no
+/// room for one more.
+fn insert_after(lines: &mut Vec<Vec<u8>>, place: usize, line: Vec<u8>) {
+    if lines.len() >= MOST_LINES {
+        lines.pop();
+    }
+    let target = (place + 1).min(lines.len());
+    lines.insert(target, line);
 }
 
 // ---------------------------------------------------------------------------
@@ -1506,6 +1497,7 @@ fn tear(random: &mut Random, bytes: &mut Vec<u8>) {
 #[cfg(test)]
 mod tests {
     use super::*;
+    use crate::check::REFUSALS;
     use crate::order::lowest_on_circle;
 
     #[test]
@@ -1552,7 +1544,7 @@ mod tests {
     #[test]
     fn bent_files_get_their_number() {
         for seed in 0..10 {
-            for number in BENT_NUMBERS {
+            for number in REFUSALS {
                 let bytes = bent(&mut Random::new(seed), number);
                 assert_eq!(check(&bytes).number(), number);
                 let bytes = bent_small(&mut Random::new(seed), number);

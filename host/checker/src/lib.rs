@@ -2,10 +2,12 @@
 //! alone. It shares nothing with the product it is compared with.
 
 pub mod check;
+pub mod differential;
+pub mod example;
 pub mod generate;
 pub mod line;
 pub mod order;
-pub mod product;
+pub mod program;
 pub mod random;
 pub mod tally;
 

@@ -109,6 +109,11 @@ pub fn read_line(bytes: &[u8]) -> Option<Line> {
     Some(Line { letter, numbers })
 }
 
+/// Whether a file that is in order has an A line: these come last.
+pub fn has_assignments(file: &[u8]) -> bool {
+    file[file.len() - LINE_LENGTH] == b'A'
+}
+
 /// Writes a line: the letter, up to four numbers right-justified in their
 /// fields, the other fields blank, byte 10.
 pub fn print_line(letter: u8, numbers: &[usize]) -> Vec<u8> {

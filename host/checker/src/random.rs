@@ -58,6 +58,13 @@ impl Random {
         }
     }
 
+    /// The numbers 1 to `count` in any order.
+    pub fn shuffled(&mut self, count: usize) -> Vec<usize> {
+        let mut numbers: Vec<usize> = (1..=count).collect();
+        self.shuffle(&mut numbers);
+        numbers
+    }
+
     /// An index from `low` to `high` - 1: the first, the last, or any.
     pub fn place(&mut self, low: usize, high: usize) -> usize {
         match self.below(5) {

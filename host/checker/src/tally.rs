@@ -1,11 +1,15 @@
 //! Counts of the files of a run: by number, by lines and by what they say.
 
-use crate::line::{LINE_LENGTH, MOST_LINES};
-use crate::{Level, Outcome};
+use crate::check::REFUSALS;
+use crate::differential::Totals;
+use crate::line::{has_assignments, LINE_LENGTH, MOST_LINES};
+use crate::{Level, Outcome, RoleLevels};
 use std::collections::BTreeMap;
 
 /// Numbers that must be seen for a run to pass.
-const WANTED: [usize; 13] = [0, 1, 2, 3, 4, 5, 6, 11, 12, 13, 14, 15, 16];
+fn wanted() -> impl Iterator<Item = usize> {
+    [0].into_iter().chain(REFUSALS)
+}
 
 /// Rough size classes by the lines begun.
 const CLASSES: [(&str, usize); 8] = [
@@ -41,26 +45,20 @@ impl Tally {
         let class = CLASSES.iter().position(|(_, most)| lines <= *most).unwrap();
         self.classes[class] += 1;
         if let Outcome::Accepted(accepted) = outcome {
-            let undefined = |level: Level| level == Level::Undefined;
-            // A lines come last.
-            let assigned = file[file.len() - LINE_LENGTH] == b'A';
-            self.with_assignments += usize::from(assigned);
+            let undefined = |levels: &RoleLevels| levels.write_level == Level::Undefined;
+            self.with_assignments += usize::from(has_assignments(file));
             self.with_flow += usize::from(!accepted.flows.is_empty());
             self.with_circle += usize::from(accepted.circle.is_some());
-            self.with_undefined += usize::from(
-                accepted
-                    .roles
-                    .iter()
-                    .any(|levels| undefined(levels.write_level)),
-            );
+            self.with_undefined += usize::from(accepted.roles.iter().any(undefined));
         }
     }
+}
 
-    /// Adds the counts of another tally.
-    pub fn add(&mut self, other: &Tally) {
+impl Totals for Tally {
+    fn add(&mut self, other: Tally) {
         self.files += other.files;
-        for (number, seen) in &other.numbers {
-            *self.numbers.entry(*number).or_default() += seen;
+        for (number, seen) in other.numbers {
+            *self.numbers.entry(number).or_default() += seen;
         }
         for (class, files) in self.classes.iter_mut().zip(other.classes) {
             *class += files;
@@ -71,23 +69,20 @@ impl Tally {
         self.with_undefined += other.with_undefined;
     }
 
-    /// The numbers wanted that were never seen.
-    pub fn unseen(&self) -> Vec<usize> {
-        WANTED
-            .into_iter()
+    fn unseen(&self) -> Vec<String> {
+        wanted()
             .filter(|number| !self.numbers.contains_key(number))
+            .map(|number| format!("number {number}"))
             .collect()
     }
 
     /// The counts, a row for each number and for each size.
-    pub fn table(&self) -> String {
+    fn table(&self) -> String {
         let mut table = format!("{} files\nnumber    files  percent", self.files);
-        for number in 0..=16 {
+        for number in wanted() {
             let seen = self.numbers.get(&number).copied().unwrap_or(0);
-            if WANTED.contains(&number) || seen > 0 {
-                let percent = 100.0 * seen as f64 / self.files.max(1) as f64;
-                table.push_str(&format!("\n{number:>6} {seen:>8} {percent:>8.2}"));
-            }
+            let percent = 100.0 * seen as f64 / self.files.max(1) as f64;
+            table.push_str(&format!("\n{number:>6} {seen:>8} {percent:>8.2}"));
         }
         table.push_str("\nlines              files");
         for ((name, _), files) in CLASSES.iter().zip(self.classes) {

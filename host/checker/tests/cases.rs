@@ -1,21 +1,8 @@
 //! The cases of document 01 about files, and more on the edges. The expected
 //! values are worked out by hand from the document.
 
+use second_checker::example::{example, role_file, EXAMPLE};
 use second_checker::{check, report, Level, Outcome};
-
-/// Bytes of a file whose lines are given with single blanks.
-fn file(text: &str) -> Vec<u8> {
-    let mut bytes = String::new();
-    for line in text.lines().map(str::trim).filter(|line| !line.is_empty()) {
-        let mut words = line.split(' ');
-        let mut padded = String::from(words.next().unwrap());
-        for word in words {
-            padded.push_str(&format!("{word:>5}"));
-        }
-        bytes.push_str(&format!("{padded:<21}\n"));
-    }
-    bytes.into_bytes()
-}
 
 fn text(bytes: &[u8]) -> String {
     String::from_utf8_lossy(bytes).into_owned()
@@ -24,7 +11,7 @@ fn text(bytes: &[u8]) -> String {
 /// The whole report on a file.
 #[track_caller]
 fn printed(input: &str, expected: &str) {
-    assert_eq!(text(&report(&file(input))), text(&file(expected)));
+    assert_eq!(text(&report(&role_file(input))), text(&role_file(expected)));
 }
 
 /// Number and place of a refusal, of bytes as they are.
@@ -38,19 +25,19 @@ fn refused_bytes(bytes: &[u8], number: usize, place: [usize; 2]) {
 
 #[track_caller]
 fn refused(input: &str, number: usize, place: [usize; 2]) {
-    refused_bytes(&file(input), number, place);
+    refused_bytes(&role_file(input), number, place);
 }
 
 #[track_caller]
 fn accepted(input: &str) {
-    let outcome = check(&file(input));
+    let outcome = check(&role_file(input));
     assert_eq!(outcome.number(), 0, "{outcome:?}");
 }
 
 /// A role's levels in an accepted file.
 #[track_caller]
 fn levels(input: &str, role: usize) -> (Level, Level) {
-    match check(&file(input)) {
+    match check(&role_file(input)) {
         Outcome::Accepted(accepted) => {
             let levels = accepted.roles[role - 1];
             assert_eq!(levels.role, role);
@@ -60,22 +47,12 @@ fn levels(input: &str, role: usize) -> (Level, Level) {
     }
 }
 
-const EXAMPLE: &str = "H 2 2 1 2
-    D 2 1
-    S 2 1
-    U 1 2
-    O 1 1
-    O 2 2
-    P 1 1 1
-    P 2 2 2
-    A 1 2";
-
 // ---------------------------------------------------------------------------
 // The document's list of cases
 
 #[test]
 fn the_example_byte_for_byte() {
-    let example = b"H    2    2    1    2\n\
+    let document = "H    2    2    1    2\n\
         D    2    1          \n\
         S    2    1          \n\
         U    1    2          \n\
@@ -84,24 +61,25 @@ fn the_example_byte_for_byte() {
         P    1    1    1     \n\
         P    2    2    2     \n\
         A    1    2          \n";
-    let expected = b"V    0    0    0     \n\
+    let expected = "V    0    0    0     \n\
         R    1    1    0     \n\
         R    2    1    2     \n\
         C    0               \n";
-    assert_eq!(example.len(), 9 * 22);
+    assert_eq!(document.len(), 9 * 22);
     assert_eq!(expected.len(), 4 * 22);
-    assert_eq!(text(&report(example)), text(expected));
-    assert_eq!(text(&file(EXAMPLE)), text(example));
+    assert_eq!(EXAMPLE, document);
+    assert_eq!(text(&report(document.as_bytes())), expected);
+    assert_eq!(text(&role_file(&example())), document);
 }
 
 #[test]
 fn the_example_without_its_d_line() {
-    refused(&EXAMPLE.replace("D 2 1\n", ""), 12, [1, 2]);
+    refused(&example().replace("D 2 1\n", ""), 12, [1, 2]);
 }
 
 #[test]
 fn user_1_cleared_to_1() {
-    let cleared = EXAMPLE.replace("U 1 2", "U 1 1");
+    let cleared = example().replace("U 1 2", "U 1 1");
     printed(&cleared, "V 0 0 0\nR 1 1 0\nR 2 1 2\nC 0");
     let reading = cleared.replace("P 1 1 1", "P 1 1 1\nP 1 2 1");
     refused(&reading, 15, [1, 2]);
@@ -109,7 +87,7 @@ fn user_1_cleared_to_1() {
 
 #[test]
 fn role_2_writing_card_1_too() {
-    let writing = EXAMPLE.replace("P 2 2 2", "P 2 1 2\nP 2 2 2");
+    let writing = example().replace("P 2 2 2", "P 2 1 2\nP 2 2 2");
     refused(&writing, 16, [1, 2]);
     // The w-level is 1, as it shows with a user cleared to 1.
     let cleared = writing.replace("U 1 2", "U 1 1");
@@ -118,7 +96,7 @@ fn role_2_writing_card_1_too() {
 
 #[test]
 fn d_1_1_in_front() {
-    refused(&EXAMPLE.replace("D 2 1", "D 1 1\nD 2 1"), 11, [1, 0]);
+    refused(&example().replace("D 2 1", "D 1 1\nD 2 1"), 11, [1, 0]);
 }
 
 const THREE_LABELS: &str = "H 3 1 1 2
@@ -174,7 +152,7 @@ fn only_h() {
 #[test]
 fn lengths() {
     refused_bytes(b"", 1, [0, 0]);
-    let only_h = file("H 1 0 0 0");
+    let only_h = role_file("H 1 0 0 0");
     refused_bytes(&only_h[..21], 1, [0, 0]);
     refused_bytes(&only_h[..1], 1, [0, 0]);
     let mut longer = only_h.clone();
@@ -200,10 +178,10 @@ fn the_most_lines() {
             }
         }
     }
-    let mut bytes = file(&lines);
+    let mut bytes = role_file(&lines);
     assert_eq!(bytes.len(), 63_800);
     assert_eq!(check(&bytes).number(), 0);
-    bytes.extend(file("A 1 10"));
+    bytes.extend(role_file("A 1 10"));
     refused_bytes(&bytes, 1, [0, 0]);
     bytes.truncate(63_801);
     refused_bytes(&bytes, 1, [0, 0]);
@@ -215,7 +193,7 @@ fn the_most_lines() {
 /// The example with one line's bytes put in as they are; line from 1.
 fn with_line(line: usize, bytes: &[u8]) -> Vec<u8> {
     assert_eq!(bytes.len(), 22);
-    let mut example = file(EXAMPLE);
+    let mut example = EXAMPLE.as_bytes().to_vec();
     example[(line - 1) * 22..line * 22].copy_from_slice(bytes);
     example
 }
@@ -269,13 +247,13 @@ fn fields_without_use_are_blank() {
 #[test]
 fn letters_and_line_ends() {
     for letter in *b"hdBVRFC \0\n1\xc4" {
-        let mut bytes = file(EXAMPLE);
+        let mut bytes = EXAMPLE.as_bytes().to_vec();
         bytes[22] = letter;
         refused_bytes(&bytes, 2, [2, 0]);
     }
     for end in *b"\r \0\n" {
         for line in 1..=9 {
-            let mut bytes = file(EXAMPLE);
+            let mut bytes = EXAMPLE.as_bytes().to_vec();
             bytes[line * 22 - 1] = end;
             if end == b'\n' {
                 assert_eq!(check(&bytes).number(), 0);
@@ -288,12 +266,12 @@ fn letters_and_line_ends() {
 
 #[test]
 fn h_stands_on_line_1_and_only_there() {
-    refused(&EXAMPLE.replace("H 2 2 1 2\n", ""), 2, [1, 0]);
+    refused(&example().replace("H 2 2 1 2\n", ""), 2, [1, 0]);
     refused("D 1 1", 2, [1, 0]);
     refused("H 1 0 0 0\nH 1 0 0 0", 2, [2, 0]);
     // Also where its counts are outside their limits.
     refused("H 1 0 0 0\nH 33 0 0 0", 2, [2, 0]);
-    refused(&EXAMPLE.replace("A 1 2", "H 2 2 1 2"), 2, [9, 0]);
+    refused(&example().replace("A 1 2", "H 2 2 1 2"), 2, [9, 0]);
 }
 
 // ---------------------------------------------------------------------------
@@ -377,7 +355,7 @@ fn letters_come_in_the_order_of_the_table() {
     for earlier in 0..6 {
         for later in 0..6 {
             let text = format!("H 1 1 1 1\n{}\n{}", letters[earlier], letters[later]);
-            let number = check(&file(&text)).number();
+            let number = check(&role_file(&text)).number();
             if earlier < later {
                 assert!(number == 0 || number >= 6, "{text}");
             } else {
@@ -654,13 +632,10 @@ fn role_flow_by_inheritance() {
 }
 
 // ---------------------------------------------------------------------------
-// The example files
+// The longer example file
 
 #[test]
-fn example_files() {
-    let folder = std::path::Path::new(env!("CARGO_MANIFEST_DIR")).join("../../examples");
-    let document = std::fs::read(folder.join("document.role")).unwrap();
-    assert_eq!(text(&document), text(&file(EXAMPLE)));
-    let makers = std::fs::read(folder.join("two-makers.role")).unwrap();
-    assert_eq!(check(&makers).number(), 0, "{:?}", check(&makers).place());
+fn the_two_makers() {
+    let makers = include_bytes!("../../../examples/two-makers.role");
+    assert_eq!(check(makers).number(), 0, "{:?}", check(makers).place());
 }

@@ -4,7 +4,7 @@ use crate::generate::random_bytes;
 use crate::lent::Lent;
 use crate::library::{self, Verdict};
 use crate::model::STATE_BYTES;
-use second_checker::product::{first_difference, run_product};
+use second_checker::program::{first_difference, run};
 use second_checker::random::Random;
 use second_checker::tally::Tally;
 use second_checker::{check, generate, print_outcome, Accepted, Outcome};
@@ -27,7 +27,7 @@ pub fn compare(seed: u64, index: u64, sample: &Sample, tally: &mut Tally) -> Res
     load(&file, &outcome, random).map_err(fault)?;
     if index.is_multiple_of(sample.every) {
         let expected = print_outcome(&outcome);
-        let printed = run_product(sample.product, &file).map_err(fault)?;
+        let printed = run(sample.product, &[], &file).map_err(fault)?.output;
         if printed != expected {
             return Err(fault(first_difference(&expected, &printed)));
         }
@@ -46,7 +46,7 @@ fn load(file: &[u8], outcome: &Outcome, random: &mut Random) -> Result<(), Strin
         return Err(format!("a state of {short} bytes: {verdict:?}"));
     }
     let verdict = library::load(lent.bytes_mut(), state.bytes_mut());
-    let expected = expected(outcome);
+    let expected = Verdict::of(outcome);
     if verdict != expected {
         return Err(format!("expected {expected:?}, got {verdict:?}"));
     }
@@ -57,16 +57,6 @@ fn load(file: &[u8], outcome: &Outcome, random: &mut Random) -> Result<(), Strin
         Outcome::Refused(_) if state.bytes() != before => Err("the state was changed".to_string()),
         Outcome::Refused(_) => Ok(()),
         Outcome::Accepted(accepted) => same_flow(accepted, state.bytes_mut()),
-    }
-}
-
-/// The second checker's outcome as a load answers it.
-fn expected(outcome: &Outcome) -> Verdict {
-    let [first, second] = outcome.place();
-    Verdict {
-        number: outcome.number() as u64,
-        first: first as u64,
-        second: second as u64,
     }
 }
 

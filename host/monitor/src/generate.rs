@@ -3,10 +3,11 @@
 
 use crate::call::{Call, Kind};
 use crate::model::{Mode, Model, Part, Policy, CARD_BYTES, PLACES, STATE_BYTES};
+use second_checker::check::REFUSALS;
 use second_checker::generate::{
-    accepted, bent, bent_small, mixed, sparse_flow, write, Size, BENT_NUMBERS,
+    accepted, bent, bent_small, mixed, sparse_flow, write, Size, LIMITS,
 };
-use second_checker::line::LINE_LENGTH;
+use second_checker::line::has_assignments;
 use second_checker::random::Random;
 use std::collections::BTreeSet;
 
@@ -16,8 +17,7 @@ pub fn accepted_file(random: &mut Random) -> Vec<u8> {
     let any = random.percent(10);
     loop {
         let file = accepted_file_of_any_size(random);
-        // A lines come last.
-        if any || file[file.len() - LINE_LENGTH] == b'A' {
+        if any || has_assignments(&file) {
             return file;
         }
     }
@@ -38,7 +38,7 @@ fn accepted_file_of_any_size(random: &mut Random) -> Vec<u8> {
 /// A role file of any kind: accepted, bent or torn. Most are bent, each number
 /// as often as another: a refused load leaves the sessions open.
 pub fn any_file(random: &mut Random) -> Vec<u8> {
-    let number = random.pick(&BENT_NUMBERS);
+    let number = random.pick(&REFUSALS);
     match random.below(100) {
         0..=4 => accepted_file(random),
         5..=9 => mixed(random.next(), random.next() % 50),
@@ -373,9 +373,7 @@ fn label(random: &mut Random, policy: &Policy, user: u64, wish: u64) -> u64 {
         if random.percent(40) {
             return clearance as u64;
         }
-        let dominated: Vec<usize> = (1..=policy.counts.labels)
-            .filter(|&label| policy.meaning.dominance.over(clearance, label))
-            .collect();
+        let dominated: Vec<usize> = policy.labels_to_open(user as usize).collect();
         return random.pick(&dominated) as u64;
     }
     number(random, policy.counts.labels)
@@ -441,11 +439,13 @@ fn card(
     if wish == 25 {
         return wild_number(random, policy.counts.cards);
     }
+    let given = |random: &mut Random, mode: Mode| {
+        let role = held(random, model, place)?;
+        some(random, policy.cards(role, mode))
+    };
     if [0, 30, 31].contains(&wish) {
         for _ in 0..4 {
-            let given =
-                held(random, model, place).and_then(|role| some(random, policy.cards(role, mode)));
-            if let Some(card) = given {
+            if let Some(card) = given(random, mode) {
                 return card as u64;
             }
         }
@@ -456,9 +456,7 @@ fn card(
             Mode::Read => Mode::Write,
             Mode::Write => Mode::Read,
         };
-        let given =
-            held(random, model, place).and_then(|role| some(random, policy.cards(role, other)));
-        if let Some(card) = given {
+        if let Some(card) = given(random, other) {
             return card as u64;
         }
     }
@@ -493,7 +491,7 @@ fn question(random: &mut Random, policy: &Policy, user: u64, label: u64, wish: u
 /// A call of this kind with numbers within document 01's limits or wild ones;
 /// loads are of any file.
 pub fn any_call(random: &mut Random, kind: Kind) -> Call {
-    let limits: [usize; 4] = random.pick(&[[4, 4, 3, 5], [10, 12, 10, 20], [32, 128, 256, 512]]);
+    let limits: [usize; 4] = random.pick(&[[4, 4, 3, 5], [10, 12, 10, 20], LIMITS]);
     let [labels, roles, users, cards] = limits;
     let place = match random.below(3) {
         0 => random.between(1, 3) as u64,

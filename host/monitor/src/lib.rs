@@ -3,12 +3,12 @@
 
 pub mod answer;
 pub mod call;
-pub mod example;
 pub mod files;
 pub mod generate;
 pub mod laws;
 pub mod lent;
 pub mod library;
 pub mod lists;
+pub mod loaded;
 pub mod model;
 pub mod pairs;

@@ -6,6 +6,7 @@ use crate::laws::Change;
 use crate::lent::Lent;
 use crate::library;
 use crate::model::{Model, Part, CARD_BYTES, PLACES, STATE_BYTES};
+use second_checker::differential::Totals;
 use second_checker::random::Random;
 use std::collections::BTreeMap;
 
@@ -14,31 +15,20 @@ pub const CALLS: usize = 200;
 
 /// The numbers that a run must see: done, and all that calls with a good file
 /// can get.
-pub const WANTED: [u64; 13] = [0, 7, 21, 22, 23, 24, 25, 26, 27, 28, 29, 30, 31];
+const WANTED: [u64; 13] = [0, 7, 21, 22, 23, 24, 25, 26, 27, 28, 29, 30, 31];
 
 /// How often each number was seen.
 #[derive(Default)]
 pub struct Tally {
-    pub numbers: BTreeMap<(Kind, u64), u64>,
+    numbers: BTreeMap<(Kind, u64), u64>,
     /// Of each report, how often its figure was above 0.
-    pub figures: BTreeMap<Kind, u64>,
-    pub lists: u64,
+    figures: BTreeMap<Kind, u64>,
+    lists: u64,
     /// Calls made to look at a state from outside, not counted above.
-    pub surveyed: u64,
+    surveyed: u64,
 }
 
 impl Tally {
-    pub fn add(&mut self, other: Tally) {
-        for (key, count) in other.numbers {
-            *self.numbers.entry(key).or_default() += count;
-        }
-        for (kind, count) in other.figures {
-            *self.figures.entry(kind).or_default() += count;
-        }
-        self.lists += other.lists;
-        self.surveyed += other.surveyed;
-    }
-
     fn count(&mut self, kind: Kind, answer: Answer) {
         *self.numbers.entry((kind, answer.number())).or_default() += 1;
         if let Answer::Figure(figure) = answer {
@@ -52,11 +42,24 @@ impl Tally {
             .filter_map(|&kind| self.numbers.get(&(kind, number)))
             .sum()
     }
+}
 
-    /// What was never seen: each number that must be, each number of each call
-    /// but a load's numbers about the file, and each report's figure above 0.
-    pub fn missing(&self) -> Vec<String> {
-        let mut missing: Vec<String> = WANTED
+impl Totals for Tally {
+    fn add(&mut self, other: Tally) {
+        for (key, count) in other.numbers {
+            *self.numbers.entry(key).or_default() += count;
+        }
+        for (kind, count) in other.figures {
+            *self.figures.entry(kind).or_default() += count;
+        }
+        self.lists += other.lists;
+        self.surveyed += other.surveyed;
+    }
+
+    /// Of each number that must be seen, of each number of each call but a load's
+    /// numbers about the file, and of each report's figure above 0.
+    fn unseen(&self) -> Vec<String> {
+        let mut unseen: Vec<String> = WANTED
             .into_iter()
             .filter(|&number| self.seen(number) == 0)
             .map(|number| format!("number {number}"))
@@ -64,20 +67,20 @@ impl Tally {
         for kind in Kind::ALL {
             for &number in kind.numbers() {
                 if WANTED.contains(&number) && !self.numbers.contains_key(&(kind, number)) {
-                    missing.push(format!("{} {number}", kind.name()));
+                    unseen.push(format!("{} {number}", kind.name()));
                 }
             }
         }
         for kind in Kind::REPORTS {
             if self.figures.get(&kind).is_none_or(|&count| count == 0) {
-                missing.push(format!("{} above 0", kind.name()));
+                unseen.push(format!("{} above 0", kind.name()));
             }
         }
-        missing
+        unseen
     }
 
     /// The counts, a row for each number and a column for each call.
-    pub fn table(&self) -> String {
+    fn table(&self) -> String {
         let mut table = format!(
             "library: {}\n{} lists, {} calls, {} more to survey states\nnumber    calls",
             library::UNDER_TEST,

@@ -36,13 +36,7 @@ impl Policy {
     pub fn of(file: &[u8]) -> Result<Policy, Verdict> {
         let accepted = match check(file) {
             Outcome::Accepted(accepted) => accepted,
-            Outcome::Refused(refusal) => {
-                return Err(Verdict {
-                    number: refusal.number as u64,
-                    first: refusal.place[0] as u64,
-                    second: refusal.place[1] as u64,
-                })
-            }
+            refused => return Err(Verdict::of(&refused)),
         };
         let role_file = read(file).expect("an accepted file has its form");
         Ok(Policy {
@@ -68,6 +62,11 @@ impl Policy {
     pub fn is_cleared(&self, user: usize, label: usize) -> bool {
         let clearance = self.meaning.clearance[user];
         self.meaning.dominance.over(clearance, label)
+    }
+
+    /// The labels that the user's clearance dominates.
+    pub fn labels_to_open(&self, user: usize) -> impl Iterator<Item = usize> + '_ {
+        (1..=self.counts.labels).filter(move |&label| self.is_cleared(user, label))
     }
 
     /// "the user is assigned to it or to a senior of it"
@@ -344,11 +343,7 @@ impl Model {
         // "7: load with a state shorter than 65,536 bytes"; "[0, 0] where no
         // brackets stand"
         if state_length < STATE_BYTES {
-            return Verdict {
-                number: 7,
-                first: 0,
-                second: 0,
-            };
+            return Verdict::refused(7);
         }
         match Policy::of(file) {
             Err(refusal) => refusal,
@@ -496,6 +491,6 @@ fn mode_in_range(mode: u64) -> Result<Mode, u64> {
 fn figure(result: Result<u64, u64>) -> Figure {
     match result {
         Ok(figure) => Figure { number: 0, figure },
-        Err(number) => Figure { number, figure: 0 },
+        Err(number) => Figure::refused(number),
     }
 }

@@ -1,11 +1,12 @@
 //! Short, empty and long buffers, and NULL with length 0.
 
 use monitor_tests::call::{Answer, Call, Kind};
-use monitor_tests::example::{role_file, EXAMPLE};
 use monitor_tests::generate::{accepted_file, any_call, random_bytes, Caller, LentState};
 use monitor_tests::lent::Lent;
 use monitor_tests::library::{self, c, Figure, Verdict};
+use monitor_tests::loaded::Loaded;
 use monitor_tests::model::{Model, STATE_BYTES};
+use second_checker::example::EXAMPLE;
 use second_checker::random::Random;
 use std::ptr::{null, null_mut};
 
@@ -13,9 +14,7 @@ const SHORT: [usize; 9] = [0, 1, 8, 63, 64, 4_096, 32_768, 65_534, 65_535];
 
 /// A state with the example loaded and user 1 at place 1, label 1, role 2.
 fn example_state() -> Vec<u8> {
-    let mut state = vec![0; STATE_BYTES];
-    let verdict = library::load(&mut role_file(EXAMPLE), &mut state);
-    assert_eq!(verdict, Verdict::default());
+    let mut state = Loaded::new(EXAMPLE.as_bytes()).state;
     assert_eq!(library::open(&mut state, 1, 1, 1), 0);
     assert_eq!(library::take(&mut state, 1, 2), 0);
     state
@@ -37,15 +36,8 @@ fn short_states() {
                     .on_library(state.bytes_mut(), store.bytes_mut(), random)
                     .unwrap();
                 let expected = match kind {
-                    Kind::Load => Answer::Verdict(Verdict {
-                        number: 7,
-                        first: 0,
-                        second: 0,
-                    }),
-                    kind if Kind::REPORTS.contains(&kind) => Answer::Figure(Figure {
-                        number: 21,
-                        figure: 0,
-                    }),
+                    Kind::Load => Answer::Verdict(Verdict::refused(7)),
+                    kind if Kind::REPORTS.contains(&kind) => Answer::Figure(Figure::refused(21)),
                     _ => Answer::Number(21),
                 };
                 assert_eq!(answer, expected, "{call} with {length} bytes");
@@ -110,19 +102,14 @@ fn short_and_long_stores() {
 /// "every slice may be empty": NULL with length 0 wherever a buffer is lent.
 #[test]
 fn null_with_length_0() {
-    let mut file = role_file(EXAMPLE);
+    let mut file = EXAMPLE.as_bytes().to_vec();
     let mut state = example_state();
     let before = state.clone();
     let mut store = vec![9; 128];
     let mut byte = [1];
     let (file_bytes, state_bytes) = (file.as_mut_ptr(), state.as_mut_ptr());
     let (store_bytes, one_byte) = (store.as_mut_ptr(), byte.as_mut_ptr());
-    let verdict = |number| Verdict {
-        number,
-        first: 0,
-        second: 0,
-    };
-    let figure = |number| Figure { number, figure: 0 };
+    let (verdict, figure) = (Verdict::refused, Figure::refused);
     unsafe {
         let all = STATE_BYTES;
         let none = null_mut();

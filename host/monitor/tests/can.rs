@@ -1,11 +1,12 @@
 //! What a user can, against the model and against the calls themselves.
 
-use monitor_tests::example::{role_file, EXAMPLE};
 use monitor_tests::generate::{accepted_file, number, wild_number};
 use monitor_tests::library::{self, Figure};
+use monitor_tests::loaded::Loaded;
 use monitor_tests::model::{Mode, Model, Policy, CARD_BYTES, STATE_BYTES};
+use second_checker::differential::show;
+use second_checker::example::EXAMPLE;
 use second_checker::random::Random;
-use std::io::Write;
 
 const FILES: u64 = 60;
 /// Up to so many questions, all of a file's are asked.
@@ -33,36 +34,15 @@ impl Question {
     }
 }
 
-/// A loaded state and the model of it.
-struct Loaded {
-    state: Vec<u8>,
-    model: Model,
-}
-
-impl Loaded {
-    fn new(file: &mut [u8]) -> Loaded {
-        let mut model = Model::default();
-        let mut state = vec![0; STATE_BYTES];
-        let expected = model.load(file, STATE_BYTES);
-        assert_eq!(library::load(file, &mut state), expected);
-        assert_eq!(expected.number, 0, "the generator's file was refused");
-        Loaded { state, model }
-    }
-
-    fn policy(&self) -> &Policy {
-        self.model.policy().unwrap()
-    }
-
-    /// The library's answer, which is the model's; the state stays as it is.
-    fn answer(&self, lent: &mut [u8], question: Question) -> Figure {
-        let answer = question.to_library(lent);
-        let expected = question.to_model(&self.model, STATE_BYTES);
-        assert_eq!(answer, expected, "{question:?}");
-        assert!(answer.number == 0 || answer.figure == 0, "{question:?}");
-        assert!(answer.figure <= 1, "{question:?}");
-        assert!(lent == self.state, "{question:?} changes nothing");
-        answer
-    }
+/// The library's answer, which is the model's; the state stays as it is.
+fn answer(loaded: &Loaded, lent: &mut [u8], question: Question) -> Figure {
+    let answer = question.to_library(lent);
+    let expected = question.to_model(&loaded.model, STATE_BYTES);
+    assert_eq!(answer, expected, "{question:?}");
+    assert!(answer.number == 0 || answer.figure == 0, "{question:?}");
+    assert!(answer.figure <= 1, "{question:?}");
+    assert!(lent == loaded.state, "{question:?} changes nothing");
+    answer
 }
 
 /// How often each answer was seen.
@@ -84,11 +64,6 @@ impl Seen {
             _ => panic!("{answer:?}"),
         }
     }
-}
-
-/// Past the test runner, which would keep it back.
-fn print(line: &str) {
-    writeln!(std::io::stdout(), "\n{line}").expect("standard output");
 }
 
 // ---------------------------------------------------------------------------
@@ -217,14 +192,14 @@ fn can_agrees_with_the_model() {
     let mut whole = 0;
     for index in 0..FILES {
         let random = &mut Random::for_file(15, index);
-        let loaded = Loaded::new(&mut accepted_file(random));
+        let loaded = Loaded::new(&accepted_file(random));
         whole += usize::from(size_of_all(loaded.policy()) <= ALL);
         let lent = &mut loaded.state.clone();
         for question in questions(random, loaded.policy()) {
-            seen.count(loaded.answer(lent, question));
+            seen.count(answer(&loaded, lent, question));
         }
     }
-    print(&format!("{whole} files of {FILES} asked all: {seen:?}"));
+    show(&format!("{whole} files of {FILES} asked all: {seen:?}"));
     assert!(whole > 20 && whole < 50, "{whole}");
     assert!(seen.figure_1 > 2_000 && seen.figure_0 > 2_000, "{seen:?}");
     assert!(seen.number_25 > 2_000 && seen.number_26 > 2_000, "{seen:?}");
@@ -233,7 +208,7 @@ fn can_agrees_with_the_model() {
 /// The document's example, by hand: role 2 has r-level 1 and w-level 2.
 #[test]
 fn the_example() {
-    let mut loaded = Loaded::new(&mut role_file(EXAMPLE));
+    let mut loaded = Loaded::new(EXAMPLE.as_bytes());
     for label in [1, 2] {
         for (card, mode, figure) in [(1, 1, 1), (1, 2, 0), (2, 1, 0), (2, 2, 1)] {
             let answer = library::can(&mut loaded.state, 1, label, card, mode);
@@ -271,7 +246,7 @@ fn can_agrees_with_the_calls() {
     let mut seen = Seen::default();
     for index in 0..FILES {
         let random = &mut Random::for_file(16, index);
-        let loaded = Loaded::new(&mut accepted_file(random));
+        let loaded = Loaded::new(&accepted_file(random));
         let roles = loaded.policy().counts.roles as u64;
         for _ in 0..TRIED {
             let question = drawn(random, loaded.policy());
@@ -288,7 +263,7 @@ fn can_agrees_with_the_calls() {
             seen.count(answer);
         }
     }
-    print(&format!("tried with every role: {seen:?}"));
+    show(&format!("tried with every role: {seen:?}"));
     assert!(seen.figure_1 > 200 && seen.figure_0 > 200, "{seen:?}");
 }
 
@@ -297,11 +272,8 @@ fn can_agrees_with_the_calls() {
 
 #[test]
 fn short_and_zeroed_states() {
-    let refused = Figure {
-        number: 21,
-        figure: 0,
-    };
-    let mut loaded = Loaded::new(&mut role_file(EXAMPLE));
+    let refused = Figure::refused(21);
+    let mut loaded = Loaded::new(EXAMPLE.as_bytes());
     let before = loaded.state.clone();
     let mut zeroed = vec![0; STATE_BYTES];
     for numbers in [

@@ -2,9 +2,9 @@
 //! on the model alike.
 
 use monitor_tests::call::{Answer, Call};
-use monitor_tests::example::{role_file, EXAMPLE};
 use monitor_tests::library::{Figure, Verdict};
 use monitor_tests::model::{Model, Part, STATE_BYTES};
+use second_checker::example::{example, role_file};
 use second_checker::random::Random;
 
 /// Both sides with the same file loaded.
@@ -119,7 +119,7 @@ impl Both {
 #[test]
 fn writing_up_without_reading_up() {
     for clearance in ["U 1 2", "U 1 1"] {
-        let mut both = Both::loaded(&EXAMPLE.replace("U 1 2", clearance), 2);
+        let mut both = Both::loaded(&example().replace("U 1 2", clearance), 2);
         both.open(1, 1, 1, 0);
         both.take(1, 2, 0);
         both.write(1, 2, 0, b"valve", 0);
@@ -134,7 +134,7 @@ fn writing_up_without_reading_up() {
 /// "offset 60, length 4: 0; length 5: 30; offset 64, length 0: 0"
 #[test]
 fn offset_and_length() {
-    let mut both = Both::loaded(EXAMPLE, 2);
+    let mut both = Both::loaded(&example(), 2);
     both.open(1, 1, 1, 0);
     both.take(1, 2, 0);
     both.read(1, 1, (60, 4), 0);
@@ -158,7 +158,7 @@ fn offset_and_length() {
 #[test]
 fn the_label_and_not_the_clearance() {
     // Role 1 reads card 2, whose label is 2; role 2 is its senior.
-    let text = EXAMPLE.replace("P 1 1 1", "P 1 1 1\nP 1 2 1");
+    let text = example().replace("P 1 1 1", "P 1 1 1\nP 1 2 1");
     let mut both = Both::loaded(&text, 2);
     both.open(1, 1, 1, 0);
     both.take(1, 1, 28);
@@ -194,7 +194,7 @@ fn membership() {
 /// "Taking makes its checks first even then; 27 and 28 are for taking only."
 #[test]
 fn held_already_and_not_held() {
-    let mut both = Both::loaded(EXAMPLE, 2);
+    let mut both = Both::loaded(&example(), 2);
     both.open(5, 1, 1, 0);
     both.drop_role(5, 1, 0);
     both.take(5, 1, 0);
@@ -204,7 +204,7 @@ fn held_already_and_not_held() {
     both.read(5, 1, (0, 1), 29);
     both.drop_role(5, 1, 0);
     // Dropping a role that isn't assigned, only out of range.
-    both.load(&EXAMPLE.replace("A 1 2", "A 1 1"), [0, 0, 0]);
+    both.load(&example().replace("A 1 2", "A 1 1"), [0, 0, 0]);
     both.open(5, 1, 1, 0);
     both.take(5, 2, 27);
     both.drop_role(5, 2, 0);
@@ -214,7 +214,7 @@ fn held_already_and_not_held() {
 /// Dropping one of two roles that give a read leaves the other.
 #[test]
 fn two_roles_give_one_read() {
-    let mut both = Both::loaded(EXAMPLE, 2);
+    let mut both = Both::loaded(&example(), 2);
     both.open(2, 1, 2, 0);
     both.take(2, 1, 0);
     both.take(2, 2, 0);
@@ -229,7 +229,7 @@ fn two_roles_give_one_read() {
 /// "Closing empties the place, and it can be opened again."
 #[test]
 fn closing_and_opening_again() {
-    let mut both = Both::loaded(EXAMPLE, 2);
+    let mut both = Both::loaded(&example(), 2);
     both.close(1, 24);
     both.open(1, 1, 2, 0);
     both.open(1, 1, 2, 23);
@@ -248,7 +248,7 @@ fn closing_and_opening_again() {
 #[test]
 fn the_order_of_numbers() {
     let wild = u64::MAX;
-    let mut both = Both::loaded(&EXAMPLE.replace("U 1 2", "U 1 1"), 2);
+    let mut both = Both::loaded(&example().replace("U 1 2", "U 1 1"), 2);
     both.open(0, wild, wild, 22);
     both.open(65, wild, wild, 22);
     both.close(0, 22);
@@ -291,16 +291,16 @@ fn the_order_of_numbers() {
 /// A load that is refused leaves sessions open, one that is done closes all.
 #[test]
 fn a_load_closes_all_sessions() {
-    let mut both = Both::loaded(EXAMPLE, 2);
+    let mut both = Both::loaded(&example(), 2);
     for place in 1..=64 {
         both.open(place, 1, 1, 0);
         both.take(place, 2, 0);
     }
-    both.load(&EXAMPLE.replace("D 2 1\n", ""), [12, 1, 2]);
+    both.load(&example().replace("D 2 1\n", ""), [12, 1, 2]);
     for place in 1..=64 {
         both.read(place, 1, (0, 1), 0);
     }
-    both.load(EXAMPLE, [0, 0, 0]);
+    both.load(&example(), [0, 0, 0]);
     for place in 1..=64 {
         both.close(place, 24);
         both.open(place, 1, 1, 0);
@@ -323,7 +323,7 @@ fn only_h() {
 /// lowest role on a circle of two or more roles, or 0"
 #[test]
 fn role_flow() {
-    let mut both = Both::loaded(EXAMPLE, 2);
+    let mut both = Both::loaded(&example(), 2);
     both.flows(1, 2, 0, 0);
     both.flows(2, 1, 0, 0);
     both.flows(2, 2, 0, 0);

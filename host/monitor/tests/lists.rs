@@ -2,8 +2,8 @@
 
 use monitor_tests::generate::Caller;
 use monitor_tests::lists::{run, List, Tally, CALLS};
+use second_checker::differential::{show, Totals};
 use second_checker::random::Random;
-use std::io::Write;
 
 const SEED: u64 = 1;
 const LISTS: u64 = 600;
@@ -18,9 +18,8 @@ fn random_lists_agree_with_the_model() {
             panic!("{problem}");
         }
     }
-    // Past the test runner, which would keep it back.
-    writeln!(std::io::stdout(), "\n{}", tally.table()).expect("standard output");
-    assert_eq!(tally.missing(), Vec::<String>::new(), "never seen");
+    show(&tally.table());
+    assert_eq!(tally.unseen(), Vec::<String>::new(), "never seen");
 }
 
 /// The calls of two lists in turn, each on a state of its own: a library that

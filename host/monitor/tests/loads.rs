@@ -1,21 +1,24 @@
 //! What a load does to the state, refused or done.
 
-use monitor_tests::example::{role_file, EXAMPLE};
 use monitor_tests::generate::{accepted_file, random_bytes};
 use monitor_tests::lent::Lent;
 use monitor_tests::library::{self, Verdict};
 use monitor_tests::lists::first_difference;
+use monitor_tests::loaded::Loaded;
 use monitor_tests::model::{Model, PLACES, STATE_BYTES};
-use second_checker::generate::{bent, loose, mixed, one_wrong_byte, stacked, torn, write};
+use second_checker::check::REFUSALS;
+use second_checker::differential::show;
+use second_checker::example::EXAMPLE;
+use second_checker::generate::{
+    accepted, bent, loose, mixed, one_wrong_byte, stacked, torn, write, Size,
+};
+use second_checker::line::LINE_LENGTH;
 use second_checker::random::Random;
 use std::collections::BTreeMap;
-use std::io::Write;
 
 /// A state with the example loaded and every place open.
 fn busy_state() -> Vec<u8> {
-    let mut state = vec![0; STATE_BYTES];
-    let verdict = library::load(&mut role_file(EXAMPLE), &mut state);
-    assert_eq!(verdict, Verdict::default());
+    let mut state = Loaded::new(EXAMPLE.as_bytes()).state;
     for place in 1..=PLACES as u64 {
         assert_eq!(library::open(&mut state, place, 1, 1 + place % 2), 0);
         assert_eq!(library::take(&mut state, place, 2), 0);
@@ -87,7 +90,7 @@ fn files_of_every_kind() {
     }
     for index in 0..25 {
         let random = &mut Random::for_file(8, index);
-        for number in [2, 3, 4, 5, 6, 11, 12, 13, 14, 15, 16] {
+        for &number in &REFUSALS[1..] {
             let file = bent(random, number);
             let before = state_before(random, &busy);
             let verdict = load(&file, &before, random);
@@ -108,10 +111,12 @@ fn files_of_every_kind() {
             count(load(&file, &before, random));
         }
     }
-    let mut out = std::io::stdout().lock();
-    writeln!(out, "\nloads ({}): {seen:?}", library::UNDER_TEST).expect("standard output");
-    for number in [0, 1, 2, 3, 4, 5, 6, 11, 12, 13, 14, 15, 16] {
-        assert!(seen.contains_key(&number), "number {number} never seen");
+    show(&format!("loads ({}): {seen:?}", library::UNDER_TEST));
+    for number in [0].into_iter().chain(REFUSALS) {
+        assert!(
+            seen.contains_key(&(number as u64)),
+            "number {number} never seen"
+        );
     }
 }
 
@@ -120,7 +125,7 @@ fn files_of_every_kind() {
 fn files_cut_at_every_byte() {
     let busy = busy_state();
     let random = &mut Random::new(9);
-    let file = role_file(EXAMPLE);
+    let file = EXAMPLE.as_bytes();
     for length in 0..=file.len() {
         load(&file[..length], &busy, random);
     }
@@ -134,13 +139,10 @@ fn files_cut_at_every_byte() {
 fn files_about_the_limit() {
     let busy = busy_state();
     let random = &mut Random::new(10);
-    let full = write(&second_checker::generate::accepted(
-        random,
-        second_checker::generate::Size::Full,
-    ));
+    let full = write(&accepted(random, Size::Full));
     assert_eq!(full.len(), 63_800);
     assert_eq!(load(&full, &busy, random).number, 0);
-    let last = full[full.len() - 22..].to_vec();
+    let last = full[full.len() - LINE_LENGTH..].to_vec();
     let longer = [full.clone(), last].concat();
     assert_eq!(load(&longer, &busy, random).number, 1);
     assert_eq!(load(&full[..63_799], &busy, random).number, 1);
@@ -158,7 +160,7 @@ fn short_states_come_first() {
         let file = mixed(11, index);
         let length = random.pick(&[0, 1, 22, 32_768, 63_800, 65_534, 65_535]);
         let verdict = load(&file, &busy[..length], random);
-        assert_eq!((verdict.number, verdict.first, verdict.second), (7, 0, 0));
+        assert_eq!(verdict, Verdict::refused(7));
     }
 }
 
@@ -173,7 +175,7 @@ fn every_place_is_closed() {
         for place in 1..=PLACES as u64 {
             assert_eq!(library::close(&mut state, place), 24);
         }
-        let verdict = library::load(&mut role_file(EXAMPLE), &mut state);
+        let verdict = library::load(&mut EXAMPLE.as_bytes().to_vec(), &mut state);
         assert_eq!(verdict, Verdict::default());
         for place in 1..=PLACES as u64 {
             assert_eq!(library::open(&mut state, place, 1, 2), 0);

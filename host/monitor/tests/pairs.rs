@@ -1,7 +1,6 @@
 //! "Two runs side by side", tried on random pairs of runs.
 
 use monitor_tests::call::{Call, Kind};
-use monitor_tests::example::{role_file, EXAMPLE};
 use monitor_tests::library::UNDER_TEST;
 use monitor_tests::model::Model;
 use monitor_tests::pairs::compare::{compare, on_library};
@@ -10,15 +9,11 @@ use monitor_tests::pairs::tally::Tally;
 use monitor_tests::pairs::tracker::{Labels, Opened, Tracker};
 use monitor_tests::pairs::Pair;
 use second_checker::check::read;
-use std::io::Write;
+use second_checker::differential::show;
+use second_checker::example::EXAMPLE;
 
 const SEED: u64 = 1;
 const PAIRS: u64 = 3_000;
-
-/// Past the test runner, which would keep it back.
-fn print(lines: &str) {
-    writeln!(std::io::stdout(), "\n{lines}").expect("standard output");
-}
 
 /// Enough was granted for the test to mean anything.
 fn assert_rich(tally: &Tally) {
@@ -35,7 +30,7 @@ fn assert_rich(tally: &Tally) {
 #[test]
 fn the_library_shows_the_same_under_the_label() {
     let tally = on_library(PAIRS, SEED).unwrap_or_else(|problem| panic!("{problem}"));
-    print(&format!("library: {UNDER_TEST}\n{}", tally.table()));
+    show(&format!("library: {UNDER_TEST}\n{}", tally.table()));
     assert_rich(&tally);
 }
 
@@ -58,13 +53,13 @@ fn each_leaky_copy_is_caught() {
             caught(leak, PAIRS, SEED).unwrap_or_else(|| panic!("{leak:?} is never seen"));
         lines.push_str(&format!("\n{pair:>6}  {leak:?}: {seen}"));
     }
-    print(&lines);
+    show(&lines);
 }
 
 /// Label 2 dominates label 1, and the only user is cleared to 2.
 #[test]
 fn the_tracker_follows_openings_and_closings() {
-    let labels = Labels::of(&read(&role_file(EXAMPLE)).expect("the example file"));
+    let labels = Labels::of(&read(EXAMPLE.as_bytes()).expect("the example file"));
     let mut tracker = Tracker::new(&labels);
     let openings = [
         (1, 1, 1),

@@ -2,25 +2,23 @@
 //! damaged. A call gets some number of its list, keeps to its buffers and
 //! does the same each time.
 
-use monitor_tests::call::{Call, Kind};
+use monitor_tests::call::{Answer, Call, Kind};
 use monitor_tests::generate::{any_call, random_bytes, wild_number, Caller};
 use monitor_tests::laws::{self, Change};
 use monitor_tests::lent::Lent;
 use monitor_tests::library;
 use monitor_tests::lists::{List, Tally};
 use monitor_tests::model::{Model, STATE_BYTES};
+use second_checker::differential::show;
+use second_checker::generate::LIMITS;
 use second_checker::random::Random;
 use std::collections::BTreeMap;
-use std::io::Write;
 
 const STATES: u64 = 4_000;
 const CALLS: usize = 12;
 
-/// The largest counts: labels, roles, users, cards.
-const LIMITS: [usize; 4] = [32, 128, 256, 512];
-
 /// A state that a load and calls left, with sessions in it.
-struct Loaded {
+struct Used {
     state: Vec<u8>,
     model: Model,
     /// The bytes that the calls changed: where sessions are kept, whatever the
@@ -28,10 +26,10 @@ struct Loaded {
     changed: Vec<usize>,
 }
 
-fn loaded_states(random: &mut Random) -> Vec<Loaded> {
+fn used_states(random: &mut Random) -> Vec<Used> {
     let mut tally = Tally::default();
-    let mut loaded = Vec::new();
-    while loaded.len() < 40 {
+    let mut used = Vec::new();
+    while used.len() < 40 {
         let mut list = List::new(random, &mut |_| (), &mut tally).unwrap();
         let after_load = list.state.bytes().to_vec();
         let caller = Caller::new(random);
@@ -43,14 +41,14 @@ fn loaded_states(random: &mut Random) -> Vec<Loaded> {
             .filter(|&at| state[at] != after_load[at])
             .collect();
         if !changed.is_empty() {
-            loaded.push(Loaded {
+            used.push(Used {
                 state,
                 model: list.model,
                 changed,
             });
         }
     }
-    loaded
+    used
 }
 
 /// Puts plausible counts at the front, as numbers of 1, 2, 4 or 8 bytes.
@@ -84,9 +82,9 @@ fn wild_bytes(random: &mut Random) -> Vec<u8> {
 }
 
 /// A state that no load left, and what it is.
-fn hostile_state(random: &mut Random, loaded: &[Loaded], from: &Loaded) -> (&'static str, Vec<u8>) {
+fn hostile_state(random: &mut Random, used: &[Used], from: &Used) -> (&'static str, Vec<u8>) {
     let mut state = from.state.clone();
-    let other = &loaded[random.below(loaded.len())];
+    let other = &used[random.below(used.len())];
     // Where the state isn't 0, it holds something.
     let in_use: Vec<usize> = (0..STATE_BYTES - 8).filter(|&at| state[at] != 0).collect();
     let any_byte = |random: &mut Random| match random.below(4) {
@@ -172,7 +170,7 @@ fn made_on_copies(
     state: &[u8],
     store: &[u8],
     random: &mut Random,
-) -> (monitor_tests::call::Answer, Vec<u8>, Vec<u8>) {
+) -> (Answer, Vec<u8>, Vec<u8>) {
     let surplus = random.pick(&[0, 0, 1, 9, 500]);
     let tail = random_bytes(random, surplus);
     let state = [state, &tail].concat();
@@ -220,13 +218,13 @@ fn hostile_call(random: &mut Random, caller: &Caller, model: &Model, store: usiz
 
 #[test]
 fn hostile_states() {
-    let loaded = loaded_states(&mut Random::new(5));
+    let used = used_states(&mut Random::new(5));
     // Of each kind of state: calls, and those that didn't get 21.
     let mut counts: BTreeMap<&str, (u64, u64)> = BTreeMap::new();
     for index in 0..STATES {
         let random = &mut Random::for_file(6, index);
-        let from = &loaded[random.below(loaded.len())];
-        let (kind_of_state, mut state) = hostile_state(random, &loaded, from);
+        let from = &used[random.below(used.len())];
+        let (kind_of_state, mut state) = hostile_state(random, &used, from);
         let length = random.pick(&[0, 64, 1_280, 32_767, 32_768, 32_768, 40_000]);
         let mut store = random_bytes(random, length);
         let caller = Caller::new(random);
@@ -246,9 +244,9 @@ fn hostile_states() {
             (_, state, store) = first;
         }
     }
-    let mut out = std::io::stdout().lock();
-    writeln!(out, "\nhostile states ({}):", library::UNDER_TEST).expect("standard output");
+    let mut lines = format!("hostile states ({}):", library::UNDER_TEST);
     for (kind, (calls, usable)) in counts {
-        writeln!(out, "{calls:>6} calls, {usable:>6} not 21: {kind}").expect("standard output");
+        lines += &format!("\n{calls:>6} calls, {usable:>6} not 21: {kind}");
     }
+    show(&lines);
 }

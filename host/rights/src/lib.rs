@@ -10,15 +10,17 @@ pub mod model;
 
 pub mod graph;
 pub mod list;
-pub mod program;
 pub mod questions;
 pub mod refusal;
 pub mod report;
+pub mod temporary;
 
 use model::Policy;
+use second_checker::program;
 use std::ffi::OsString;
 use std::io;
 use std::os::unix::ffi::OsStrExt;
+use std::path::Path;
 
 /// What a run prints.
 #[derive(Clone, Debug, Default, PartialEq, Eq)]
@@ -45,7 +47,22 @@ impl Printed {
     }
 }
 
+/// What the program prints with these arguments.
+pub fn run(program: &Path, arguments: &[OsString]) -> Result<Printed, String> {
+    let ended = program::run(program, arguments, b"")?;
+    if ended.code != 0 {
+        return Err(format!("ended with exit status {}", ended.code));
+    }
+    Ok(Printed {
+        output: ended.output,
+        problems: ended.problems,
+    })
+}
+
 const USAGE: &str = "usage: rights FILE [USER ...] | rights dot FILE";
+
+/// An argument that is longer than a path isn't repeated.
+const LONGEST_PATH: usize = 4_096;
 
 /// What a run with these arguments prints.
 pub fn expected(arguments: &[OsString]) -> Printed {
@@ -65,7 +82,10 @@ pub fn expected(arguments: &[OsString]) -> Printed {
 /// accepted one.
 fn about(name: &OsString, accepted: impl Fn(&Policy) -> Printed) -> Printed {
     match std::fs::read(name) {
-        Err(problem) => Printed::problem("", name.as_bytes(), &format!(": {}", words(&problem))),
+        Err(problem) => {
+            let shown = repeated(name).unwrap_or(b"rights");
+            Printed::problem("", shown, &format!(": {}", words(&problem)))
+        }
         Ok(file) => match Policy::of(&file) {
             Err(verdict) => Printed::output(refusal::text(&file, &verdict)),
             Ok(policy) => accepted(&policy),
@@ -73,8 +93,14 @@ fn about(name: &OsString, accepted: impl Fn(&Policy) -> Printed) -> Printed {
     }
 }
 
+/// The argument, where a line repeats it.
+fn repeated(argument: &OsString) -> Option<&[u8]> {
+    let bytes = argument.as_bytes();
+    (bytes.len() <= LONGEST_PATH).then_some(bytes)
+}
+
 /// The system's words, without the number that Rust puts behind them.
-pub fn words(problem: &io::Error) -> String {
+fn words(problem: &io::Error) -> String {
     let text = problem.to_string();
     match text.rfind(" (os error") {
         Some(end) => text[..end].to_string(),
@@ -88,8 +114,9 @@ fn of_users(policy: &Policy, names: &[OsString]) -> Printed {
         match user(name.as_bytes(), policy.counts.users) {
             Some(user) => asked.push(user),
             None => {
+                let shown = repeated(name).unwrap_or_default();
                 let after = " is not the number of a user of this file";
-                return Printed::problem("rights: ", name.as_bytes(), after);
+                return Printed::problem("rights: ", shown, after);
             }
         }
     }

@@ -1,17 +1,17 @@
 //! Random files and arguments for the program, the same ones for the same
 //! seed and index.
 
-use crate::program::{first_difference, run, Temporary};
-use crate::{expected, graph, Printed};
-use second_checker::check::{Counts, RoleFile, READ, WRITE};
-use second_checker::generate::{
-    accepted, bent_small, mixed, sparse_flow, write, Size, BENT_NUMBERS,
-};
+use crate::temporary::Temporary;
+use crate::{expected, graph, run, Printed};
+use second_checker::check::{read, Counts, RoleFile, READ, REFUSALS, WRITE};
+use second_checker::differential::Totals;
+use second_checker::generate::{accepted, bent_small, mixed, sparse_flow, write, Size};
 use second_checker::line::LINE_LENGTH;
+use second_checker::program::first_difference;
 use second_checker::random::Random;
 use second_checker::tally::Tally;
 use second_checker::{check, Outcome};
-use std::collections::BTreeSet;
+use std::collections::{BTreeMap, BTreeSet};
 use std::ffi::OsString;
 use std::os::unix::ffi::OsStringExt;
 use std::path::Path;
@@ -24,6 +24,17 @@ enum Kind {
     /// Among the users one that is none.
     NoUser,
     Dot,
+}
+
+impl Kind {
+    fn name(self) -> &'static str {
+        match self {
+            Kind::Everyone => "everyone",
+            Kind::Users => "users",
+            Kind::NoUser => "no user",
+            Kind::Dot => "dot",
+        }
+    }
 }
 
 /// A file and the question about it.
@@ -45,9 +56,9 @@ impl Question {
             _ => Kind::Dot,
         };
         // Of a refused file nothing is known; its users are not looked at.
-        let users = match check(&file) {
-            Outcome::Accepted(_) => users_of(&file),
-            Outcome::Refused(_) => random.below(4),
+        let users = match (check(&file), read(&file)) {
+            (Outcome::Accepted(_), Ok(role_file)) => role_file.counts.users,
+            _ => random.below(4),
         };
         let users = match kind {
             Kind::Everyone | Kind::Dot => Vec::new(),
@@ -90,7 +101,7 @@ fn file(random: &mut Random, seed: u64, index: u64) -> Vec<u8> {
     match index % 8 {
         0..=2 => mixed(seed, index),
         3 if random.percent(50) => with_any_bytes(random),
-        3 => bent_small(random, BENT_NUMBERS[(index / 8 % 12) as usize]),
+        3 => bent_small(random, REFUSALS[(index / 8 % 12) as usize]),
         4 if random.percent(40) => write(&circles(random)),
         4 => write(&sparse_flow(random)),
         5 => write(&accepted(random, Size::Tiny)),
@@ -134,8 +145,7 @@ fn circles(random: &mut Random) -> RoleFile {
         }
         roles += ring;
     }
-    let mut names: Vec<usize> = (1..=roles).collect();
-    random.shuffle(&mut names);
+    let names = random.shuffled(roles);
     let cards = flows.len();
     let mut permissions = BTreeSet::new();
     for (&(from, to), card) in flows.iter().zip(1..) {
@@ -160,12 +170,6 @@ fn circles(random: &mut Random) -> RoleFile {
         assignments: vec![(1, random.between(1, roles))],
         ..RoleFile::default()
     }
-}
-
-/// How many users an accepted file has, from its H line.
-fn users_of(file: &[u8]) -> usize {
-    let columns = std::str::from_utf8(&file[11..16]).expect("digits and blanks");
-    columns.trim().parse().expect("a number")
 }
 
 /// One to six users, or many, each written in one of its ways.
@@ -209,85 +213,75 @@ fn no_user(random: &mut Random, users: usize) -> Vec<u8> {
     }
 }
 
-/// How many questions of each kind there were.
+/// What a run must see beside the numbers about files.
+const WANTED: [&str; 8] = [
+    "everyone",
+    "users",
+    "no user",
+    "dot",
+    "a byte above 126",
+    "a byte below 32",
+    "a red flow",
+    "a blue flow",
+];
+
+/// The files, and in how many questions there was what is wanted: the kind of
+/// question, in a line shown a byte that can't be, in a graph a flow on a circle
+/// or on none.
 #[derive(Default)]
 pub struct Seen {
-    pub files: Tally,
-    everyone: usize,
-    users: usize,
-    no_user: usize,
-    dot: usize,
-    /// Lines shown with a byte outside ASCII, or with another that can't be
-    /// shown.
-    outside: usize,
-    control: usize,
-    /// Graphs with a flow on a circle, and with one on none.
-    red: usize,
-    blue: usize,
+    files: Tally,
+    wanted: BTreeMap<&'static str, usize>,
     bytes: usize,
 }
 
 impl Seen {
     fn count(&mut self, question: &Question, expected: &Printed) {
         self.files.count(&question.file, &check(&question.file));
-        let count = match question.kind {
-            Kind::Everyone => &mut self.everyone,
-            Kind::Users => &mut self.users,
-            Kind::NoUser => &mut self.no_user,
-            Kind::Dot => &mut self.dot,
-        };
-        *count += 1;
         let line = question.line_refused().unwrap_or_default();
-        self.outside += usize::from(line.iter().any(|&byte| byte > 126));
-        self.control += usize::from(line.iter().any(|&byte| byte < 32));
         let text = String::from_utf8_lossy(&expected.output);
         let (_, flows) = text.split_once(graph::FLOWS).unwrap_or_default();
-        let flows = flows.lines().filter(|line| line.contains(" -> "));
-        let (red, blue): (Vec<&str>, Vec<&str>) = flows.partition(|line| line.contains("red"));
-        self.red += usize::from(!red.is_empty());
-        self.blue += usize::from(!blue.is_empty());
+        let flows = || flows.lines().filter(|line| line.contains(" -> "));
+        for (name, seen) in [
+            (question.kind.name(), true),
+            ("a byte above 126", line.iter().any(|&byte| byte > 126)),
+            ("a byte below 32", line.iter().any(|&byte| byte < 32)),
+            ("a red flow", flows().any(|line| line.contains("red"))),
+            ("a blue flow", flows().any(|line| !line.contains("red"))),
+        ] {
+            *self.wanted.entry(name).or_default() += usize::from(seen);
+        }
         self.bytes += expected.output.len();
     }
 
-    pub fn table(&self) -> String {
-        format!(
-            "{}\nasked of everyone {}, of users {}, of no user {}, dot {} (red flows in {}, blue in {})\n\
-             lines shown with bytes above 126: {}, below 32: {}; {} bytes compared",
-            self.files.table(),
-            self.everyone,
-            self.users,
-            self.no_user,
-            self.dot,
-            self.red,
-            self.blue,
-            self.outside,
-            self.control,
-            self.bytes
-        )
+    fn questions_with(&self, name: &str) -> usize {
+        self.wanted.get(name).copied().unwrap_or(0)
+    }
+}
+
+impl Totals for Seen {
+    fn add(&mut self, other: Seen) {
+        self.files.add(other.files);
+        for (name, questions) in other.wanted {
+            *self.wanted.entry(name).or_default() += questions;
+        }
+        self.bytes += other.bytes;
     }
 
-    /// What was never seen.
-    pub fn unseen(&self) -> Vec<String> {
-        let numbers = self.files.unseen().into_iter();
-        let kinds = [
-            ("everyone", self.everyone),
-            ("users", self.users),
-            ("no user", self.no_user),
-            ("dot", self.dot),
-            ("a byte above 126", self.outside),
-            ("a byte below 32", self.control),
-            ("a red flow", self.red),
-            ("a blue flow", self.blue),
-        ];
-        numbers
-            .map(|number| format!("number {number}"))
-            .chain(
-                kinds
-                    .into_iter()
-                    .filter(|(_, count)| *count == 0)
-                    .map(|(name, _)| name.to_string()),
-            )
-            .collect()
+    fn table(&self) -> String {
+        let mut table = self.files.table() + "\nquestions";
+        for name in WANTED {
+            table += &format!("\n{name:<16} {:>7}", self.questions_with(name));
+        }
+        table + &format!("\n{} bytes compared", self.bytes)
+    }
+
+    fn unseen(&self) -> Vec<String> {
+        let wanted = WANTED.into_iter();
+        let unseen = wanted.filter(|name| self.questions_with(name) == 0);
+        let mut all = self.files.unseen();
+        all.extend(unseen.map(String::from));
+        all
     }
 }
 

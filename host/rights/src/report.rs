@@ -30,7 +30,7 @@ fn of_user(policy: &Policy, user: usize) -> String {
     let mut text = format!("user {user:>5}  clearance  {clearance}\n");
     text += &format!("            assigned  {}\n", list::text(&assigned));
     text += &format!("            inherited {}\n", list::text(&inherited));
-    for label in labels(policy, user) {
+    for label in policy.labels_to_open(user) {
         let takes = takes(policy, user, label);
         let reads = given(policy, &takes, Mode::Read);
         let writes = given(policy, &takes, Mode::Write);
@@ -57,13 +57,6 @@ fn members(policy: &Policy, user: usize) -> Numbers {
         .collect()
 }
 
-/// The labels that the user's clearance dominates.
-fn labels(policy: &Policy, user: usize) -> Numbers {
-    (1..=policy.counts.labels)
-        .filter(|&label| policy.is_cleared(user, label))
-        .collect()
-}
-
 /// The roles that a session of the user at the label may take.
 fn takes(policy: &Policy, user: usize, label: usize) -> Numbers {
     policy.roles_to_take(user, label).collect()
@@ -83,7 +76,7 @@ fn given(policy: &Policy, roles: &Numbers, mode: Mode) -> Numbers {
 fn by_anyone(policy: &Policy) -> (Numbers, Numbers) {
     let mut taken = Numbers::new();
     for user in 1..=policy.counts.users {
-        for label in labels(policy, user) {
+        for label in policy.labels_to_open(user) {
             taken.extend(takes(policy, user, label));
         }
     }

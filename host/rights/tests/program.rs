@@ -1,13 +1,14 @@
 //! The program that RIGHTS_BIN names, against what it must print. Without
 //! RIGHTS_BIN the stand-in is tested: the model's own text, printed.
 
-use rights_tests::program::{run, Temporary};
 use rights_tests::questions::{compare, same, Seen};
-use rights_tests::{expected, Printed};
+use rights_tests::temporary::Temporary;
+use rights_tests::{expected, run, Printed};
+use second_checker::differential::{show, Totals};
+use second_checker::example::EXAMPLE;
 use second_checker::line::print_line;
 use std::ffi::OsString;
 use std::fs;
-use std::io::Write;
 use std::os::unix::ffi::{OsStrExt, OsStringExt};
 use std::os::unix::fs::PermissionsExt;
 use std::path::PathBuf;
@@ -17,18 +18,7 @@ const FILES: u64 = 400;
 
 const USAGE: &str = "usage: rights FILE [USER ...] | rights dot FILE";
 
-/// Document 01's example: one user.
-const EXAMPLE: &str = "\
-H    2    2    1    2
-D    2    1          
-S    2    1          
-U    1    2          
-O    1    1          
-O    2    2          
-P    1    1    1     
-P    2    2    2     
-A    1    2          
-";
+const NO_USER: &str = " is not the number of a user of this file";
 
 fn program() -> PathBuf {
     match std::env::var_os("RIGHTS_BIN") {
@@ -41,6 +31,16 @@ fn words(arguments: &[&str]) -> Vec<OsString> {
     arguments.iter().map(OsString::from).collect()
 }
 
+/// A file with these bytes.
+fn temporary(bytes: &[u8]) -> Temporary {
+    Temporary::file(bytes).expect("a temporary file")
+}
+
+/// Document 01's example, which has one user.
+fn example_file() -> Temporary {
+    temporary(EXAMPLE.as_bytes())
+}
+
 /// Nothing on standard output, and exactly this line on standard error.
 fn only_a_problem(arguments: &[OsString], before: &str, name: &[u8], after: &str) {
     let wanted = Printed {
@@ -48,12 +48,10 @@ fn only_a_problem(arguments: &[OsString], before: &str, name: &[u8], after: &str
         problems: [before.as_bytes(), name, after.as_bytes(), b"\n"].concat(),
     };
     // What the model says is not by itself what was laid down.
-    assert!(expected(arguments) == wanted, "{before}{after}");
-    if let Err(problem) = same(&program(), arguments, &wanted) {
-        panic!("{problem}");
-    }
+    assert!(agrees(arguments) == wanted, "{before}{after}");
 }
 
+/// What the model says, which is what the program prints.
 fn agrees(arguments: &[OsString]) -> Printed {
     let expected = expected(arguments);
     if let Err(problem) = same(&program(), arguments, &expected) {
@@ -73,9 +71,7 @@ fn random_files() {
             panic!("{problem}");
         }
     }
-    // Past the test runner, which would keep it back.
-    let mut out = std::io::stdout();
-    writeln!(out, "\n{}: {}", program().display(), seen.table()).expect("standard output");
+    show(&format!("{}: {}", program().display(), seen.table()));
     assert_eq!(seen.unseen(), Vec::<String>::new(), "never seen");
 }
 
@@ -105,7 +101,7 @@ fn the_longest_report() {
         line(b'P', &[127, card, 1 + (card + 1) % 2]);
     }
     (1..=256).for_each(|user| line(b'A', &[user, 128]));
-    let file = Temporary::file(&file).expect("a temporary file");
+    let file = temporary(&file);
     let printed = agrees(&[file.name()]);
     assert!(
         printed.output.len() > 15_000_000,
@@ -120,7 +116,7 @@ fn the_longest_report() {
 #[test]
 fn the_longest_graphs() {
     let dot = |file: &[u8], lines: usize| {
-        let file = Temporary::file(file).expect("a temporary file");
+        let file = temporary(file);
         let printed = agrees(&["dot".into(), file.name()]);
         let count = printed.output.iter().filter(|&&byte| byte == b'\n').count();
         assert!(count > lines, "{count}");
@@ -147,7 +143,7 @@ fn the_longest_graphs() {
 #[test]
 fn long_files() {
     for length in [63_801, 63_822, 65_536, 1 << 20, 10_000_010] {
-        let file = Temporary::file(&vec![b' '; length]).expect("a temporary file");
+        let file = temporary(&vec![b' '; length]);
         let printed = agrees(&[file.name(), "1".into()]);
         assert!(printed.output.starts_with(b"refused     number     1\n"));
         agrees(&["dot".into(), file.name()]);
@@ -159,7 +155,7 @@ fn long_files() {
 
 #[test]
 fn bad_usage() {
-    let file = Temporary::file(EXAMPLE.as_bytes()).expect("a temporary file");
+    let file = example_file();
     only_a_problem(&[], USAGE, b"", "");
     only_a_problem(&words(&["dot"]), USAGE, b"", "");
     let dot = OsString::from("dot");
@@ -203,7 +199,7 @@ fn files_that_cannot_be_read() {
 /// For the superuser every file can be read; then there is nothing to test.
 #[test]
 fn a_file_without_permission() {
-    let file = Temporary::file(EXAMPLE.as_bytes()).expect("a temporary file");
+    let file = example_file();
     let nobody = fs::Permissions::from_mode(0o000);
     fs::set_permissions(&file.path, nobody).expect("permissions");
     if fs::read(&file.path).is_err() {
@@ -220,15 +216,14 @@ fn no_user(file: &Temporary, name: &[u8]) {
         vec![file.name(), one.clone(), user.clone()],
         vec![file.name(), user.clone(), one.clone()],
     ] {
-        let after = " is not the number of a user of this file";
-        only_a_problem(&arguments, "rights: ", name, after);
+        only_a_problem(&arguments, "rights: ", name, NO_USER);
     }
 }
 
 /// What is no user of a file of one user.
 #[test]
 fn arguments_that_are_no_user() {
-    let file = Temporary::file(EXAMPLE.as_bytes()).expect("a temporary file");
+    let file = example_file();
     let long = "1".repeat(4_096);
     let names: [&[u8]; 27] = [
         b"0",
@@ -267,28 +262,20 @@ fn arguments_that_are_no_user() {
 /// Arguments longer than any path get one line too, which does not repeat them.
 #[test]
 fn arguments_longer_than_a_path() {
-    let file = Temporary::file(EXAMPLE.as_bytes()).expect("a temporary file");
+    let file = example_file();
     for length in [4_097, 5_000, 65_537, 131_000] {
-        let name: OsString = "1".repeat(length).into();
-        for (arguments, problem) in [
-            (vec![name.clone()], "rights: File name too long\n"),
-            (vec!["dot".into(), name.clone()], "rights: File name too long\n"),
-            (vec![file.name(), name.clone()], "rights:  is not the number of a user of this file\n"),
-        ] {
-            let wanted = Printed {
-                output: Vec::new(),
-                problems: problem.as_bytes().to_vec(),
-            };
-            if let Err(problem) = same(&program(), &arguments, &wanted) {
-                panic!("{problem}");
-            }
+        let name = OsString::from("1".repeat(length));
+        let too_long = "rights: File name too long";
+        for arguments in [vec![name.clone()], vec!["dot".into(), name.clone()]] {
+            only_a_problem(&arguments, too_long, b"", "");
         }
+        only_a_problem(&[file.name(), name], "rights: ", b"", NO_USER);
     }
 }
 
 #[test]
 fn ways_to_write_a_user() {
-    let file = Temporary::file(EXAMPLE.as_bytes()).expect("a temporary file");
+    let file = example_file();
     let everyone = agrees(&[file.name()]);
     assert!(!everyone.output.is_empty());
     for name in ["1", "01", "001", "0001", "00001"] {
@@ -298,24 +285,19 @@ fn ways_to_write_a_user() {
 
 #[test]
 fn many_users_asked() {
-    let file = Temporary::file(EXAMPLE.as_bytes()).expect("a temporary file");
+    let file = example_file();
     let mut arguments = vec![file.name()];
     arguments.resize(10_000, "1".into());
     agrees(&arguments);
     arguments.push("0".into());
-    only_a_problem(
-        &arguments,
-        "rights: ",
-        b"0",
-        " is not the number of a user of this file",
-    );
+    only_a_problem(&arguments, "rights: ", b"0", NO_USER);
 }
 
 /// "A refused file is reported before the user arguments are looked at."
 #[test]
 fn a_refused_file_comes_first() {
     let refused = EXAMPLE.replace("U    1    2", "U    1    3");
-    let file = Temporary::file(refused.as_bytes()).expect("a temporary file");
+    let file = temporary(refused.as_bytes());
     let alone = agrees(&[file.name()]);
     assert!(alone.output.starts_with(b"refused     number     4\n"));
     for user in ["1", "x", "", "257"] {
@@ -327,7 +309,7 @@ fn a_refused_file_comes_first() {
 /// It reads the file and leaves it as it was.
 #[test]
 fn the_file_is_only_read() {
-    let file = Temporary::file(EXAMPLE.as_bytes()).expect("a temporary file");
+    let file = example_file();
     let reading = fs::Permissions::from_mode(0o444);
     fs::set_permissions(&file.path, reading).expect("permissions");
     run(&program(), &[file.name()]).expect("a run");

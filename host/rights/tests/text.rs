@@ -4,22 +4,11 @@ use rights_tests::answer::Verdict;
 use rights_tests::list;
 use rights_tests::model::{Model, Policy, STATE_BYTES};
 use rights_tests::{graph, refusal, report};
+use second_checker::check::REFUSALS;
+use second_checker::example::EXAMPLE;
 use second_checker::generate::{accepted, write, Size};
 use second_checker::random::Random;
 use std::collections::BTreeSet;
-
-/// Document 01's example.
-const EXAMPLE: &str = "\
-H    2    2    1    2
-D    2    1          
-S    2    1          
-U    1    2          
-O    1    1          
-O    2    2          
-P    1    1    1     
-P    2    2    2     
-A    1    2          
-";
 
 /// Labels 2 and 3 between 1 and 4; role 3 over 2 over 1, with a line for each
 /// pair; roles 2 and 3 on a circle of flow with 4, which role 1 flows to.
@@ -257,16 +246,16 @@ refused     number     12
 fn words_for_each_number() {
     let file = [b' '; 22];
     let mut texts = BTreeSet::new();
-    for number in [1, 2, 3, 4, 5, 6, 11, 12, 13, 14, 15, 16] {
+    for number in REFUSALS {
         let verdict = Verdict {
-            number,
+            number: number as u64,
             first: 1,
             second: 0,
         };
         let text = String::from_utf8(refusal::text(&file, &verdict)).unwrap();
         texts.insert(text.lines().nth(2).unwrap().to_string());
     }
-    assert_eq!(texts.len(), 12);
+    assert_eq!(texts.len(), REFUSALS.len());
 }
 
 /// The report's cards are those of which the model says that the user can.

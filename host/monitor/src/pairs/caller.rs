@@ -124,13 +124,11 @@ impl Caller<'_> {
         } else {
             random.pick(&users) as u64
         };
-        let meaning = &self.policy.meaning;
-        let clearance = meaning.clearance.get(user as usize).copied().unwrap_or(0);
+        let clearances = &self.policy.meaning.clearance;
+        let clearance = clearances.get(user as usize).copied().unwrap_or(0);
         let mut label = number(random, self.policy.counts.labels);
         if clearance > 0 && random.percent(90) {
-            let dominated: Vec<usize> = (1..=self.policy.counts.labels)
-                .filter(|&label| meaning.dominance.over(clearance, label))
-                .collect();
+            let dominated: Vec<usize> = self.policy.labels_to_open(user as usize).collect();
             label = match random.below(3) {
                 0 => clearance as u64,
                 _ => random.pick(&dominated) as u64,

@@ -2,7 +2,7 @@
 //! writes.
 
 use second_checker::check::{Counts, Meaning, RoleFile, READ, WRITE};
-use second_checker::generate::{accepted, Size};
+use second_checker::generate::{accepted, assignments_with, Size};
 use second_checker::random::Random;
 
 /// A file that meets every rule: mostly a rich one, else any small one.
@@ -24,7 +24,7 @@ pub fn accepted_file(random: &mut Random) -> RoleFile {
     };
     add_users_and_cards(random, &mut file);
     add_roles(random, &mut file);
-    file.assignments = assignments(&file, 0);
+    file.assignments = assignments_with(&file, 0);
     file.assignments.retain(|_| random.percent(75));
     file
 }
@@ -32,7 +32,7 @@ pub fn accepted_file(random: &mut Random) -> RoleFile {
 /// The file with assignments more, of roles that write below the user's
 /// clearance, where there are such roles. It gets number 16.
 pub fn with_low_writers(random: &mut Random, file: &RoleFile) -> Option<RoleFile> {
-    let mut low_writers = assignments(file, 16);
+    let mut low_writers = assignments_with(file, 16);
     low_writers.retain(|_| random.percent(30));
     if low_writers.is_empty() {
         return None;
@@ -43,21 +43,11 @@ pub fn with_low_writers(random: &mut Random, file: &RoleFile) -> Option<RoleFile
     Some(bent)
 }
 
-/// The assignments that would get this number; 0 are the good ones.
-fn assignments(file: &RoleFile, number: usize) -> Vec<(usize, usize)> {
-    let meaning = Meaning::of(file);
-    (1..=file.counts.users)
-        .flat_map(|user| (1..=file.counts.roles).map(move |role| (user, role)))
-        .filter(|&(user, role)| meaning.assignment_number(user, role) == number)
-        .collect()
-}
-
 /// A label is a degree and a set of makers, who are rivals: neither's label
 /// dominates the other's. Its D lines lead to one degree less or to one maker
 /// less. The labels' numbers are shuffled.
 fn lattice(random: &mut Random, degrees: usize, sets: usize) -> Vec<(usize, usize)> {
-    let mut numbers: Vec<usize> = (1..=degrees * sets).collect();
-    random.shuffle(&mut numbers);
+    let numbers = random.shuffled(degrees * sets);
     let label = |degree: usize, set: usize| numbers[degree * sets + set];
     let mut lines = Vec::new();
     for degree in 0..degrees {

@@ -110,15 +110,10 @@ impl Tracker<'_> {
     /// "The shared calls are all openings and closings, refused ones too, and
     /// each call at a place that is then open with a label L dominates."
     pub fn is_shared(&self, label: usize, call: &Call) -> bool {
-        match *call {
-            Call::Open { .. } | Call::Close { .. } => true,
-            Call::Take { place, .. } | Call::Drop { place, .. } | Call::Write { place, .. } => {
-                self.is_under(label, place)
-            }
-            Call::Read(part) => self.is_under(label, part.place),
-            Call::Load { .. } | Call::Flows { .. } | Call::Circle | Call::Can { .. } => {
-                unreachable!("{call} stands in no run")
-            }
+        match (call, call.place()) {
+            (Call::Open { .. } | Call::Close { .. }, _) => true,
+            (_, Some(place)) => self.is_under(label, place),
+            (_, None) => unreachable!("{call} stands in no run"),
         }
     }
 }

@@ -1,15 +1,13 @@
 //! Document 01's example file, and files written with single blanks.
 
 /// The example file.
-pub const EXAMPLE: &str = "H 2 2 1 2
-    D 2 1
-    S 2 1
-    U 1 2
-    O 1 1
-    O 2 2
-    P 1 1 1
-    P 2 2 2
-    A 1 2";
+pub const EXAMPLE: &str = include_str!("../../../examples/document.role");
+
+/// The example file with single blanks, for tests that change its lines.
+pub fn example() -> String {
+    let words = |line: &str| line.split_whitespace().collect::<Vec<_>>().join(" ");
+    EXAMPLE.lines().map(|line| words(line) + "\n").collect()
+}
 
 /// The bytes of a file whose lines are given with single blanks.
 pub fn role_file(text: &str) -> Vec<u8> {
