@@ -13,6 +13,18 @@ use Rattle.monitor.specs.Rights.{tableOf}
 abbrev pub counted : List ℕ → ℕ → ℕ
 counted xs at = cond (sound xs) (word xs at) 0
 
+abbrev pub knownLabels : List ℕ → ℕ
+knownLabels xs = counted xs 0
+
+abbrev pub knownRoles : List ℕ → ℕ
+knownRoles xs = counted xs 2
+
+abbrev pub knownUsers : List ℕ → ℕ
+knownUsers xs = counted xs 4
+
+abbrev pub knownCards : List ℕ → ℕ
+knownCards xs = counted xs 6
+
 -- x is one of them
 abbrev pub known : List ℕ → ℕ → ℕ → Bool
 known xs at x = sound xs && among (word xs at) x

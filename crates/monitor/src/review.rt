@@ -26,28 +26,28 @@ fn counted(s: &[u8], at: u64) -> u64
 
 // How many labels the state has.
 pub fn labels(s: &[u8]) -> u64
-    ensures { λ r. ⌜ r ≡ review.counted (now (s .entry)) 0 ⌝ }
+    ensures { λ r. ⌜ r ≡ review.knownLabels (now (s .entry)) ⌝ }
 {
     counted(s, 0)
 }
 
 // How many roles.
 pub fn roles(s: &[u8]) -> u64
-    ensures { λ r. ⌜ r ≡ review.counted (now (s .entry)) 2 ⌝ }
+    ensures { λ r. ⌜ r ≡ review.knownRoles (now (s .entry)) ⌝ }
 {
     counted(s, 2)
 }
 
 // How many users.
 pub fn users(s: &[u8]) -> u64
-    ensures { λ r. ⌜ r ≡ review.counted (now (s .entry)) 4 ⌝ }
+    ensures { λ r. ⌜ r ≡ review.knownUsers (now (s .entry)) ⌝ }
 {
     counted(s, 4)
 }
 
 // How many cards.
 pub fn cards(s: &[u8]) -> u64
-    ensures { λ r. ⌜ r ≡ review.counted (now (s .entry)) 6 ⌝ }
+    ensures { λ r. ⌜ r ≡ review.knownCards (now (s .entry)) ⌝ }
 {
     counted(s, 6)
 }

@@ -6,7 +6,7 @@ use lib.Dec.{leb, eqb}
 use lib.ListN.{length, getD}
 use Rattle.search.specs.Search.{every}
 use Rattle.rolefile.specs.Field.{isDigit}
-use Rattle.monitor.specs.Review.{counted}
+use Rattle.monitor.specs.Review.{knownUsers}
 
 -- what the first k digits come to
 unfoldable pub valueOf : ℕ → List ℕ → ℕ
@@ -19,7 +19,7 @@ numeral t = cond (leb (length t) 5 && every (length t) (λ k. isDigit (getD t (k
 
 -- the user of the state whose number the text is, or 0
 unfoldable pub userAsked : List ℕ → List ℕ → ℕ
-userAsked xs t = cond (leb (numeral t) (counted xs 4)) (numeral t) 0
+userAsked xs t = cond (leb (numeral t) (knownUsers xs)) (numeral t) 0
 
 -- the text is `dot`
 unfoldable pub isDot : List ℕ → Bool

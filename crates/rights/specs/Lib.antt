@@ -1,6 +1,2 @@
-pub mod Lists
-pub mod Rights
-pub mod Refusal
 pub mod Arguments
 pub mod Reading
-pub mod Graph

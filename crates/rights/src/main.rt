@@ -1,13 +1,9 @@
 // Prints what a role file means for its users, or why it is refused.
 mod arguments;
-mod graph;
-mod list;
-mod refusal;
-mod user;
 
 use libc::STDERR_FILENO;
 use libc::STDOUT_FILENO;
-ghost use Prim.Native.Nat.{_<_, _≤_};
+ghost use Prim.Native.Nat.{_≤_};
 ghost use lib.ListN.{length};
 ghost use Rattle.io.specs.Counts.{Counts};
 ghost use Rattle.rights.specs.Reading.{Within};
@@ -68,9 +64,7 @@ fn print_no_user(i: usize) {
 }
 
 // The user that argument i asks for, or 0.
-fn user_at(s: &[u8], i: usize) -> u64
-    ensures { λ r. ⌜ r < 100000 ⌝ }
-{
+fn user_at(s: &[u8], i: usize) -> u64 {
     let mut name = io::buffer();
     let n = os::arg(i, &mut name);
     arguments::user_asked(s, &name[..n])
@@ -98,10 +92,8 @@ fn print(out: &[u8], n: usize)
 }
 
 // Prints all of a user.
-fn print_user(s: &[u8], user: u64, out: &mut [u8])
-    requires { ⌜ user < 100000 ⌝ }
-{
-    let n = user::user_text(s, user, out);
+fn print_user(s: &[u8], user: u64, out: &mut [u8]) {
+    let n = report::user::user_text(s, user, out);
     print(out, n);
 }
 
@@ -127,7 +119,7 @@ fn print_asked(s: &[u8], out: &mut [u8]) {
 
 // Prints the roles that nobody can take and the cards that nobody can read.
 fn print_nobody(s: &[u8], out: &mut [u8]) {
-    let n = user::nobody_text(s, out);
+    let n = report::user::nobody_text(s, out);
     print(out, n);
 }
 
@@ -153,7 +145,7 @@ fn print_rights(s: &[u8]) {
 // Prints why the file is refused.
 fn print_refusal(file: &[u8], verdict: rolefile::Verdict) {
     let mut out = [0u8; 256];
-    let n = refusal::refusal(
+    let n = report::refusal::refusal(
         file,
         verdict.number,
         verdict.first,
@@ -166,7 +158,7 @@ fn print_refusal(file: &[u8], verdict: rolefile::Verdict) {
 // Prints the policy as a graph.
 fn print_graph(s: &[u8]) {
     let mut out = graph::buffer();
-    let n = graph::graph(s, &mut out);
+    let n = graph::draw(s, &mut out);
     print(&out, n);
 }
 

@@ -1,5 +1,5 @@
 -- How long a report can be. Assumes nothing.
-use Prim.Native.Nat.{ℕ, zero, suc, _*_, _≤_, _<_}
+use Prim.Native.Nat.{ℕ, _*_, _≤_, _<_}
 use mathlib.Core.Path.{_≡_, refl}
 use mathlib.Core.List.{List, []}
 use mathlib.Core.Bool.{Bool, true, false, cond}
@@ -21,6 +21,7 @@ use Rattle.policy.specs.Verdict.{verdict}
 use Rattle.policy.proofs.Levels.{Tells, level-tells}
 use Rattle.policy.proofs.Meaning.{counts-known}
 use Rattle.policy.proofs.Outcomes.{accepted-iff}
+use Rattle.text.proofs.Each.{each-most}
 use Rattle.rolecheck.specs.Report.{line, roleLines, flowLine, flowsFrom, flowLines, policyLines, fileLines, report}
 use Rattle.rolecheck.proofs.Places.{verdict-written}
 
@@ -35,12 +36,9 @@ module _ (letter used a b c : ℕ) (p : a < 100000) (q : b < 100000) (r : c < 10
       simp length-append (omega (arith, columns-length (leb 1 used) a p, columns-length (leb 2 used) b q, columns-length (leb 3 used) c r))
 
 module _ (reads writes : ℕ → ℕ) (r : (i : ℕ) → reads i < 100000) (w : (i : ℕ) → writes i < 100000) where
-  role-lines-length : (n : ℕ) → n ≤ 128 → length (roleLines reads writes n) ≡ 22 * n
-  unfolding roleLines
-  role-lines-length zero l = refl
-  role-lines-length (suc n) l =
-      rw length-append
-      (omega (arith, role-lines-length n (omega arith), line-length 82 3 (suc n) (reads (suc n)) (writes (suc n)) (omega arith) (r (suc n)) (w (suc n))))
+  role-lines-most : (n : ℕ) → n ≤ 128 → length (roleLines reads writes n) ≤ n * 22
+  role-lines-most n l =
+      each-most n 22 (λ i. line 82 3 i (reads i) (writes i)) (λ i u. omega (arith, line-length 82 3 i (reads i) (writes i) (omega arith) (r i) (w i)))
 
 module _ (flow : Relation) where
   flow-line-length : (from to : ℕ) → from ≤ 128 → to ≤ 128 → length (flowLine flow from to) ≤ 22
@@ -51,17 +49,10 @@ module _ (flow : Relation) where
       go true = omega (arith, line-length 70 2 from to 0 (omega arith) (omega arith) (omega arith))
       go false = omega arith
 
-  flows-from-length : (from n : ℕ) → from ≤ 128 → n ≤ 128 → length (flowsFrom flow from n) ≤ 22 * n
-  unfolding flowsFrom
-  flows-from-length from zero p q = omega arith
-  flows-from-length from (suc n) p q =
-      rw length-append (omega (arith, flows-from-length from n p (omega arith), flow-line-length from (suc n) p q))
-
-  flow-lines-length : (n m : ℕ) → n ≤ 128 → m ≤ 128 → length (flowLines flow n m) ≤ 2816 * m
-  unfolding flowLines
-  flow-lines-length n zero p q = omega arith
-  flow-lines-length n (suc m) p q =
-      rw length-append (omega (arith, flow-lines-length n m p (omega arith), flows-from-length (suc m) n q p))
+  flow-lines-most : (n : ℕ) → n ≤ 128 → length (flowLines flow n) ≤ n * 2816
+  flow-lines-most n l =
+      each-most n 2816 (flowsFrom flow n) (λ r v.
+      omega (arith, each-most n 22 (flowLine flow r) (λ q w. flow-line-length r q (omega arith) (omega arith))))
 
 -- ---- of a file
 
@@ -81,10 +72,10 @@ module _ (f : List ℕ) (form : WellFormed f) where
       rw (length-append, length-append)
       (omega (
         arith,
-        role-lines-length (λ r. shown (rLevel f r)) (λ r. shown (wLevel f r))
+        role-lines-most (λ r. shown (rLevel f r)) (λ r. shown (wLevel f r))
             (λ r. level-few (labels f) (dominates f) (mayAt f 1 r) (counts .labels .1)) (λ r. level-few (labels f) (λ a b. dominates f b a) (mayAt f 2 r) (counts .labels .1))
             (roles f) (counts .roles),
-        flow-lines-length (flows f) (roles f) (roles f) (counts .roles) (counts .roles),
+        flow-lines-most (flows f) (roles f) (counts .roles),
         line-length 67 1 (flowCircle f) 0 0 (omega (arith, first-within (λ a. path (roles f) (flows f) a a) (roles f))) (omega arith) (omega arith),
       ))
 

@@ -1,6 +1,6 @@
 -- The lines of a state whose tables describe a well-formed file are those of the file. Assumes nothing.
-use Prim.Native.Nat.{ℕ, zero, suc, _≤_}
-use mathlib.Core.Path.{_≡_, refl}
+use Prim.Native.Nat.{ℕ, _≤_}
+use mathlib.Core.Path.{_≡_}
 use mathlib.Core.List.{List}
 use native.Mathlib.Omega.{arith}
 use lib.ListN.{length}
@@ -15,31 +15,12 @@ use Rattle.policy.specs.Tables.{rLevelsAt, wLevelsAt, levelIn, flowsIn, roleCou
 use Rattle.policy.specs.Image.{Describes}
 use Rattle.policy.proofs.Flowing.{a-state}
 use Rattle.policy.proofs.Meaning.{counts-known, roles-file, flow-file, circle-file}
-use Rattle.rolecheck.specs.Report.{roleLines, flowLine, flowsFrom, flowLines, policyLines, fileLines, stateLines}
+use Rattle.text.proofs.Each.{each-agree}
+use Rattle.rolecheck.specs.Report.{line, flowLine, flowsFrom, policyLines, fileLines, stateLines}
 
--- ---- the lines see only the levels and the flow of the n roles
-
-module _ (reads reads₂ writes writes₂ : ℕ → ℕ) where
-  role-lines-agree : (n : ℕ) → ((r : ℕ) → Among n r → (reads r ≡ reads₂ r) × (writes r ≡ writes₂ r)) → roleLines reads writes n ≡ roleLines reads₂ writes₂ n
-  unfolding roleLines
-  role-lines-agree zero h = refl
-  role-lines-agree (suc n) h =
-      let (r, w) = h (suc n) (omega arith) in
-      rw (role-lines-agree n (λ a i. h a (omega arith)), r, w)
-
-module _ (flow flow₂ : Relation) where
-  flows-from-agree : (from n : ℕ) → ((q : ℕ) → Among n q → flow from q ≡ flow₂ from q) → flowsFrom flow from n ≡ flowsFrom flow₂ from n
-  unfolding flowsFrom flowLine
-  flows-from-agree from zero h = refl
-  flows-from-agree from (suc n) h = rw (flows-from-agree from n (λ q i. h q (omega arith)), h (suc n) (omega arith))
-
-  flow-lines-agree : (n m : ℕ) → ((r q : ℕ) → Among m r → Among n q → flow r q ≡ flow₂ r q) → flowLines flow n m ≡ flowLines flow₂ n m
-  unfolding flowLines
-  flow-lines-agree n zero h = refl
-  flow-lines-agree n (suc m) h =
-      rw (flow-lines-agree n m (λ r q i j. h r q (omega arith) j), flows-from-agree (suc m) n (λ q j. h (suc m) q (omega arith) j))
-
--- ---- of a file
+line-agrees : (flow flow₂ : Relation) (r q : ℕ) → flow r q ≡ flow₂ r q → flowLine flow r q ≡ flowLine flow₂ r q
+unfolding flowLine
+line-agrees flow flow₂ r q e = rw e
 
 module _ (f : List ℕ) (form : WellFormed f) (xs : List ℕ) (long : 65536 ≤ length xs) (tables : Describes f xs) where
   role : (r : ℕ) → Among (roles f) r → Among 128 r
@@ -64,6 +45,8 @@ module _ (f : List ℕ) (form : WellFormed f) (xs : List ℕ) (long : 65536 ≤ 
       rw (
         count-file,
         circle-in-file,
-        role-lines-agree (levelIn xs rLevelsAt) (λ r. shown (rLevel f r)) (levelIn xs wLevelsAt) (λ r. shown (wLevel f r)) (roles f) levels-file,
-        flow-lines-agree (flowsIn xs) (flows f) (roles f) (roles f) flow-in-file,
+        each-agree (roles f) (λ r. line 82 3 r (levelIn xs rLevelsAt r) (levelIn xs wLevelsAt r)) (λ r. line 82 3 r (shown (rLevel f r)) (shown (wLevel f r)))
+            (λ r w. rw (levels-file r w .0, levels-file r w .1)),
+        each-agree (roles f) (flowsFrom (flowsIn xs) (roles f)) (flowsFrom (flows f) (roles f))
+            (λ r v. each-agree (roles f) (flowLine (flowsIn xs) r) (flowLine (flows f) r) (λ q w. line-agrees (flowsIn xs) (flows f) r q (flow-in-file r q v w))),
       )

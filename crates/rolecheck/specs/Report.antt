@@ -1,12 +1,13 @@
 -- The report on a file: "in lines of the same form, V (number, the two numbers of its place), R for each role (role, r-level, w-level; 0 free, 99
 -- undefined), F for each flow in rising order (from, to), C (role on a circle or 0)"; of a file that is refused, V alone. Assumes nothing.
-use Prim.Native.Nat.{ℕ, zero, suc}
+use Prim.Native.Nat.{ℕ}
 use mathlib.Core.List.{List, [], _∷_, _++_}
 use mathlib.Core.Bool.{cond}
 use lib.Dec.{leb, eqb}
 use Rattle.order.specs.Closure.{Relation}
 use Rattle.rolefile.specs.Said.{roles}
 use Rattle.rolefile.specs.Decimal.{blanks, columnsOf}
+use Rattle.text.specs.Text.{each}
 use Rattle.policy.specs.Policy.{rLevel, wLevel, shown}
 use Rattle.policy.specs.Verdict.{verdict}
 use Rattle.policy.specs.Flow.{flows, flowCircle}
@@ -19,27 +20,24 @@ line letter used a b c = letter ∷ (columnsOf (leb 1 used) a ++ (columnsOf (leb
 -- ---- the lines of a policy, by its levels and its flow
 
 -- the lines R of the first n roles; 82 is the byte of R
-unfoldable pub roleLines : (ℕ → ℕ) → (ℕ → ℕ) → ℕ → List ℕ
-roleLines reads writes zero = []
-roleLines reads writes (suc n) = roleLines reads writes n ++ line 82 3 (suc n) (reads (suc n)) (writes (suc n))
+abbrev pub roleLines : (ℕ → ℕ) → (ℕ → ℕ) → ℕ → List ℕ
+roleLines reads writes n = each n (λ r. line 82 3 r (reads r) (writes r))
 
 -- the line F from a role to another, where the first flows to the second; 70 is the byte of F
 unfoldable pub flowLine : Relation → ℕ → ℕ → List ℕ
 flowLine flow from to = cond (flow from to) (line 70 2 from to 0) []
 
 -- those from a role to the first n roles
-unfoldable pub flowsFrom : Relation → ℕ → ℕ → List ℕ
-flowsFrom flow from zero = []
-flowsFrom flow from (suc n) = flowsFrom flow from n ++ flowLine flow from (suc n)
+abbrev pub flowsFrom : Relation → ℕ → ℕ → List ℕ
+flowsFrom flow n from = each n (flowLine flow from)
 
--- those from the first m roles to the first n
-unfoldable pub flowLines : Relation → ℕ → ℕ → List ℕ
-flowLines flow n zero = []
-flowLines flow n (suc m) = flowLines flow n m ++ flowsFrom flow (suc m) n
+-- those of the first n roles
+abbrev pub flowLines : Relation → ℕ → List ℕ
+flowLines flow n = each n (flowsFrom flow n)
 
 -- those of n roles, and the line C; 67 is the byte of C
 unfoldable pub policyLines : ℕ → (ℕ → ℕ) → (ℕ → ℕ) → Relation → ℕ → List ℕ
-policyLines n reads writes flow role = roleLines reads writes n ++ (flowLines flow n n ++ line 67 1 role 0 0)
+policyLines n reads writes flow role = roleLines reads writes n ++ (flowLines flow n ++ line 67 1 role 0 0)
 
 -- ---- the report; 86 is the byte of V
 

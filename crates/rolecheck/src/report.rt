@@ -40,7 +40,7 @@ fn flow_line(state: &[u8], from: usize, to: usize, out: &mut [u8], at: usize) ->
 // The lines of the flows from a role, in rising order.
 fn flows_from(state: &[u8], from: usize, out: &mut [u8], at: usize) -> usize
     requires { ⌜ (from < 100000) × (at ≤ length (now out)) ⌝ }
-    ensures { λ r. ⌜ Puts (flowsFrom (flowsIn (now (state .entry))) from (roleCount (now (state .entry)))) at (now (out .entry)) r (now (out .exit)) ⌝ }
+    ensures { λ r. ⌜ Puts (flowsFrom (flowsIn (now (state .entry))) (roleCount (now (state .entry))) from) at (now (out .entry)) r (now (out .exit)) ⌝ }
 {
     let n = policy::flow::roles(state);
     let mut used = at;
@@ -55,7 +55,7 @@ fn flows_from(state: &[u8], from: usize, out: &mut [u8], at: usize) -> usize
 // The lines of all flows, in rising order.
 fn flow_lines(state: &[u8], out: &mut [u8], at: usize) -> usize
     requires { ⌜ at ≤ length (now out) ⌝ }
-    ensures { λ r. ⌜ Puts (flowLines (flowsIn (now (state .entry))) (roleCount (now (state .entry))) (roleCount (now (state .entry)))) at (now (out .entry)) r (now (out .exit)) ⌝ }
+    ensures { λ r. ⌜ Puts (flowLines (flowsIn (now (state .entry))) (roleCount (now (state .entry)))) at (now (out .entry)) r (now (out .exit)) ⌝ }
 {
     let n = policy::flow::roles(state);
     let mut used = at;

@@ -1,2 +1,4 @@
 pub mod Padded
 pub mod Text
+pub mod Each
+pub mod Lengths

@@ -1,5 +1,5 @@
 -- Text put into a buffer. Assumes nothing.
-use Prim.Native.Nat.{ℕ, _-_, _≤_}
+use Prim.Native.Nat.{ℕ, zero, suc, _-_, _≤_}
 use Prim.Native.Char.{code}
 use Prim.Native.String.{String}
 use Prim.Native.String as string
@@ -13,6 +13,11 @@ use Rattle.rolefile.specs.Decimal.{lastDigits, blanks}
 abbrev pub ascii : String → List ℕ
 ascii string.[] = []
 ascii (string._∷_ c s) = code c ∷ ascii s
+
+-- the texts of the things 1 to n, one after the other
+unfoldable pub each : ℕ → (ℕ → List ℕ) → List ℕ
+each zero f = []
+each (suc n) f = each n f ++ f (suc n)
 
 -- the last five digits of a number, with blanks before them where it has fewer; 32 is the byte of a blank
 unfoldable pub lastFive : ℕ → List ℕ

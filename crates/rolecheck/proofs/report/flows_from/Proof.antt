@@ -1,46 +1,34 @@
 -- Each turn puts the line of the flow to one role more.
-use Prim.Native.Nat.{ℕ, _+_, _≤_, _-_}
-use mathlib.Core.Path.{_≡_, refl, ap, _∙_}
-use mathlib.Core.List.{[], _++_}
+use Prim.Native.Nat.{_≤_, _-_}
+use mathlib.Core.Path.{_≡_, sym, _∙_}
 use native.Mathlib.Omega.{arith}
-use native.Mathlib.Numerals.{add-one}
 use borrow.Author.Needs.{needs}
 use denote.Ref.{now}
-use Rattle.order.specs.Closure.{Relation}
-use Rattle.text.specs.Text.{Puts}
-use Rattle.text.proofs.Text.{puts-as, puts-then, puts-nothing}
+use Rattle.text.specs.Text.{Puts, each}
+use Rattle.text.proofs.Text.{by-key}
+use Rattle.text.proofs.Each.{each-none, each-more}
 use Rattle.policy.specs.Tables.{flowsIn}
-use Rattle.rolecheck.specs.Report.{flowLine, flowsFrom}
+use Rattle.rolecheck.specs.Report.{flowLine}
 use Rattle.rolecheck.proofs.Counted.{few-roles}
 use Rattle.rolecheck.proofs.report.flows_from.Statement.{statement}
 use Rattle.rolecheck.proofs.report.flows_from.Tie as tie
 
 abbrev Inv-loop : tie.InvT-loop
-Inv-loop state from out₀ at n used₀ i₀ out used i = (n ≤ 128) × (i ≤ n) × Puts (flowsFrom (flowsIn state) from i) at out₀ used out
+Inv-loop state from out₀ at n used₀ i₀ out used i = (n ≤ 128) × (i ≤ n) × Puts (each i (flowLine (flowsIn state) from)) at out₀ used out
 
 abbrev μ-loop : tie.MeasureT-loop
 μ-loop state from out₀ at n used₀ i₀ out used i = n - i
 
-module _ (flow : Relation) (from : ℕ) where
-  none : [] ≡ flowsFrom flow from 0
-  unfolding flowsFrom
-  none = refl
-
-  more : (i : ℕ) → flowsFrom flow from i ++ flowLine flow from (i + 1) ≡ flowsFrom flow from (i + 1)
-  unfolding flowsFrom
-  more i = rw add-one
-
 loop-holds : tie.Need-loop-holds Inv-loop μ-loop
 loop-holds c =
     let a = c .before .before .before .args in
-    (omega (arith, few-roles (now (a .state))), search needs, puts-as (none (flowsIn (now (a .state))) (a .from)) (puts-nothing (a .at) (now (a .out)) (search needs)))
+    (omega (arith, few-roles (now (a .state))), search needs, each-none _ (search needs))
 
 loop-again : tie.Need-loop-again Inv-loop μ-loop
 loop-again c =
     let turn = c .before .before .before .before .before in
     let w = turn .loop in
-    let a = turn .before .before .before .before .args in
-    (search needs, search needs, puts-as (more (flowsIn (now (a .state))) (a .from) (w .i)) (puts-then (w .inv .2) (c .before .before .flow-line .ensures)))
+    (search needs, search needs, each-more _ (w .i) (w .inv .2) (c .before .before .flow-line .ensures))
 
 returns : tie.Need-returns Inv-loop μ-loop
 returns c =
@@ -48,7 +36,7 @@ returns c =
     let counted = c .before .before in
     let a = counted .before .before .before .args in
     let all : w .i ≡ counted .roles .result = omega arith in
-    puts-as (ap (flowsFrom (flowsIn (now (a .state))) (a .from)) (all ∙ counted .roles .ensures)) (w .inv .2)
+    by-key (λ n. each n (flowLine (flowsIn (now (a .state))) (a .from))) (sym (all ∙ counted .roles .ensures)) (w .inv .2)
 
 pub flows-from-spec : {M : Type 1} → statement M
 flows-from-spec =

@@ -1,0 +1,81 @@
+-- The tables that a graph is drawn by; and that its text sees of its relations only what they say of the things that are drawn. Assumes nothing.
+use Prim.Native.Nat.{ℕ, _+_, _*_, _≤_, _<_, min}
+use mathlib.Core.Path.{_≡_, _∙_}
+use mathlib.Core.Bool.{Bool, false, _&&_}
+use mathlib.Core.List.{List}
+use native.Mathlib.Omega.{arith}
+use native.Mathlib.Nat.{zero-add}
+use lib.ListN.{length, replicate, length-replicate}
+use Rattle.search.specs.Search.{Among}
+use Rattle.search.proofs.Found.{some-agree}
+use Rattle.roleset.specs.Row.{member, united, Placed}
+use Rattle.order.specs.Closure.{Relation, path}
+use Rattle.order.specs.Table.{related, Tabled}
+use Rattle.order.proofs.Seats.{seat-left}
+use Rattle.order.proofs.Closure.{Agree, via-agree}
+use Rattle.text.specs.Text.{ascii, each}
+use Rattle.text.proofs.Each.{each-agree}
+use Rattle.policy.proofs.Gathering.{zero-rows}
+use Rattle.policy.proofs.Flowing.{row-more}
+use Rattle.graph.specs.Graph.{past, direct, directFlow, node, orderLine, flowLine, nodes, orderLines, flowLines, rolesText}
+
+-- ---- a table that is made row by row: its next row, empty so far, is united with another
+
+module _ (h : Relation) (u row : List ℕ) (i : ℕ) (long : length u ≡ 2048) (l : i < 128) (done : Tabled 0 i h (replicate 2048 0) u) where
+  empty : (b : ℕ) → Among 128 b → member u (16 * i) b ≡ false
+  empty b w =
+      rw (zero-add (16 * i)) at (seat-left 0 h (replicate 2048 0) (omega (arith, length-replicate {A = ℕ} 2048 0)) i b u l w done)
+      ∙ zero-rows 2048 (16 * i) b (omega arith)
+
+  pub table-more : (v : List ℕ) → ((b : ℕ) → Among 128 b → member row 0 b ≡ h (i + 1) b) → Placed (16 * i) (united u (16 * i) row) u v
+      → Tabled 0 (i + 1) h (replicate 2048 0) v
+  table-more v new p =
+      row-more h (replicate 2048 0) u i (omega (arith, length-replicate {A = ℕ} 2048 0)) (omega (arith, length-replicate {A = ℕ} 2048 0)) l done v
+      (united u (16 * i) row) p (λ b w. rw (empty b w) (new b w))
+
+-- ---- relations that agree
+
+-- paths are those of what the table has
+pub paths-agree : (n : ℕ) (f : Relation) (t v : List ℕ) → n ≤ 128 → 2048 ≤ length t → Agree n n (related t 0) f
+    → Tabled 0 (min n 128) (path (min n 128) (related t 0)) t v → Agree n n (related v 0) (path n f)
+paths-agree n f t v few long h closed a b u w =
+    let m : min n 128 ≡ n = omega arith in
+    (rw m at closed) .rows (omega arith) .done a b u (omega arith) ∙ via-agree n n (related t 0) f (omega arith) h n (omega arith) a b u w
+
+module _ (n : ℕ) where
+  past-agree : (d e f g : Relation) → Agree n n d e → Agree n n f g → Agree n n (past n d f) (past n e g)
+  unfolding past
+  past-agree d e f g h k a b v w = some-agree (λ c. d a c && f c b) (λ c. e a c && g c b) n (λ c u. rw (h a c v u, k c b u w))
+
+  pub nodes-agree : (mark : List ℕ) (p q : ℕ → Bool) → ((a : ℕ) → Among n a → p a ≡ q a) → nodes mark n p ≡ nodes mark n q
+  nodes-agree mark p q h = each-agree n (λ a. node mark (p a) a) (λ a. node mark (q a) a) (λ a w. rw (h a w))
+
+  module _ (d e : Relation) (h : Agree n n d e) where
+    line-agree : (mark : List ℕ) (a b : ℕ) → Among n a → Among n b → orderLine mark n d a b ≡ orderLine mark n e a b
+    unfolding orderLine direct
+    line-agree mark a b v w = rw (h a b v w, past-agree d e d e h h a b v w)
+
+    pub order-lines-agree : (mark : List ℕ) → orderLines mark n d ≡ orderLines mark n e
+    order-lines-agree mark =
+        each-agree n (λ a. each n (orderLine mark n d a)) (λ a. each n (orderLine mark n e a))
+        (λ a v. each-agree n (orderLine mark n d a) (orderLine mark n e a) (λ b w. line-agree mark a b v w))
+
+  -- juniors, seniors, flow and its paths
+  module _ (j k s t f g p q : Relation) (hj : Agree n n j k) (hs : Agree n n s t) (hf : Agree n n f g) (hp : Agree n n p q) where
+    flow-agree : (a b : ℕ) → Among n a → Among n b → flowLine n j s f p a b ≡ flowLine n k t g q a b
+    unfolding flowLine directFlow
+    flow-agree a b v w = rw (hf a b v w, past-agree j k f g hj hf a b v w, past-agree f g s t hf hs a b v w, hp b a w v)
+
+    flow-lines-agree : flowLines n j s f p ≡ flowLines n k t g q
+    flow-lines-agree =
+        each-agree n (λ a. each n (flowLine n j s f p a)) (λ a. each n (flowLine n k t g q a))
+        (λ a v. each-agree n (flowLine n j s f p a) (flowLine n k t g q a) (λ b w. flow-agree a b v w))
+
+    pub roles-agree : rolesText n j s f p ≡ rolesText n k t g q
+    unfolding rolesText
+    roles-agree =
+        rw (
+          nodes-agree (ascii "r") (λ a. p a a) (λ a. q a a) (λ a w. hp a a w w),
+          order-lines-agree s t hs (ascii "r"),
+          flow-lines-agree,
+        )

@@ -1,0 +1,34 @@
+-- The texts one after the other.
+use borrow.Author.Needs.{needs}
+use Rattle.text.proofs.Text.{puts-then}
+use Rattle.graph.specs.Graph.{arrow}
+use Rattle.graph.proofs.arrow.Statement.{statement}
+use Rattle.graph.proofs.arrow.Tie as tie
+
+returns : tie.Need-returns
+unfolding arrow
+returns c =
+    let second = c .before .before in
+    let marked = second .before .before .before .before in
+    let parted = marked .before .before .before .before in
+    let first = parted .before .before .before .before .before in
+    let named = first .before .before .before .before in
+    let begun = named .before .before .before .before in
+    let pre = begun .before .before .before .before .before .pre in
+    puts-then (begun .put .ensures) (puts-then (named .put2 .ensures) (puts-then (first .number .ensures .2 (pre .0))
+    (puts-then (parted .put3 .ensures) (puts-then (marked .put4 .ensures) (second .number2 .ensures .2 (pre .1))))))
+
+pub arrow-spec : {M : Type 1} → statement M
+arrow-spec =
+    tie.close
+    (tie.spec
+    (λ c. search needs)
+    (λ c κs. search needs)
+    (λ c κs. search needs)
+    (λ c κs. search needs)
+    (λ c. search needs)
+    (λ c κs. search needs)
+    (λ c κs. search needs)
+    (λ c κs. search needs)
+    (λ c. search needs)
+    returns)

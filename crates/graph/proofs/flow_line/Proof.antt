@@ -1,0 +1,50 @@
+-- By cases on whether there is the line, and whether there is a way back.
+use mathlib.Core.Path.{sym, _∙_}
+use borrow.Author.Needs.{needs}
+use Rattle.search.proofs.Truth.{passed, failed}
+use Rattle.text.proofs.Text.{puts-nothing, puts-then}
+use Rattle.graph.specs.Graph.{flowLine}
+use Rattle.graph.proofs.flow_line.Statement.{statement}
+use Rattle.graph.proofs.flow_line.Tie as tie
+
+returns : tie.Need-returns
+unfolding flowLine
+returns c = rw (failed (c .before .direct-flow .ensures) (c .if1 .taken)) (puts-nothing _ _ (search needs))
+
+returns-2 : tie.Need-returns-2
+unfolding flowLine
+returns-2 c =
+    let ended = c .before .before in
+    let back = ended .before .before .before in
+    let drawn = back .before .before .before .before in
+    let tested = drawn .before .before .before in
+    rw (passed (tested .before .direct-flow .ensures) (tested .if1 .left), sym (back .before .relates .ensures) ∙ back .if2 .taken)
+    (puts-then (drawn .arrow .ensures) (ended .put .ensures))
+
+returns-3 : tie.Need-returns-3
+unfolding flowLine
+returns-3 c =
+    let ended = c .before .before in
+    let back = ended .before .before .before in
+    let drawn = back .before .before .before .before in
+    let tested = drawn .before .before .before in
+    rw (passed (tested .before .direct-flow .ensures) (tested .if1 .left), sym (back .before .relates .ensures) ∙ back .if2 .left)
+    (puts-then (drawn .arrow .ensures) (ended .put2 .ensures))
+
+pub flow-line-spec : {M : Type 1} → statement M
+flow-line-spec =
+    tie.close
+    (tie.spec
+    (λ c κs. search needs)
+    returns
+    (λ c. search needs)
+    (λ c κs. search needs)
+    (λ c κs. search needs)
+    (λ c. search needs)
+    (λ c κs. search needs)
+    (λ c. search needs)
+    returns-2
+    (λ c. search needs)
+    (λ c κs. search needs)
+    (λ c. search needs)
+    returns-3)

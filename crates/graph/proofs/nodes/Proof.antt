@@ -1,0 +1,47 @@
+-- Each turn puts one thing more.
+use Prim.Native.Nat.{_-_, _≤_}
+use mathlib.Core.Path.{_≡_}
+use native.Mathlib.Omega.{arith}
+use borrow.Author.Needs.{needs}
+use Rattle.order.specs.Table.{related}
+use Rattle.text.specs.Text.{Puts, each}
+use Rattle.graph.specs.Graph.{node}
+use Rattle.text.proofs.Each.{each-none, each-more}
+use Rattle.graph.proofs.nodes.Statement.{statement}
+use Rattle.graph.proofs.nodes.Tie as tie
+
+abbrev Inv-loop : tie.InvT-loop
+Inv-loop mark t n out₀ at used₀ i₀ out used i = (i ≤ n) × Puts (each i (λ a. node mark (related t 0 a a) a)) at out₀ used out
+
+abbrev μ-loop : tie.MeasureT-loop
+μ-loop mark t n out₀ at used₀ i₀ out used i = n - i
+
+loop-again : tie.Need-loop-again Inv-loop μ-loop
+loop-again c =
+    let asked = c .before .before .before .before in
+    let w = asked .before .before .loop in
+    (search needs, each-more _ (w .i) (w .inv .1) (rw (asked .relates .ensures) at (c .before .before .node .ensures)))
+
+returns : tie.Need-returns Inv-loop μ-loop
+returns c =
+    let w = c .before .loop in
+    let all : w .i ≡ c .before .before .before .before .before .args .n = omega arith in
+    rw all at (w .inv .1)
+
+pub nodes-spec : {M : Type 1} → statement M
+nodes-spec =
+    tie.close
+    (tie.spec
+    Inv-loop
+    μ-loop
+    (λ c. (search needs, each-none _ (search needs)))
+    (λ c. search needs)
+    (λ c. search needs)
+    (λ c κs. search needs)
+    (λ c. search needs)
+    (λ c κs. search needs)
+    (λ c. search needs)
+    (λ c. search needs)
+    loop-again
+    (λ c. search needs)
+    returns)

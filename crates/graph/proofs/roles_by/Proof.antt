@@ -1,0 +1,36 @@
+-- The texts one after the other.
+use borrow.Author.Needs.{needs}
+use Rattle.text.proofs.Text.{puts-then}
+use Rattle.graph.specs.Graph.{rolesText}
+use Rattle.graph.proofs.roles_by.Statement.{statement}
+use Rattle.graph.proofs.roles_by.Tie as tie
+
+returns : tie.Need-returns
+unfolding rolesText
+returns c =
+    let ended = c .before .before in
+    let flowed = ended .before .before .before .before .before in
+    let parted = flowed .before .before .before .before in
+    let lined = parted .before .before .before .before .before in
+    let noded = lined .before .before .before .before .before in
+    let begun = noded .before .before .before .before .before in
+    puts-then (begun .put .ensures) (puts-then (noded .nodes .ensures) (puts-then (lined .order-lines .ensures)
+    (puts-then (parted .put2 .ensures) (puts-then (flowed .flow-lines .ensures) (ended .put3 .ensures)))))
+
+pub roles-by-spec : {M : Type 1} → statement M
+roles-by-spec =
+    tie.close
+    (tie.spec
+    (λ c. search needs)
+    (λ c κs. search needs)
+    (λ c. search needs)
+    (λ c κs. search needs)
+    (λ c. search needs)
+    (λ c κs. search needs)
+    (λ c. search needs)
+    (λ c κs. search needs)
+    (λ c κs. search needs)
+    (λ c. search needs)
+    (λ c κs. search needs)
+    (λ c. search needs)
+    returns)

@@ -1,0 +1,4 @@
+pub mod Few
+pub mod Union
+pub mod Refusing
+pub mod Whole

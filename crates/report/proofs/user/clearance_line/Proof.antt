@@ -1,0 +1,33 @@
+-- One after the other.
+use native.Mathlib.Omega.{arith}
+use borrow.Author.Needs.{needs}
+use Rattle.text.proofs.Text.{puts-then}
+use Rattle.report.specs.Rights.{clearanceLine}
+use Rattle.report.proofs.user.clearance_line.Statement.{statement}
+use Rattle.report.proofs.user.clearance_line.Tie as tie
+
+returns : tie.Need-returns
+unfolding clearanceLine
+returns c =
+    let told = c .before .before .before .before .before .before .before in
+    let cleared = told .before in
+    let started = told .before .before .before .before .before in
+    let known = cleared .clearance .ensures in
+    puts-then (started .before .before .before .before .before .head .ensures)
+    (puts-then (started .put .ensures)
+    (puts-then (rw (known .0) at (told .number .ensures .2 (omega (arith, known .1)))) (c .before .before .put2 .ensures)))
+
+pub clearance-line-spec : {M : Type 1} → statement M
+clearance-line-spec =
+    tie.close
+    (tie.spec
+    (λ c. search needs)
+    (λ c κs. search needs)
+    (λ c. search needs)
+    (λ c κs. search needs)
+    (λ c κs. search needs)
+    (λ c κs. search needs)
+    (λ c. search needs)
+    (λ c κs. search needs)
+    (λ c. search needs)
+    returns)

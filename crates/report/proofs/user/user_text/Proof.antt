@@ -1,0 +1,62 @@
+-- Nothing of a number that is no user's; else one after the other.
+use Prim.Native.Nat.{ℕ, _<_}
+use mathlib.Core.Path.{_≡_}
+use mathlib.Core.List.{List, [], _++_}
+use mathlib.Core.Bool.{true, false}
+use native.Mathlib.Omega.{arith}
+use native.Mathlib.Nat.{le-trans}
+use borrow.Author.Needs.{needs}
+use denote.Ref.{now}
+use Rattle.search.specs.Search.{among}
+use Rattle.search.proofs.Truth.{among-iff, passed, failed}
+use Rattle.text.specs.Text.{ascii}
+use Rattle.text.proofs.Text.{puts-then, puts-nothing, puts-whole, puts-as}
+use Rattle.monitor.specs.Review.{knownUsers}
+use Rattle.monitor.proofs.Known.{few-users}
+use Rattle.report.specs.Rights.{userLines, labelsLines, userText}
+use Rattle.report.proofs.Whole.{user-fits, clearance-byte}
+use Rattle.report.proofs.user.user_text.Statement.{statement}
+use Rattle.report.proofs.user.user_text.Tie as tie
+
+module _ (xs : List ℕ) (u : ℕ) where
+  none-told : among (knownUsers xs) u ≡ false → [] ≡ userText xs u
+  unfolding userText
+  none-told e = rw e
+
+  all-told : among (knownUsers xs) u ≡ true → userLines xs u ++ (labelsLines xs u ++ ascii "\n") ≡ userText xs u
+  unfolding userText
+  all-told e = rw e
+
+  few : among (knownUsers xs) u ≡ true → u < 100000
+  few e = let w = among-iff (knownUsers xs) u .0 e in omega (arith, few-users xs)
+
+returns : tie.Need-returns
+returns c =
+    let nothing = none-told _ _ (failed (c .before .is-user .ensures) (c .if1 .taken)) in
+    (puts-as nothing (puts-nothing 0 _ (search needs)), λ l. nothing)
+
+user-lines-requires : tie.Need-user-lines-requires
+user-lines-requires c κs = few _ _ (passed (c .before .before .is-user .ensures) (c .before .if1 .left))
+
+returns-2 : tie.Need-returns-2
+returns-2 c =
+    let labelled = c .before .before .before .before .before .before .before in
+    let lined = labelled .before .before .before .before in
+    let asked = lined .before .before .before in
+    let start = asked .before .before .before in
+    let all = all-told (now (start .args .s)) (start .args .user) (passed (asked .is-user .ensures) (lined .before .before .if1 .left)) in
+    let puts = puts-as all (puts-then (lined .user-lines .ensures) (puts-then (labelled .labels-lines .ensures) (c .before .before .put .ensures))) in
+    (puts, λ l. puts-whole puts (le-trans (user-fits _ _ (clearance-byte _ (λ i. asked .before .before .shared-slice-known .given i .fits) _)) l) .0)
+
+pub user-text-spec : {M : Type 1} → statement M
+user-text-spec =
+    tie.close
+    (tie.spec
+    (λ c κs. search needs)
+    returns
+    user-lines-requires
+    (λ c κs. search needs)
+    (λ c. search needs)
+    (λ c κs. search needs)
+    (λ c. search needs)
+    returns-2)

@@ -1,0 +1,70 @@
+-- The report on users, in lines whose columns line up:
+--
+--     user     1  clearance  3
+--                 assigned   2
+--                 inherited  1
+--     label    1  takes      1
+--                 reads      1-4 7
+--                 writes     none
+--
+-- Assumes nothing.
+use Prim.Native.Nat.{ℕ}
+use mathlib.Core.List.{List, [], _++_}
+use mathlib.Core.Bool.{Bool, true, false, cond}
+use Rattle.search.specs.Search.{among, some}
+use Rattle.rolefile.specs.Decimal.{digits, columnsOf}
+use Rattle.text.specs.Text.{ascii, each}
+use Rattle.monitor.specs.Review.{knownLabels, knownUsers, clearanceOf, mayOpen, mayTake}
+use Rattle.report.specs.declared.list.Listed.the-variants.{Assigned, Inherited, Taken, Untaken, Read, Written, Unread}
+use Rattle.report.specs.Lists.{rangesOf}
+
+-- a line: what it begins with, and a list
+unfoldable pub row : List ℕ → List ℕ → List ℕ
+row head list = head ++ (list ++ ascii "\n")
+
+-- a word of five letters and the number of a user or a label in five columns
+unfoldable pub head : List ℕ → ℕ → List ℕ
+head word n = word ++ columnsOf true n
+
+unfoldable pub clearanceLine : List ℕ → ℕ → List ℕ
+clearanceLine xs u = head (ascii "user ") u ++ (ascii "  clearance  " ++ (digits (clearanceOf xs u) ++ ascii "\n"))
+
+-- no roles
+abbrev pub noRole : ℕ → Bool
+noRole r = false
+
+-- the user's clearance and roles
+unfoldable pub userLines : List ℕ → ℕ → List ℕ
+userLines xs u =
+    clearanceLine xs u
+    ++ (row (ascii "            assigned  ") (rangesOf xs Assigned u noRole)
+    ++ row (ascii "            inherited ") (rangesOf xs Inherited u noRole))
+
+-- the roles of a set, and the cards that it lets be read and written
+unfoldable pub listsBy : List ℕ → (ℕ → Bool) → List ℕ
+listsBy xs held =
+    row (ascii "  takes     ") (rangesOf xs Taken 0 held)
+    ++ (row (ascii "            reads     ") (rangesOf xs Read 0 held)
+    ++ row (ascii "            writes    ") (rangesOf xs Written 0 held))
+
+-- at a label that the clearance dominates, by the roles that may be taken there
+unfoldable pub labelLines : List ℕ → ℕ → ℕ → List ℕ
+labelLines xs u l = cond (mayOpen xs u l) (head (ascii "label") l ++ listsBy xs (mayTake xs u l)) []
+
+-- at each of the state's labels
+abbrev pub labelsLines : List ℕ → ℕ → List ℕ
+labelsLines xs u = each (knownLabels xs) (labelLines xs u)
+
+-- all of one of the state's users, and an empty line; nothing of another number
+unfoldable pub userText : List ℕ → ℕ → List ℕ
+userText xs u = cond (among (knownUsers xs) u) (userLines xs u ++ (labelsLines xs u ++ ascii "\n")) []
+
+-- some user may take role r at some label
+unfoldable pub anyoneTakes : List ℕ → ℕ → Bool
+anyoneTakes xs r = some (knownUsers xs) (λ u. some (knownLabels xs) (λ l. mayTake xs u l r))
+
+-- the roles that nobody can take, and the cards that nobody can read
+unfoldable pub nobodyText : List ℕ → List ℕ
+nobodyText xs =
+    row (ascii "no user     takes     ") (rangesOf xs Untaken 0 (anyoneTakes xs))
+    ++ row (ascii "            reads     ") (rangesOf xs Unread 0 (anyoneTakes xs))

@@ -1,8 +1,0 @@
-pub mod Few
-pub mod Union
-pub mod Lengths
-pub mod Putting
-pub mod Refusing
-pub mod Whole
-pub mod Drawing
-pub mod Drawn
