@@ -12,7 +12,7 @@
  *          64 * cards bytes or more, where cards is the fourth count of the
  *          file's line H; 32,768 bytes are enough for every file.
  * A buffer that several calls are lent as const may be lent to them at the
- * same time. A load needs some 80 KB of stack, every other call 8 KB at most.
+ * same time. A load needs some 80 KB of stack, any other call 4 KB.
  *
  * Numbers. Labels, roles, users, cards and the 64 places are numbered from 1;
  * a file has 1 to 32 labels and up to 128 roles, 256 users and 512 cards.

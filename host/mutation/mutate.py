@@ -26,7 +26,7 @@ from sites import code_lines, sites
 ROOT = Path(__file__).resolve().parents[2]
 WORK = ROOT / "target" / "mutation"
 RLIBS = ROOT / "target" / "rlib"
-CRATES = ["roleset", "order", "rolefile", "policy", "monitor", "text", "rolecheck", "rights"]
+CRATES = ["roleset", "order", "rolefile", "policy", "monitor", "text", "rolecheck", "report", "graph", "rights"]
 
 Mutant = namedtuple("Mutant", "crate path line function operator old new text")
 Outcome = namedtuple("Outcome", "result place")

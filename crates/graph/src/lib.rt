@@ -329,9 +329,11 @@ fn roles_text(s: &[u8], out: &mut [u8], at: usize) -> usize
     roles_by(&juniors, &seniors, &flow, &leads, n, out, at)
 }
 
-// Puts the graph of a state at the start of `out`, and answers how many bytes are then in use.
-fn drawn(s: &[u8], out: &mut [u8]) -> usize
+// Puts the graph of a state at the start of `out`, and answers how many bytes are then in use: whole,
+// where `out` has 1,048,576 bytes.
+pub fn draw(s: &[u8], out: &mut [u8]) -> usize
     ensures { λ r. ⌜ Puts (graph.graphText (now (s .entry))) 0 (now (out .entry)) r (now (out .exit)) ⌝ }
+    ensures { λ r. ⌜ (1048576 ≤ length (now (out .entry)) → take r (now (out .exit)) ≡ graph.graphText (now (s .entry))) ⌝ }
 {
     let mut used = text::put(
         out,
@@ -347,19 +349,4 @@ fn drawn(s: &[u8], out: &mut [u8]) -> usize
     used = labels_text(s, out, used);
     used = roles_text(s, out, used);
     text::put(out, used, b"}\n")
-}
-
-// The same, whole where `out` has 1,048,576 bytes.
-pub fn draw(s: &[u8], out: &mut [u8]) -> usize
-    ensures { λ r. ⌜ r ≤ length (now (out .exit)) ⌝ }
-    ensures { λ r. ⌜ (1048576 ≤ length (now (out .entry)) → take r (now (out .exit)) ≡ graph.graphText (now (s .entry))) ⌝ }
-{
-    drawn(s, out)
-}
-
-// Room for the graph of any state.
-pub fn buffer() -> [u8; 1048576]
-    ensures { λ r. ⌜ 1048576 ≡ length r ⌝ }
-{
-    [0u8; 1048576]
 }

@@ -178,7 +178,7 @@ fn told(file: &[u8], number: u64, first: u64, second: u64, out: &mut [u8]) -> us
 
 // The same, whole where `out` has 256 bytes.
 pub fn refusal(file: &[u8], number: u64, first: u64, second: u64, out: &mut [u8]) -> usize
-    ensures { λ r. ⌜ r ≤ length (now (out .exit)) ⌝ }
+    ensures { λ r. ⌜ Puts (refusal.refusalText (now (file .entry)) number first second) 0 (now (out .entry)) r (now (out .exit)) ⌝ }
     ensures { λ r. ⌜ (256 ≤ length (now (out .entry)) → take r (now (out .exit)) ≡ refusal.refusalText (now (file .entry)) number first second) ⌝ }
 {
     told(file, number, first, second, out)

@@ -3,6 +3,7 @@ mod arguments;
 
 use libc::STDERR_FILENO;
 use libc::STDOUT_FILENO;
+ghost use mathlib.Core.Path.{_≡_};
 ghost use Prim.Native.Nat.{_≤_};
 ghost use lib.ListN.{length};
 ghost use Rattle.io.specs.Counts.{Counts};
@@ -155,9 +156,16 @@ fn print_refusal(file: &[u8], verdict: rolefile::Verdict) {
     print(&out, n);
 }
 
+// Room for the graph of any state.
+fn buffer() -> [u8; 1048576]
+    ensures { λ r. ⌜ 1048576 ≡ length r ⌝ }
+{
+    [0u8; 1048576]
+}
+
 // Prints the policy as a graph.
 fn print_graph(s: &[u8]) {
-    let mut out = graph::buffer();
+    let mut out = buffer();
     let n = graph::draw(s, &mut out);
     print(&out, n);
 }

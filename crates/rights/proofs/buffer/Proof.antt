@@ -2,8 +2,8 @@
 use Prim.Native.Nat.{ℕ}
 use mathlib.Core.Path.{sym}
 use lib.ListN.{length-replicate}
-use Rattle.graph.proofs.buffer.Statement.{statement}
-use Rattle.graph.proofs.buffer.Tie as tie
+use Rattle.rights.proofs.buffer.Statement.{statement}
+use Rattle.rights.proofs.buffer.Tie as tie
 
 returns : tie.Need-returns
 returns c = sym (length-replicate {A = ℕ} 1048576 0)
