@@ -10,9 +10,9 @@ use lib.ListN.{length}
 use Rattle.search.specs.Search.{among, Among}
 use Rattle.search.proofs.Truth.{and-iff, among-iff, passed, failed}
 use Rattle.policy.specs.Tables.{isState}
-use Rattle.monitor.specs.Session.{sound, labelsIn, rolesIn, usersIn, cardsIn}
+use Rattle.monitor.specs.Session.{sound, labelsIn, rolesIn, usersIn, cardsIn, inUse}
 use Rattle.monitor.specs.Rights.{canNumber}
-use Rattle.monitor.specs.Calls.{unless, ifDone, openNumber, closeNumber, takeNumber, dropNumber, partNumber, flowsNumber, circleNumber}
+use Rattle.monitor.specs.Calls.{unless, ifDone, atSession, openNumber, closeNumber, takeNumber, dropNumber, partNumber, flowsNumber, circleNumber}
 
 -- ---- a row of tests whose answers r are those of calls: a call's `ensures` is r ≡ t
 module _ (t : Bool) (n rest : ℕ) {r : Bool} (e : r ≡ t) where
@@ -117,34 +117,38 @@ open-room xs p u l h =
     let w = among-iff (labelsIn xs) l .0 (e .0) in
     (record { long = s .long; place = among-iff 64 p .0 (b .0) }, omega arith, omega arith)
 
+-- a call at a session: what it asks first has passed, and so has the rest
+pub record AtSession (xs : List ℕ) (p rest : ℕ) : Type 0 where
+  pub sound : Sound xs
+  pub place : Among 64 p
+  pub done : rest ≡ 0
+
+pub at-session-done : (xs : List ℕ) (p rest : ℕ) → atSession xs p rest ≡ 0 → AtSession xs p rest
+at-session-done xs p rest h =
+    let a = unless-done (sound xs) 21 _ (omega arith) h in
+    let b = unless-done (among 64 p) 22 _ (omega arith) (a .1) in
+    let c = unless-done (inUse xs p) 24 rest (omega arith) (b .1) in
+    record { sound = sound-of xs (a .0); place = among-iff 64 p .0 (b .0); done = c .1 }
+
 pub close-room : (xs : List ℕ) (p : ℕ) → closeNumber xs p ≡ 0 → Room xs p
 unfolding closeNumber
-close-room xs p h =
-    let a = unless-done _ _ _ (omega arith) h in
-    let b = unless-done _ _ _ (omega arith) (a .1) in
-    record { long = sound-of xs (a .0) .long; place = among-iff 64 p .0 (b .0) }
+close-room xs p h = let a = at-session-done xs p 0 h in record { long = a .sound .long; place = a .place }
+
+-- and a role that it names is one of the state's
+role-room : (xs : List ℕ) (p r rest : ℕ) → atSession xs p (unless (among (rolesIn xs) r) 25 rest) ≡ 0 → Room xs p × Among 128 r
+role-room xs p r rest h =
+    let a = at-session-done xs p _ h in
+    let few = a .sound .roles in
+    let v = among-iff (rolesIn xs) r .0 (unless-done _ _ rest (omega arith) (a .done) .0) in
+    (record { long = a .sound .long; place = a .place }, omega arith)
 
 pub take-room : (xs : List ℕ) (p r : ℕ) → takeNumber xs p r ≡ 0 → Room xs p × Among 128 r
 unfolding takeNumber
-take-room xs p r h =
-    let a = unless-done _ _ _ (omega arith) h in
-    let b = unless-done _ _ _ (omega arith) (a .1) in
-    let c = unless-done _ _ _ (omega arith) (b .1) in
-    let d = unless-done _ _ _ (omega arith) (c .1) in
-    let s = sound-of xs (a .0) in
-    let v = among-iff (rolesIn xs) r .0 (d .0) in
-    (record { long = s .long; place = among-iff 64 p .0 (b .0) }, omega arith)
+take-room xs p r h = role-room xs p r _ h
 
 pub drop-room : (xs : List ℕ) (p r : ℕ) → dropNumber xs p r ≡ 0 → Room xs p × Among 128 r
 unfolding dropNumber
-drop-room xs p r h =
-    let a = unless-done _ _ _ (omega arith) h in
-    let b = unless-done _ _ _ (omega arith) (a .1) in
-    let c = unless-done _ _ _ (omega arith) (b .1) in
-    let d = unless-done _ _ _ (omega arith) (c .1) in
-    let s = sound-of xs (a .0) in
-    let v = among-iff (rolesIn xs) r .0 (d .0) in
-    (record { long = s .long; place = among-iff 64 p .0 (b .0) }, omega arith)
+drop-room xs p r h = role-room xs p r 0 h
 
 -- the part lies in the store
 pub record Fit (size o k n : ℕ) : Type 0 where
@@ -155,16 +159,13 @@ pub record Fit (size o k n : ℕ) : Type 0 where
 pub part-fits : (at : ℕ) (xs : List ℕ) (size p o k n : ℕ) → partNumber at xs size p o k n ≡ 0 → Fit size o k n
 unfolding partNumber
 part-fits at xs size p o k n h =
-    let a = unless-done _ _ _ (omega arith) h in
+    let a = unless-done _ _ _ (omega arith) (at-session-done xs p _ h .done) in
     let b = unless-done _ _ _ (omega arith) (a .1) in
     let c = unless-done _ _ _ (omega arith) (b .1) in
     let d = unless-done _ _ _ (omega arith) (c .1) in
-    let e = unless-done _ _ _ (omega arith) (d .1) in
-    let f = unless-done _ _ _ (omega arith) (e .1) in
-    let g = unless-done _ _ _ (omega arith) (f .1) in
-    let v = among-iff (cardsIn xs) o .0 (d .0) in
-    let w = leb-true (64 * cardsIn xs) size (g .0) in
-    record { card = omega arith; inCard = leb-true (k + n) 64 (f .0); inStore = omega arith }
+    let v = among-iff (cardsIn xs) o .0 (a .0) in
+    let w = leb-true (64 * cardsIn xs) size (d .0) in
+    record { card = omega arith; inCard = leb-true (k + n) 64 (c .0); inStore = omega arith }
 
 -- tests that the code makes by comparing
 module _ (a b n rest : ℕ) where

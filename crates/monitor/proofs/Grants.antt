@@ -21,7 +21,7 @@ use Rattle.policy.specs.Image.{Loaded}
 use Rattle.policy.proofs.Levels.{turned-order, passes-iff}
 use Rattle.monitor.specs.Calls.{unless}
 use Rattle.monitor.specs.Runs.{Call, opens, closes, takes, drops, reads, writes, number, run}
-use Rattle.monitor.specs.Rules.{Session, Sessions, nobody, isFree, seated, belongs, suits, uses, openRule, closeRule, takeRule, dropRule, partRule, rule, sessions}
+use Rattle.monitor.specs.Rules.{Session, Sessions, nobody, isFree, seatedAt, belongs, suits, uses, openRule, closeRule, takeRule, dropRule, partRule, rule, sessions}
 use Rattle.monitor.specs.Granted.{Sits, Holds, MayOpen, Seated, MayTake, MayDrop, MayUse, Granted}
 use Rattle.monitor.proofs.Orderly.{Admitted, Orderly, nobody-orderly, opening, seated-done, taking, dropping, part-done}
 use Rattle.monitor.proofs.History.{orderly-sessions, sat-some, Opened, sits-iff, holds-iff}
@@ -43,7 +43,7 @@ module _ (f : List ℕ) (cs : List Call) where
   session-of p h = sat-some (Opened f cs p (h .user) (h .label)) (now p) (sits-iff f cs p (h .user) (h .label) .1 (h .sits))
 
   -- the rule of a call at a place, done
-  seated-of : (p : ℕ) (s : Session) (rule : Session → ℕ) → now p ≡ some s → rule s ≡ 0 → unless (among 64 p) 22 (seated (now p) rule) ≡ 0
+  seated-of : (p : ℕ) (s : Session) (rule : Session → ℕ) → now p ≡ some s → rule s ≡ 0 → seatedAt now p rule ≡ 0
   unfolding unless
   seated-of p s rule e h = let a : Admitted f p s = rw e at (known p) in rw (among-iff 64 p .1 (a .place), e) h
 

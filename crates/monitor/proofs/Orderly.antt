@@ -15,7 +15,7 @@ use Rattle.rolefile.specs.Said.{labels, roles, users, cards, clearance}
 use Rattle.policy.specs.Policy.{dominates}
 use Rattle.monitor.specs.Calls.{unless, ifDone}
 use Rattle.monitor.specs.Runs.{Call, opens, closes, takes, drops, reads, writes}
-use Rattle.monitor.specs.Rules.{Session, Sessions, nobody, isFree, seated, belongs, suits, uses, openRule, closeRule, takeRule, dropRule, partRule, put, sessionOf, holding, without, next}
+use Rattle.monitor.specs.Rules.{Session, Sessions, nobody, isFree, seated, seatedAt, belongs, suits, uses, openRule, closeRule, takeRule, dropRule, partRule, put, sessionOf, holding, without, next}
 use Rattle.monitor.proofs.Answers.{unless-done}
 
 pub record Admitted (f : List ℕ) (p : ℕ) (s : Session) : Type 0 where
@@ -72,7 +72,7 @@ pub record At (t : Sessions) (p : ℕ) (rule : Session → ℕ) : Type 0 where
   pub sits : t p ≡ some session
   pub done : rule session ≡ 0
 
-pub seated-done : (t : Sessions) (p : ℕ) (rule : Session → ℕ) → unless (among 64 p) 22 (seated (t p) rule) ≡ 0 → At t p rule
+pub seated-done : (t : Sessions) (p : ℕ) (rule : Session → ℕ) → seatedAt t p rule ≡ 0 → At t p rule
 seated-done t p rule h =
     let a = unless-done (among 64 p) 22 (seated (t p) rule) (omega arith) h in
     there (among-iff 64 p .0 (a .0)) (t p) refl (a .1)

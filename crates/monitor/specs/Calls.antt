@@ -28,6 +28,14 @@ ifDone (suc n) new old = old
 abbrev pub written : List ℕ → ℕ → List ℕ → List ℕ
 written xs at bs = take at xs ++ bs ++ drop (at + length bs) xs
 
+-- what a call at a place asks first, that a session sits there, and then the rest
+abbrev pub atSession : List ℕ → ℕ → ℕ → ℕ
+atSession xs p rest =
+    unless (sound xs) 21
+    (unless (among 64 p) 22
+    (unless (inUse xs p) 24
+    rest))
+
 -- ---- open: "gives it a user and a label that the clearance dominates, and no roles"
 
 unfoldable pub openNumber : List ℕ → ℕ → ℕ → ℕ → ℕ
@@ -53,11 +61,7 @@ pub record Opens (xs : List ℕ) (p u l r : ℕ) (ys : List ℕ) : Type 0 where
 -- ---- close: "empties the place"
 
 unfoldable pub closeNumber : List ℕ → ℕ → ℕ
-closeNumber xs p =
-    unless (sound xs) 21
-    (unless (among 64 p) 22
-    (unless (inUse xs p) 24
-    0))
+closeNumber xs p = atSession xs p 0
 
 unfoldable pub closed : List ℕ → ℕ → List ℕ
 closed xs p = written xs (placeAt p) (replicate 20 0)
@@ -73,21 +77,14 @@ pub record Closes (xs : List ℕ) (p r : ℕ) (ys : List ℕ) : Type 0 where
 
 unfoldable pub takeNumber : List ℕ → ℕ → ℕ → ℕ
 takeNumber xs p r =
-    unless (sound xs) 21
-    (unless (among 64 p) 22
-    (unless (inUse xs p) 24
+    atSession xs p
     (unless (among (rolesIn xs) r) 25
     (unless (entitled xs (userAt xs p) r) 27
     (unless (fitting xs (labelAt xs p) r) 28
-    0)))))
+    0)))
 
 unfoldable pub dropNumber : List ℕ → ℕ → ℕ → ℕ
-dropNumber xs p r =
-    unless (sound xs) 21
-    (unless (among 64 p) 22
-    (unless (inUse xs p) 24
-    (unless (among (rolesIn xs) r) 25
-    0)))
+dropNumber xs p r = atSession xs p (unless (among (rolesIn xs) r) 25 0)
 
 -- the byte of the held roles in which role r has its bit, and that bit
 abbrev pub roleAt : ℕ → ℕ → ℕ
@@ -121,14 +118,12 @@ pub record Drops (xs : List ℕ) (p q r : ℕ) (ys : List ℕ) : Type 0 where
 -- the number, by the table of those who may: readers or writers
 unfoldable pub partNumber : ℕ → List ℕ → ℕ → ℕ → ℕ → ℕ → ℕ → ℕ
 partNumber at xs size p o k n =
-    unless (sound xs) 21
-    (unless (among 64 p) 22
-    (unless (inUse xs p) 24
+    atSession xs p
     (unless (among (cardsIn xs) o) 25
     (unless (gives xs at p o) 29
     (unless (leb (k + n) 64) 30
     (unless (leb (64 * cardsIn xs) size) 31
-    0))))))
+    0))))
 
 abbrev pub partAt : ℕ → ℕ → ℕ
 partAt o k = 64 * (o - 1) + k

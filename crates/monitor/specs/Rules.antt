@@ -37,6 +37,10 @@ abbrev pub seated : Option Session → (Session → ℕ) → ℕ
 seated none rule = 24
 seated (some s) rule = rule s
 
+-- what a call at a place asks first, that a session sits there
+abbrev pub seatedAt : Sessions → ℕ → (Session → ℕ) → ℕ
+seatedAt t p rule = unless (among 64 p) 22 (seated (t p) rule)
+
 -- ---- the rules
 
 -- "the user is assigned to it or to a senior of it"; a role is a senior of itself
@@ -63,30 +67,28 @@ openRule f t p u l =
     0))))
 
 unfoldable pub closeRule : Sessions → ℕ → ℕ
-closeRule t p = unless (among 64 p) 22 (seated (t p) (λ s. 0))
+closeRule t p = seatedAt t p (λ s. 0)
 
 unfoldable pub takeRule : List ℕ → Sessions → ℕ → ℕ → ℕ
 takeRule f t p r =
-    unless (among 64 p) 22
-    (seated (t p) (λ s.
+    seatedAt t p (λ s.
     unless (among (roles f) r) 25
     (unless (belongs f (s .user) r) 27
     (unless (suits f (s .label) r) 28
-    0))))
+    0)))
 
 unfoldable pub dropRule : List ℕ → Sessions → ℕ → ℕ → ℕ
-dropRule f t p r = unless (among 64 p) 22 (seated (t p) (λ s. unless (among (roles f) r) 25 0))
+dropRule f t p r = seatedAt t p (λ s. unless (among (roles f) r) 25 0)
 
 -- n bytes from offset k on of card o of a store of `size` bytes, to be read or written
 unfoldable pub partRule : List ℕ → ℕ → Sessions → ℕ → ℕ → ℕ → ℕ → ℕ → ℕ
 partRule f m t size p o k n =
-    unless (among 64 p) 22
-    (seated (t p) (λ s.
+    seatedAt t p (λ s.
     unless (among (cards f) o) 25
     (unless (uses f m s o) 29
     (unless (leb (k + n) 64) 30
     (unless (leb (64 * cards f) size) 31
-    0)))))
+    0))))
 
 unfoldable pub rule : List ℕ → ℕ → Sessions → Call → ℕ
 rule f size t (opens p u l) = openRule f t p u l
