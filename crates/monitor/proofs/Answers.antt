@@ -1,6 +1,6 @@
 -- Each number of a call from the tests that led to it, and what a number 0 tells. Assumes nothing.
 use Prim.Native.Nat.{ℕ, zero, suc, _+_, _*_, _≤_, _<_}
-use mathlib.Core.Path.{_≡_, refl}
+use mathlib.Core.Path.{_≡_, refl, sym, _∙_}
 use mathlib.Core.List.{List}
 use mathlib.Core.Bool.{Bool, true, false, not}
 use native.Mathlib.Omega.{arith}
@@ -86,18 +86,8 @@ sound-of xs h =
 pub one-of : (n x : ℕ) {r : Bool} → r ≡ among n x → not r ≡ false → Among n x
 one-of n x e h = among-iff n x .0 (passed e h)
 
-module _ (xs : List ℕ) {r : Bool} (e : r ≡ sound xs) (h : not r ≡ false) where
-  good : Sound xs
-  good = sound-of xs (passed e h)
-
-  pub user-known : (x : ℕ) {q : Bool} → q ≡ among (usersIn xs) x → not q ≡ false → Among 256 x
-  user-known x f k = let w = one-of (usersIn xs) x f k in let g = good in omega arith
-
-  pub role-known : (x : ℕ) {q : Bool} → q ≡ among (rolesIn xs) x → not q ≡ false → Among 128 x
-  role-known x f k = let w = one-of (rolesIn xs) x f k in let g = good in omega arith
-
-  pub card-known : (x : ℕ) {q : Bool} → q ≡ among (cardsIn xs) x → not q ≡ false → Among 512 x
-  card-known x f k = let w = one-of (cardsIn xs) x f k in let g = good in omega arith
+pub user-known : (xs : List ℕ) {r : Bool} → r ≡ sound xs → not r ≡ false → (x : ℕ) {q : Bool} → q ≡ among (usersIn xs) x → not q ≡ false → Among 256 x
+user-known xs e h x f k = let w = one-of (usersIn xs) x f k in let few = sound-of xs (passed e h) .users in omega arith
 
 -- ---- what a call that is done tells, for the code that then writes
 pub record Room (xs : List ℕ) (p : ℕ) : Type 0 where
@@ -129,6 +119,47 @@ at-session-done xs p rest h =
     let b = unless-done (among 64 p) 22 _ (omega arith) (a .1) in
     let c = unless-done (inUse xs p) 24 rest (omega arith) (b .1) in
     record { sound = sound-of xs (a .0); place = among-iff 64 p .0 (b .0); done = c .1 }
+
+-- ---- a call at a session, where the number r of what it asks first is a closing's
+module _ (xs : List ℕ) (p : ℕ) {r : ℕ} (e : r ≡ closeNumber xs p) where
+  -- it refuses, and so does the call
+  pub first-stops : (rest : ℕ) → (r ≡ 0 → ⊥) → r ≡ atSession xs p rest
+  unfolding closeNumber unless
+  first-stops rest h = e ∙ by (sound xs) (among 64 p) (inUse xs p) (λ z. h (e ∙ z))
+    where
+      by : (a b c : Bool) → (unless a 21 (unless b 22 (unless c 24 0)) ≡ 0 → ⊥)
+          → unless a 21 (unless b 22 (unless c 24 0)) ≡ unless a 21 (unless b 22 (unless c 24 rest))
+      by true true true h = absurd (h refl)
+      by true true false h = refl
+      by true false c h = refl
+      by false b c h = refl
+
+  -- it has passed
+  pub first-passes : (rest : ℕ) {x : ℕ} → r ≡ 0 → x ≡ rest → x ≡ atSession xs p rest
+  unfolding closeNumber unless
+  first-passes rest z k = k ∙ by (sound xs) (among 64 p) (inUse xs p) (sym e ∙ z)
+    where
+      by : (a b c : Bool) → unless a 21 (unless b 22 (unless c 24 0)) ≡ 0 → rest ≡ unless a 21 (unless b 22 (unless c 24 rest))
+      by true true true h = refl
+      by true true false h = absurd (omega arith)
+      by true false c h = absurd (omega arith)
+      by false b c h = absurd (omega arith)
+
+  module _ (z : r ≡ 0) where
+    at-session : AtSession xs p 0
+    unfolding closeNumber
+    at-session = at-session-done xs p 0 (sym e ∙ z)
+
+    pub place-known : Among 64 p
+    place-known = at-session .place
+
+    pub role-known : (x : ℕ) {q : Bool} → q ≡ among (rolesIn xs) x → not q ≡ false → Among 128 x
+    role-known x f k = let w = one-of (rolesIn xs) x f k in let few = at-session .sound .roles in omega arith
+
+    pub card-known : (x : ℕ) {q : Bool} → q ≡ among (cardsIn xs) x → not q ≡ false → Among 512 x
+    card-known x f k = let w = one-of (cardsIn xs) x f k in let few = at-session .sound .cards in omega arith
+
+pub ruleset session-row = (stops, passes, first-stops, first-passes)
 
 pub close-room : (xs : List ℕ) (p : ℕ) → closeNumber xs p ≡ 0 → Room xs p
 unfolding closeNumber
