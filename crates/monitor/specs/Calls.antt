@@ -54,8 +54,8 @@ opened xs p u l = written xs (placeAt p) (1 ∷ (u - 1) ∷ l ∷ replicate 17 0
 abbrev pub openState : List ℕ → ℕ → ℕ → ℕ → List ℕ
 openState xs p u l = ifDone (openNumber xs p u l) (opened xs p u l) xs
 
-pub record Opens (xs : List ℕ) (p u l r : ℕ) (ys : List ℕ) : Type 0 where
-  pub number : r ≡ openNumber xs p u l
+pub record Opens (xs : List ℕ) (p u l n : ℕ) (ys : List ℕ) : Type 0 where
+  pub number : n ≡ openNumber xs p u l
   pub state : ys ≡ openState xs p u l
 
 -- ---- close: "empties the place"
@@ -69,8 +69,8 @@ closed xs p = written xs (placeAt p) (replicate 20 0)
 abbrev pub closeState : List ℕ → ℕ → List ℕ
 closeState xs p = ifDone (closeNumber xs p) (closed xs p) xs
 
-pub record Closes (xs : List ℕ) (p r : ℕ) (ys : List ℕ) : Type 0 where
-  pub number : r ≡ closeNumber xs p
+pub record Closes (xs : List ℕ) (p n : ℕ) (ys : List ℕ) : Type 0 where
+  pub number : n ≡ closeNumber xs p
   pub state : ys ≡ closeState xs p
 
 -- ---- take and drop a role, as document 01 has it (the field: activate and deactivate): "Taking a role already held, or dropping one not held, is done and changes nothing"
@@ -105,13 +105,13 @@ takeState xs p r = ifDone (takeNumber xs p r) (taken xs p r) xs
 abbrev pub dropState : List ℕ → ℕ → ℕ → List ℕ
 dropState xs p r = ifDone (dropNumber xs p r) (dropped xs p r) xs
 
-pub record Takes (xs : List ℕ) (p q r : ℕ) (ys : List ℕ) : Type 0 where
-  pub number : r ≡ takeNumber xs p q
-  pub state : ys ≡ takeState xs p q
+pub record Takes (xs : List ℕ) (p r n : ℕ) (ys : List ℕ) : Type 0 where
+  pub number : n ≡ takeNumber xs p r
+  pub state : ys ≡ takeState xs p r
 
-pub record Drops (xs : List ℕ) (p q r : ℕ) (ys : List ℕ) : Type 0 where
-  pub number : r ≡ dropNumber xs p q
-  pub state : ys ≡ dropState xs p q
+pub record Drops (xs : List ℕ) (p r n : ℕ) (ys : List ℕ) : Type 0 where
+  pub number : n ≡ dropNumber xs p r
+  pub state : ys ≡ dropState xs p r
 
 -- ---- read and write n bytes of card o from offset k on: "Card o fills bytes 64 × (o − 1) to 64 × o − 1 of the store"
 
@@ -151,8 +151,8 @@ pub record Reads (xs : List ℕ) (store : RefT (List ℕ)) (p o k n : ℕ) (part
 abbrev pub writeStore : List ℕ → List ℕ → ℕ → ℕ → ℕ → List ℕ → List ℕ
 writeStore xs store p o k bytes = ifDone (writeNumber xs store p o k bytes) (written store (partAt o k) bytes) store
 
-pub record Writes (xs old : List ℕ) (p o k : ℕ) (bytes : List ℕ) (r : ℕ) (new : List ℕ) : Type 0 where
-  pub number : r ≡ writeNumber xs old p o k bytes
+pub record Writes (xs old : List ℕ) (p o k : ℕ) (bytes : List ℕ) (n : ℕ) (new : List ℕ) : Type 0 where
+  pub number : n ≡ writeNumber xs old p o k bytes
   pub store : new ≡ writeStore xs old p o k bytes
 
 -- ---- the flow report: "whether the first flows to the second (never to itself), and gives the lowest role on a circle of two or more roles, or 0"
