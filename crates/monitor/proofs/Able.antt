@@ -31,7 +31,7 @@ use Rattle.monitor.proofs.Answers.{unless-done}
 use Rattle.monitor.proofs.Orderly.{Orderly, opening, taking, part-done}
 use Rattle.monitor.proofs.Stands.{Stands}
 use Rattle.monitor.proofs.InFile.{test-same, test-passed, sound-file, cleared-file, entitled-file, fitting-file}
-use Rattle.monitor.proofs.History.{put-at}
+use Rattle.monitor.proofs.Places.{put-at}
 use Rattle.monitor.proofs.Demand2.{Runs, runs-next, runs-number, loaded-runs, left-runs}
 
 -- ---- by the file

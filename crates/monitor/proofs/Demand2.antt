@@ -22,7 +22,8 @@ use Rattle.policy.proofs.Meaning.{counts-known, flow-file, circle-file}
 use Rattle.monitor.specs.Calls.{unless, ifDone, written, partAt, opened, closed, taken, dropped, writeNumber}
 use Rattle.monitor.specs.Calls.{flowsNumber, circleNumber, Flows, Circles}
 use Rattle.monitor.specs.Runs.{Call, opens, closes, takes, drops, reads, writes, Memory, number, stateAfter, storeAfter, after, run}
-use Rattle.monitor.specs.Rules.{Session, Sessions, nobody, seated, seatedAt, belongs, suits, openRule, closeRule, takeRule, dropRule, partRule, rule, put, sessionOf, holding, without, next, sessions}
+use Rattle.monitor.specs.Places.{put}
+use Rattle.monitor.specs.Rules.{Session, Sessions, nobody, seated, seatedAt, belongs, suits, openRule, closeRule, takeRule, dropRule, partRule, rule, sessionOf, holding, without, next, sessions}
 use Rattle.monitor.proofs.Answers.{part-fits, unless-done}
 use Rattle.monitor.proofs.Frames.{length-written}
 use Rattle.monitor.proofs.Orderly.{Orderly, nobody-orderly, opening, seated-done, taking, either-way, orderly-next, dropping}

@@ -21,7 +21,8 @@ use Rattle.policy.specs.Image.{Loaded}
 use Rattle.policy.proofs.Levels.{turned-order, passes-iff}
 use Rattle.monitor.specs.Calls.{unless}
 use Rattle.monitor.specs.Runs.{Call, opens, closes, takes, drops, reads, writes, number, run}
-use Rattle.monitor.specs.Rules.{Session, Sessions, nobody, isFree, seatedAt, belongs, suits, uses, openRule, closeRule, takeRule, dropRule, partRule, rule, sessions}
+use Rattle.monitor.specs.Places.{isFree}
+use Rattle.monitor.specs.Rules.{Session, Sessions, nobody, seatedAt, belongs, suits, uses, openRule, closeRule, takeRule, dropRule, partRule, rule, sessions}
 use Rattle.monitor.specs.Granted.{Sits, Holds, MayOpen, Seated, MayTake, MayDrop, MayUse, Granted}
 use Rattle.monitor.proofs.Orderly.{Admitted, Orderly, nobody-orderly, opening, seated-done, taking, dropping, part-done}
 use Rattle.monitor.proofs.History.{orderly-sessions, sat-some, Opened, sits-iff, holds-iff}

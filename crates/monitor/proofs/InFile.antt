@@ -25,7 +25,8 @@ use Rattle.policy.proofs.Inside.{assigned-known}
 use Rattle.policy.proofs.Meaning.{counts-known, marked-file}
 use Rattle.monitor.specs.Session.{sound, labelsIn, rolesIn, usersIn, cardsIn, placeAt, heldAt, inUse, userAt, labelAt, cleared, entitled, fitting, gives}
 use Rattle.monitor.specs.Calls.{unless, atSession, openNumber, closeNumber, takeNumber, dropNumber, partNumber}
-use Rattle.monitor.specs.Rules.{Session, Sessions, isFree, seated, seatedAt, belongs, suits, uses, openRule, closeRule, takeRule, dropRule, partRule}
+use Rattle.monitor.specs.Places.{isFree}
+use Rattle.monitor.specs.Rules.{Session, Sessions, seated, seatedAt, belongs, suits, uses, openRule, closeRule, takeRule, dropRule, partRule}
 use Rattle.monitor.proofs.Orderly.{Admitted, Known, Orderly}
 use Rattle.monitor.proofs.Stands.{SessionAt, Seat, Stands}
 

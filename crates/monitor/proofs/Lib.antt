@@ -3,6 +3,7 @@ pub mod Known
 pub mod Filled
 pub mod Holding
 pub mod Frames
+pub mod Places
 pub mod Orderly
 pub mod Stands
 pub mod InFile

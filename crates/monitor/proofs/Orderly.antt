@@ -15,7 +15,8 @@ use Rattle.rolefile.specs.Said.{labels, roles, users, cards, clearance}
 use Rattle.policy.specs.Policy.{dominates}
 use Rattle.monitor.specs.Calls.{unless, ifDone}
 use Rattle.monitor.specs.Runs.{Call, opens, closes, takes, drops, reads, writes}
-use Rattle.monitor.specs.Rules.{Session, Sessions, nobody, isFree, seated, seatedAt, belongs, suits, uses, openRule, closeRule, takeRule, dropRule, partRule, put, sessionOf, holding, without, next}
+use Rattle.monitor.specs.Places.{isFree, put}
+use Rattle.monitor.specs.Rules.{Session, Sessions, nobody, seated, seatedAt, belongs, suits, uses, openRule, closeRule, takeRule, dropRule, partRule, sessionOf, holding, without, next}
 use Rattle.monitor.proofs.Answers.{unless-done}
 
 pub record Admitted (f : List ℕ) (p : ℕ) (s : Session) : Type 0 where

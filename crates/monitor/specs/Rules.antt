@@ -2,7 +2,7 @@
 -- proofs/ shows that the calls are answered so on every state that a load of f and any calls left. Assumes nothing.
 use Prim.Native.Nat.{ℕ, _+_, _*_}
 use mathlib.Core.List.{List, [], _∷_}
-use mathlib.Core.Bool.{Bool, true, false, not, _&&_, _||_, cond}
+use mathlib.Core.Bool.{Bool, false, not, _&&_, _||_}
 use mathlib.Core.Option.{Option, none, some, Option·map}
 use lib.Dec.{leb, eqb}
 use lib.ListN.{length}
@@ -12,6 +12,7 @@ use Rattle.rolefile.specs.Said.{labels, roles, users, cards, clearance, assigne
 use Rattle.policy.specs.Policy.{dominates, senior, may, rLevel, wLevel, passes}
 use Rattle.monitor.specs.Calls.{unless, ifDone}
 use Rattle.monitor.specs.Runs.{Call, opens, closes, takes, drops, reads, writes}
+use Rattle.monitor.specs.Places.{Places, isFree, put}
 
 -- ---- who sits where, by the calls so far
 
@@ -21,16 +22,12 @@ pub record Session : Type 0 where
   pub label : ℕ
   pub held : ℕ → Bool
 
--- the session at each place; a free place has none
+-- the session at each place
 abbrev pub Sessions : Type 0
-Sessions = ℕ → Option Session
+Sessions = Places Session
 
 abbrev pub nobody : Sessions
 nobody p = none
-
-abbrev pub isFree : Option Session → Bool
-isFree none = true
-isFree (some s) = false
 
 -- 24 where no session sits at the place; else what the rule says of the session
 abbrev pub seated : Option Session → (Session → ℕ) → ℕ
@@ -99,9 +96,6 @@ rule f size t (reads p o k n) = partRule f 1 t size p o k n
 rule f size t (writes p o k bytes) = partRule f 2 t size p o k (length bytes)
 
 -- ---- who sits where after a call
-
-abbrev pub put : Sessions → ℕ → Option Session → Sessions
-put t p s q = cond (eqb q p) s (t q)
 
 abbrev pub sessionOf : ℕ → ℕ → Session
 sessionOf u l = record { user = u; label = l; held = λ r. false }
