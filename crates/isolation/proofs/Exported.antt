@@ -30,8 +30,8 @@ makes-run f L (c ∷ cs) t m e xs (a, n, ys, made, rest, shows) =
     (shows ∙ rw (z, x, y), w ∙ rw y)
 
 pub exported : (f : List ℕ) → IsolatedExports f
-exported f accepted a b L label s₁ s₂ long same cs₁ cs₂ struck-alike xs₁ xs₂ e₁ e₂ makes₁ makes₂ =
-    let claim = isolation f accepted a b L label s₁ s₂ long same cs₁ cs₂ struck-alike in
+exported f accepted a b L label s₁ s₂ long same cs₁ cs₂ same-shared xs₁ xs₂ e₁ e₂ makes₁ makes₂ =
+    let claim = isolation f accepted a b L label s₁ s₂ long same cs₁ cs₂ same-shared in
     let (x₁, y₁) = makes-run f L cs₁ noneOpen _ e₁ xs₁ makes₁ in
     let (x₂, y₂) = makes-run f L cs₂ noneOpen _ e₂ xs₂ makes₂ in
     rw (x₁, x₂, y₁, y₂) (claim .answers, claim .cards)

@@ -63,10 +63,10 @@ abbrev pub keep : {A : Type 0} → Bool → A → List A → List A
 keep true x xs = x ∷ xs
 keep false x xs = xs
 
--- "Strike every other call"
-unfoldable pub struck : List ℕ → ℕ → Open → List Call → List Call
-struck f L t [] = []
-struck f L t (c ∷ cs) = keep (shared f L t c) c (struck f L (track f t c) cs)
+-- "Strike every other call": the shared calls of a list are left
+unfoldable pub sharedCalls : List ℕ → ℕ → Open → List Call → List Call
+sharedCalls f L t [] = []
+sharedCalls f L t (c ∷ cs) = keep (shared f L t c) c (sharedCalls f L (track f t c) cs)
 
 -- ---- what is compared
 
@@ -111,5 +111,5 @@ abbrev pub Isolated : List ℕ → Type 0
 Isolated f =
     Accepted f → (a b : Start f) (L : ℕ) → Among (labels f) L
     → (s₁ s₂ : List ℕ) → length s₁ ≡ length s₂ → SameCards f L s₁ s₂
-    → (cs₁ cs₂ : List Call) → struck f L noneOpen cs₁ ≡ struck f L noneOpen cs₂
+    → (cs₁ cs₂ : List Call) → sharedCalls f L noneOpen cs₁ ≡ sharedCalls f L noneOpen cs₂
     → Claim f L (record { state = a .state; store = s₁ }) (record { state = b .state; store = s₂ }) cs₁ cs₂
