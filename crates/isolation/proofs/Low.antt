@@ -19,7 +19,7 @@ use Rattle.policy.specs.Accepted.{Accepted}
 use Rattle.monitor.specs.Calls.{ifDone, written, partAt, writeNumber}
 use Rattle.monitor.specs.Runs.{Call, opens, closes, takes, drops, reads, writes, Memory, number, storeAfter}
 use Rattle.monitor.specs.Places.{isFree, put}
-use Rattle.monitor.specs.Rules.{Session, Sessions, seated, suits, uses, openRule, closeRule, takeRule, dropRule, partRule, rule, sessionOf, holding, without, next}
+use Rattle.monitor.specs.Rules.{Session, Sessions, seated, fittingByFile, givesByFile, openRule, closeRule, takeRule, dropRule, partRule, rule, sessionOf, holding, without, next}
 use Rattle.monitor.proofs.Answers.{part-fits}
 use Rattle.monitor.proofs.Frames.{written-in, written-out}
 use Rattle.monitor.proofs.Orderly.{Admitted, Orderly, part-done}
@@ -134,16 +134,16 @@ bytes-same a b at n fits-a fits-b h = ext-getD 0 (take n (drop at a)) (take n (d
     byte c i l = getD-take n (drop at c) i 0 l ∙ getD-drop at c i 0
 
 module _ (f : List ℕ) (accepted : Accepted f) (L : ℕ) (label : Among (labels f) L) (t : Open) (s : Sessions) (known : Orderly f s) (fits : Fits t s) where
-  -- a use of card o at place p, by a role that suits the session's label there
+  -- a use of card o at place p, by a role that fits the session's label there
   pub record Use (mode p o : ℕ) : Type 0 where
     pub card : Among (cards f) o
     pub level : ℕ
     pub inside : Among (labels f) level
     pub tracked : t p ≡ some level
-    pub role : (r : ℕ) × (may f mode r o ≡ true) × (suits f level r ≡ true)
+    pub role : (r : ℕ) × (may f mode r o ≡ true) × (fittingByFile f level r ≡ true)
 
   use-of : (mode size p o k n : ℕ) → partRule f mode s size p o k n ≡ 0 → Use mode p o
-  unfolding uses
+  unfolding givesByFile
   use-of mode size p o k n z =
       let u = part-done f mode s size p o k n z in
       let x = u .session in

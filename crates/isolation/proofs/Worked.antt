@@ -21,7 +21,7 @@ use Rattle.policy.specs.Accepted.{Accepted}
 use Rattle.policy.proofs.Outcomes.{accepted-fine}
 use Rattle.monitor.specs.Calls.{unless, ifDone}
 use Rattle.monitor.specs.Runs.{Call}
-use Rattle.monitor.specs.Rules.{nobody, belongs, suits, uses, openRule, closeRule, takeRule, dropRule, partRule, rule, next}
+use Rattle.monitor.specs.Rules.{nobody, entitledByFile, fittingByFile, givesByFile, openRule, closeRule, takeRule, dropRule, partRule, rule, next}
 use Rattle.monitor.specs.Cases.{line, bytes}
 use Rattle.monitor.proofs.Demand2.{loaded-runs}
 use Rattle.isolation.specs.TwoRuns.{Answer, noneOpen, grants, track, shared, sharedCalls, shown, SameCards, Start}
@@ -49,7 +49,7 @@ computed : (answersBy 2 firstStore firstDay ≡ low) × (answersBy 2 secondStore
 unfolding file line bytes firstStore secondStore firstDay secondDay low highFirst highSecond
     column columns letterOf fields formed lineOf lineAt says last labelBy some every first via upper isLeast least lub
     dominates senior may mayAt level rLevel wLevel
-    unless ifDone belongs suits uses openRule closeRule takeRule dropRule partRule rule next
+    unless ifDone entitledByFile fittingByFile givesByFile openRule closeRule takeRule dropRule partRule rule next
     grants track shared partBy storeBy shownBy
 computed = (refl, refl, refl, refl)
 

@@ -13,7 +13,7 @@ use Rattle.policy.specs.Policy.{dominates, senior, may, mayAt, level, rLevel, w
 use Rattle.policy.specs.Verdict.{assignVerdict, assignmentVerdict, policyVerdict, verdict}
 use Rattle.policy.specs.Flow.{flows, flowCircle}
 use Rattle.monitor.specs.Calls.{unless, ifDone}
-use Rattle.monitor.specs.Rules.{belongs, suits, uses, openRule, takeRule, partRule, rule, next}
+use Rattle.monitor.specs.Rules.{entitledByFile, fittingByFile, givesByFile, openRule, takeRule, partRule, rule, next}
 use Rattle.monitor.specs.Cases.{line, bytes, numbered, Findings, findings, Case, cases}
 
 -- what the definitions find of a case's file
@@ -26,7 +26,7 @@ unfolding cases findings line bytes
     sized counted firstLimit secondLimit ranged rises headVerdict bodyVerdict lineVerdict scan count unlabelled unlabelledVerdict formVerdict
     says last labelBy some every first via upper isLeast least lub apart partnerWithoutBound unjoined
     dominates senior may mayAt level rLevel wLevel assignVerdict assignmentVerdict policyVerdict verdict flows flowCircle
-    unless ifDone belongs suits uses openRule takeRule partRule rule next numbered
+    unless ifDone entitledByFile fittingByFile givesByFile openRule takeRule partRule rule next numbered
 computed = refl
 
 of-each : (cs : List Case) → map given cs ≡ map (λ c. c .expected) cs → (c : Case) → List·Memᴰ c cs → given c ≡ c .expected

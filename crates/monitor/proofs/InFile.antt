@@ -26,7 +26,7 @@ use Rattle.policy.proofs.Meaning.{counts-known, marked-file}
 use Rattle.monitor.specs.Session.{sound, labelsIn, rolesIn, usersIn, cardsIn, placeAt, heldAt, inUse, userAt, labelAt, cleared, entitled, fitting, gives}
 use Rattle.monitor.specs.Calls.{unless, atSession, openNumber, closeNumber, takeNumber, dropNumber, partNumber}
 use Rattle.monitor.specs.Places.{isFree}
-use Rattle.monitor.specs.Rules.{Session, Sessions, seated, seatedAt, belongs, suits, uses, openRule, closeRule, takeRule, dropRule, partRule}
+use Rattle.monitor.specs.Rules.{Session, Sessions, seated, seatedAt, entitledByFile, fittingByFile, givesByFile, openRule, closeRule, takeRule, dropRule, partRule}
 use Rattle.monitor.proofs.Orderly.{Admitted, Known, Orderly}
 use Rattle.monitor.proofs.Stands.{SessionAt, Seat, Stands}
 
@@ -100,8 +100,8 @@ module _ (f : List ℕ) (form : WellFormed f) (t : Sessions) (known : Orderly f 
       both : ℕ → Bool
       both r = member xs a r && member xs b r
 
-  pub entitled-file : (u r : ℕ) → Among (users f) u → Among (roles f) r → entitled xs u r ≡ belongs f u r
-  unfolding entitled belongs
+  pub entitled-file : (u r : ℕ) → Among (users f) u → Among (roles f) r → entitled xs u r ≡ entitledByFile f u r
+  unfolding entitled entitledByFile
   entitled-file u r v w =
       let c = counts-known f form in
       let few-users = c .users in
@@ -111,8 +111,8 @@ module _ (f : List ℕ) (form : WellFormed f) (t : Sessions) (known : Orderly f 
       (λ q i. rw (stands .tables .assigning u q (omega arith) i, stands .tables .seniors r q (omega arith) i, le-leb r (roles f) (w .1)))
       (λ q e. assigned-known f (form .good) u q (and-iff (assigned f u q) (senior f q r) .0 e .0) .1)
 
-  pub fitting-file : (l r : ℕ) → Among (labels f) l → Among (roles f) r → fitting xs l r ≡ suits f l r
-  unfolding fitting suits rLevel wLevel
+  pub fitting-file : (l r : ℕ) → Among (labels f) l → Among (roles f) r → fitting xs l r ≡ fittingByFile f l r
+  unfolding fitting fittingByFile rLevel wLevel
   fitting-file l r v w =
       let c = counts-known f form in
       let few-roles = c .roles in
@@ -128,8 +128,8 @@ module _ (f : List ℕ) (form : WellFormed f) (t : Sessions) (known : Orderly f 
 
   -- the table at `at` says who may use cards by mode m
   module _ (at m : ℕ) (inside : at + 8192 ≤ 65536) (says : (o r : ℕ) → Among 512 o → Among 128 r → member xs (rowOf at o) r ≡ may f m r o) where
-    gives-file : (p o : ℕ) (s : Session) → SessionAt xs p s → Admitted f p s → Among (cards f) o → gives xs at p o ≡ uses f m s o
-    unfolding gives uses
+    gives-file : (p o : ℕ) (s : Session) → SessionAt xs p s → Admitted f p s → Among (cards f) o → gives xs at p o ≡ givesByFile f m s o
+    unfolding gives givesByFile
     gives-file p o s a k w =
         let c = counts-known f form in
         let few-cards = c .cards in
@@ -145,7 +145,7 @@ module _ (f : List ℕ) (form : WellFormed f) (t : Sessions) (known : Orderly f 
     part-file size p o k n =
         seated-file p _ (λ s a adm.
         test-same (among (cardsIn xs) o) (among (cards f) o) 25 (rw (stands .tables .counted .cards)) (λ card.
-        test-same (gives xs at p o) (uses f m s o) 29 (gives-file p o s a adm (among-iff (cards f) o .0 card)) (λ used.
+        test-same (gives xs at p o) (givesByFile f m s o) 29 (gives-file p o s a adm (among-iff (cards f) o .0 card)) (λ used.
         test-same (leb (k + n) 64) (leb (k + n) 64) 30 refl (λ fits.
         test-same (leb (64 * cardsIn xs) size) (leb (64 * cards f) size) 31 (rw (stands .tables .counted .cards)) (λ stored. refl)))))
 
@@ -180,9 +180,9 @@ module _ (f : List ℕ) (form : WellFormed f) (t : Sessions) (known : Orderly f 
       seated-file p _ (λ s a adm.
       test-same (among (rolesIn xs) r) (among (roles f) r) 25 (rw (stands .tables .counted .roles)) (λ role.
       let w = among-iff (roles f) r .0 role in
-      test-same (entitled xs (userAt xs p) r) (belongs f (s .user) r) 27
+      test-same (entitled xs (userAt xs p) r) (entitledByFile f (s .user) r) 27
       (ap (λ (u : ℕ). entitled xs u r) (user-is p s a) ∙ entitled-file (s .user) r (adm .user) w) (λ member.
-      test-same (fitting xs (labelAt xs p) r) (suits f (s .label) r) 28
+      test-same (fitting xs (labelAt xs p) r) (fittingByFile f (s .label) r) 28
       (ap (λ (l : ℕ). fitting xs l r) (label-is p s a) ∙ fitting-file (s .label) r (adm .label) w) (λ suited. refl))))
 
   pub drop-file : (p r : ℕ) → dropNumber xs p r ≡ dropRule f t p r

@@ -41,16 +41,16 @@ seatedAt t p rule = unless (among 64 p) 22 (seated (t p) rule)
 -- ---- the rules
 
 -- "the user is assigned to it or to a senior of it"; a role is a senior of itself
-unfoldable pub belongs : List ℕ → ℕ → ℕ → Bool
-belongs f u r = search.some (roles f) (λ q. assigned f u q && senior f q r)
+unfoldable pub entitledByFile : List ℕ → ℕ → ℕ → Bool
+entitledByFile f u r = search.some (roles f) (λ q. assigned f u q && senior f q r)
 
 -- "the session's label dominates its r-level, and its w-level dominates the session's label"
-unfoldable pub suits : List ℕ → ℕ → ℕ → Bool
-suits f l r = passes (dominates f l) (rLevel f r) && passes (λ a. dominates f a l) (wLevel f r)
+unfoldable pub fittingByFile : List ℕ → ℕ → ℕ → Bool
+fittingByFile f l r = passes (dominates f l) (rLevel f r) && passes (λ a. dominates f a l) (wLevel f r)
 
 -- "A session may use the permissions of all roles it holds, inherited ones included": to read (m = 1) or write (m = 2) card o
-unfoldable pub uses : List ℕ → ℕ → Session → ℕ → Bool
-uses f m s o = search.some (roles f) (λ r. s .held r && may f m r o)
+unfoldable pub givesByFile : List ℕ → ℕ → Session → ℕ → Bool
+givesByFile f m s o = search.some (roles f) (λ r. s .held r && may f m r o)
 
 -- ---- the number of each call
 
@@ -70,8 +70,8 @@ unfoldable pub takeRule : List ℕ → Sessions → ℕ → ℕ → ℕ
 takeRule f t p r =
     seatedAt t p (λ s.
     unless (among (roles f) r) 25
-    (unless (belongs f (s .user) r) 27
-    (unless (suits f (s .label) r) 28
+    (unless (entitledByFile f (s .user) r) 27
+    (unless (fittingByFile f (s .label) r) 28
     0)))
 
 unfoldable pub dropRule : List ℕ → Sessions → ℕ → ℕ → ℕ
@@ -82,7 +82,7 @@ unfoldable pub partRule : List ℕ → ℕ → Sessions → ℕ → ℕ → ℕ 
 partRule f m t size p o k n =
     seatedAt t p (λ s.
     unless (among (cards f) o) 25
-    (unless (uses f m s o) 29
+    (unless (givesByFile f m s o) 29
     (unless (leb (k + n) 64) 30
     (unless (leb (64 * cards f) size) 31
     0))))
