@@ -38,7 +38,7 @@ seated (some s) rule = rule s
 abbrev pub seatedAt : Sessions → ℕ → (Session → ℕ) → ℕ
 seatedAt t p rule = unless (among 64 p) 22 (seated (t p) rule)
 
--- ---- the rules
+-- ---- the rules, which `entitled`, `fitting` and `gives` of Session ask by the state's bytes
 
 -- "the user is assigned to it or to a senior of it"; a role is a senior of itself
 unfoldable pub entitledByFile : List ℕ → ℕ → ℕ → Bool

@@ -53,12 +53,16 @@ cleared xs u l = marked xs (byteOf xs clearancesAt u) l
 unfoldable pub entitled : List ℕ → ℕ → ℕ → Bool
 entitled xs u r = common xs (rowOf assignedAt u) (rowOf seniorsAt r)
 
--- "the session's label dominates its r-level, and its w-level dominates the session's label. A free level always passes; an undefined one never"
+-- label a dominates label b, one of which is a level. "A free level always passes; an undefined one never": 0 is free, and 99, undefined, is no label
+abbrev pub passesIn : List ℕ → ℕ → ℕ → ℕ → Bool
+passesIn xs level a b = eqb level 0 || marked xs a b
+
+-- "the session's label dominates its r-level, and its w-level dominates the session's label"
 unfoldable pub fitting : List ℕ → ℕ → ℕ → Bool
 fitting xs l r =
     let reads = byteOf xs rLevelsAt r in
     let writes = byteOf xs wLevelsAt r in
-    (eqb reads 0 || marked xs l reads) && (eqb writes 0 || marked xs writes l)
+    passesIn xs reads l reads && passesIn xs writes writes l
 
 -- a role that place p holds gives the read, or the write, of card o
 unfoldable pub gives : List ℕ → ℕ → ℕ → ℕ → Bool
