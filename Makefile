@@ -13,7 +13,7 @@ PICTURE ?= target/picture.svg
 PREFIX ?= /usr/local
 ARCHIVE = target/staticlib/libmonitor.a
 
-.PHONY: help check rights picture test prove lib install example differential lists pairs long fuzz sanitize bench growth mutation kit
+.PHONY: help check rights picture test prove lib install example differential lists pairs long fuzz sanitize bench growth mutation kit cargo
 
 help:
 	@echo "make check FILE=F       check a role file: its verdict, levels, flow"
@@ -36,6 +36,9 @@ help:
 
 kit:
 	@command -v rt >/dev/null || { echo "rt, the command of the Rattle kit, is not on the path. Install the kit, then put its bin folder on the path."; exit 1; }
+
+cargo:
+	@command -v cargo >/dev/null || { echo "cargo is not on the path. Install Rust with cargo; the host code uses its standard library alone."; exit 1; }
 
 check: kit
 	@rt check rolecheck >/dev/null
@@ -72,19 +75,19 @@ example: lib
 	$(CC) -std=c11 -Wall -Wextra -Werror -Iinclude -o target/server examples/server.c $(ARCHIVE)
 	target/server $(FILE)
 
-differential: kit
+differential: kit cargo
 	rt check rolecheck >/dev/null
 	cargo build --release --offline --quiet --manifest-path host/checker/Cargo.toml
 	host/checker/target/release/differential target/bin/rolecheck $(COUNT) $(SEED) host/checker/kept
 
-lists: lib
+lists: cargo lib
 	MONITOR_LIB=$(CURDIR)/$(ARCHIVE) cargo run --release --offline --quiet --manifest-path host/monitor/Cargo.toml -- $(LISTS) $(SEED)
 
-pairs: lib
+pairs: cargo lib
 	MONITOR_LIB=$(CURDIR)/$(ARCHIVE) cargo run --release --offline --quiet --manifest-path host/monitor/Cargo.toml -- --pairs $(PAIRS) $(SEED)
 
 # The load of every file, and one of fifty through the checking program too.
-long: lib
+long: cargo lib
 	rt check rolecheck >/dev/null
 	MONITOR_LIB=$(CURDIR)/$(ARCHIVE) cargo build --release --offline --quiet --manifest-path host/monitor/Cargo.toml
 	host/monitor/target/release/files $(LONG_FILES) $(SEED) target/bin/rolecheck 50
@@ -96,10 +99,10 @@ fuzz: kit
 sanitize: lib
 	$(MAKE) -C host/c asan valgrind LIB=$(CURDIR)/$(ARCHIVE)
 
-bench: lib
+bench: cargo lib
 	cd host/bench && cargo run --release --offline --quiet
 
-growth: lib
+growth: cargo lib
 	cd host/bench && cargo run --release --offline --quiet -- --plot ../../docs/growth.svg
 
 mutation: kit

@@ -12,7 +12,6 @@
 #include <stdio.h>
 
 enum { USER = 1, LOW = 1, HIGH = 2, READ = 1, WRITE = 2 };
-enum { MOST_FILE = 63800, MOST_LABELS = 32, MOST_ROLES = 128, MOST_CARDS = 512, CARD_BYTES = 64 };
 
 static const char *const words[] = {
     [0] = "done",
@@ -43,7 +42,7 @@ static const char *const words[] = {
 };
 
 /* What the server lends to the calls. */
-static uint8_t state[65536], cards[MOST_CARDS][CARD_BYTES];
+static uint8_t state[MONITOR_STATE_BYTES], cards[MONITOR_CARDS][MONITOR_CARD_BYTES];
 #define STATE state, sizeof state
 #define STORE cards[0], sizeof cards
 
@@ -60,7 +59,7 @@ static void tell(uint64_t answer, const char *asked, ...)
 /* Asks for every role; tells of the first three and of those that are taken. */
 static void take_roles(uint64_t place)
 {
-    for (uint64_t role = 1; role <= MOST_ROLES; role++) {
+    for (uint64_t role = 1; role <= MONITOR_ROLES; role++) {
         uint64_t answer = monitor_take(STATE, place, role);
         if (role <= 3 || answer == 0)
             tell(answer, "place %" PRIu64 " takes role %" PRIu64, place, role);
@@ -70,7 +69,7 @@ static void take_roles(uint64_t place)
 /* The lowest card that the user can read or write at a label, or 0. */
 static uint64_t lowest_card(uint64_t label, uint64_t mode)
 {
-    for (uint64_t card = 1; card <= MOST_CARDS; card++)
+    for (uint64_t card = 1; card <= MONITOR_CARDS; card++)
         if (monitor_can(STATE, USER, label, card, mode).figure == 1)
             return card;
     return 0;
@@ -78,7 +77,7 @@ static uint64_t lowest_card(uint64_t label, uint64_t mode)
 
 static void read_card(uint64_t place, uint64_t card)
 {
-    uint64_t answer = monitor_read_number(STATE, STORE, place, card, 0, CARD_BYTES);
+    uint64_t answer = monitor_read_number(STATE, STORE, place, card, 0, MONITOR_CARD_BYTES);
     tell(answer, "place %" PRIu64 " reads card %" PRIu64, place, card);
     if (answer == 0)
         printf("    %.64s\n", (const char *)cards[card - 1]);
@@ -86,7 +85,7 @@ static void read_card(uint64_t place, uint64_t card)
 
 int main(int count, char **arguments)
 {
-    static uint8_t file[MOST_FILE + 1];
+    static uint8_t file[MONITOR_FILE_BYTES + 1];
     FILE *from = count == 2 ? fopen(arguments[1], "rb") : NULL;
     if (from == NULL) {
         fputs("usage: server FILE, a role file that can be read\n", stderr);
@@ -98,10 +97,10 @@ int main(int count, char **arguments)
     tell(verdict.number, "load, place %" PRIu64 " %" PRIu64, verdict.first, verdict.second);
     if (verdict.number != 0)
         return 1;
-    for (int card = 1; card <= MOST_CARDS; card++)
-        snprintf((char *)cards[card - 1], CARD_BYTES, "the wording of card %d", card);
+    for (int card = 1; card <= MONITOR_CARDS; card++)
+        snprintf((char *)cards[card - 1], MONITOR_CARD_BYTES, "the wording of card %d", card);
 
-    uint64_t answer, label = MOST_LABELS; /* down to one that the user may open */
+    uint64_t answer, label = MONITOR_LABELS; /* down to one that the user may open */
     while ((answer = monitor_open(STATE, HIGH, USER, label)) != 0 && label > 1)
         label--;
     tell(answer, "place %d opens at label %" PRIu64, HIGH, label);

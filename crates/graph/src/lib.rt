@@ -40,7 +40,7 @@ fn ordered_row(s: &[u8], order: Order, n: usize, a: u64) -> [u8; 16]
     let mut i = 0;
     while i < n {
         let belongs = ordered(s, order, a, i as u64 + 1);
-        monitor::review::put_where(&mut row, i + 1, belongs);
+        roleset::add_where(&mut row, 0, i + 1, belongs);
         i += 1;
     }
     row

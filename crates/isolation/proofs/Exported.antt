@@ -12,7 +12,8 @@ answered : (m n : Memory) (c : Call) (a : Answer) → a .number ≡ number m c �
     → (a ≡ answer m c) × (n ≡ after m c)
 answered m n c a e b s t = (λ i. record { number = e i; bytes = b i }, λ i. record { state = s i; store = t i })
 
-made-once : (m : Memory) (c : Call) (a : Answer) (n : Memory) → Made m c a n → (a ≡ answer m c) × (n ≡ after m c)
+-- the contracts leave a call one answer and one outcome
+pub made-once : (m : Memory) (c : Call) (a : Answer) (n : Memory) → Made m c a n → (a ≡ answer m c) × (n ≡ after m c)
 unfolding number part stateAfter storeAfter
 made-once m (opens p u l) a n (h, s, b) = answered m n (opens p u l) a (h .number) b (h .state) s
 made-once m (closes p) a n (h, s, b) = answered m n (closes p) a (h .number) b (h .state) s
@@ -30,8 +31,8 @@ makes-run f L (c ∷ cs) t m e xs (a, n, ys, made, rest, shows) =
     (shows ∙ rw (z, x, y), w ∙ rw y)
 
 pub exported : (f : List ℕ) → IsolatedExports f
-exported f accepted a b L label s₁ s₂ long same cs₁ cs₂ struck-alike xs₁ xs₂ e₁ e₂ makes₁ makes₂ =
-    let claim = isolation f accepted a b L label s₁ s₂ long same cs₁ cs₂ struck-alike in
+exported f accepted a b L label s₁ s₂ long same cs₁ cs₂ same-shared xs₁ xs₂ e₁ e₂ makes₁ makes₂ =
+    let claim = isolation f accepted a b L label s₁ s₂ long same cs₁ cs₂ same-shared in
     let (x₁, y₁) = makes-run f L cs₁ noneOpen _ e₁ xs₁ makes₁ in
     let (x₂, y₂) = makes-run f L cs₂ noneOpen _ e₂ xs₂ makes₂ in
     rw (x₁, x₂, y₁, y₂) (claim .answers, claim .cards)

@@ -1,4 +1,4 @@
--- Demand 3: a run is like the run of its own struck list, by induction along the list; so two runs with one struck list are alike. Assumes nothing.
+-- Demand 3: a run is like the run of its own shared calls, by induction along the list; so two runs with the same shared calls are alike. Assumes nothing.
 use Prim.Native.Nat.{ℕ, zero, suc, _+_, _*_, _-_}
 use mathlib.Core.Path.{_≡_, refl, sym, _∙_}
 use mathlib.Core.List.{List, [], _∷_}
@@ -19,7 +19,7 @@ use Rattle.monitor.proofs.Answers.{part-fits}
 use Rattle.monitor.proofs.Frames.{written-out}
 use Rattle.monitor.proofs.Orderly.{part-done}
 use Rattle.monitor.proofs.Demand2.{Runs, runs-next, runs-number, loaded-runs}
-use Rattle.isolation.specs.TwoRuns.{answer, Open, noneOpen, track, under, shared, struck, Shown, shown, SameCards, Alike, Isolated}
+use Rattle.isolation.specs.TwoRuns.{answer, Open, noneOpen, track, under, shared, sharedCalls, Shown, shown, SameCards, Alike, Isolated}
 use Rattle.isolation.proofs.Tracking.{Fits, none-fits, placeOf, next-other, fits-track}
 use Rattle.isolation.proofs.Low.{SameSessions, same-number, next-same, cards-after, bytes-same, read-under, write-over}
 
@@ -144,15 +144,15 @@ module _ (f : List ℕ) (accepted : Accepted f) (L : ℕ) (label : Among (labels
         cards = λ o i w d l. other-cards t s₁ m₁ (pair .runs₁) (pair .fits₁) c high o i w d l ∙ pair .cards o i w d l;
       }
 
-  -- ---- a run, and the run of its struck list
+  -- ---- a run, and the run of its shared calls
 
   abbrev Like : Open → Memory → Memory → List Call → List Call → Type 0
   Like t m₁ m₂ cs ds = Alike f L (shown f L t m₁ cs) (shown f L t m₂ ds) × SameCards f L (run m₁ cs .store) (run m₂ ds .store)
 
   turn : (b : Bool) (t : Open) (s₁ s₂ : Sessions) (m₁ m₂ : Memory) (c : Call) (cs : List Call) → shared f L t c ≡ b → Pair t s₁ s₂ m₁ m₂
-      → ((u : Open) (r₁ r₂ : Sessions) (n₁ n₂ : Memory) → Pair u r₁ r₂ n₁ n₂ → Like u n₁ n₂ cs (struck f L u cs))
-      → Like t m₁ m₂ (c ∷ cs) (struck f L t (c ∷ cs))
-  unfolding shown struck run
+      → ((u : Open) (r₁ r₂ : Sessions) (n₁ n₂ : Memory) → Pair u r₁ r₂ n₁ n₂ → Like u n₁ n₂ cs (sharedCalls f L u cs))
+      → Like t m₁ m₂ (c ∷ cs) (sharedCalls f L t (c ∷ cs))
+  unfolding shown sharedCalls run
   turn true t s₁ s₂ m₁ m₂ c cs h pair rest =
       let next-pair = shared-pair t s₁ s₂ m₁ m₂ pair c h in
       let (alike, end) = rest (track f t c) (next f s₁ c) (next f s₂ c) (after m₁ c) (after m₂ c) next-pair in
@@ -161,10 +161,10 @@ module _ (f : List ℕ) (accepted : Accepted f) (L : ℕ) (label : Among (labels
       let (same, high) = other-call t s₁ m₁ (pair .runs₁) (pair .fits₁) c h in
       rw (h, same) (rest t (next f s₁ c) s₂ (after m₁ c) m₂ (other-pair t s₁ s₂ m₁ m₂ pair c h))
 
-  pub like-struck : (cs : List Call) (t : Open) (s₁ s₂ : Sessions) (m₁ m₂ : Memory) → Pair t s₁ s₂ m₁ m₂ → Like t m₁ m₂ cs (struck f L t cs)
-  unfolding shown struck run
-  like-struck [] t s₁ s₂ m₁ m₂ pair = (tt, pair .cards)
-  like-struck (c ∷ cs) t s₁ s₂ m₁ m₂ pair = turn (shared f L t c) t s₁ s₂ m₁ m₂ c cs refl pair (like-struck cs)
+  pub like-shared : (cs : List Call) (t : Open) (s₁ s₂ : Sessions) (m₁ m₂ : Memory) → Pair t s₁ s₂ m₁ m₂ → Like t m₁ m₂ cs (sharedCalls f L t cs)
+  unfolding shown sharedCalls run
+  like-shared [] t s₁ s₂ m₁ m₂ pair = (tt, pair .cards)
+  like-shared (c ∷ cs) t s₁ s₂ m₁ m₂ pair = turn (shared f L t c) t s₁ s₂ m₁ m₂ c cs refl pair (like-shared cs)
 
 -- two lists like a third are alike
 alike-both : (f : List ℕ) (L : ℕ) (xs ys zs : List Shown) → Alike f L xs zs → Alike f L ys zs → Alike f L xs ys
@@ -179,7 +179,7 @@ alike-both f L (x ∷ xs) (y ∷ ys) (z ∷ zs) (a, c, h) (b, d, k) =
 
 -- demand 3
 pub isolation : (f : List ℕ) → Isolated f
-isolation f accepted a b L label s₁ s₂ long same cs₁ cs₂ struck-alike =
+isolation f accepted a b L label s₁ s₂ long same cs₁ cs₂ same-shared =
     let m₁ : Memory = record { state = a .state; store = s₁ } in
     let m₂ : Memory = record { state = b .state; store = s₂ } in
     let r₁ = loaded-runs f accepted (a .before) (a .state) (a .verdict) (a .enough) (a .load) s₁ in
@@ -200,9 +200,9 @@ isolation f accepted a b L label s₁ s₂ long same cs₁ cs₂ struck-alike =
       sessions = λ p k. refl;
       cards = λ o i w d l. sym (same o i w d l);
     } in
-    let (x, end₁) = like-struck f accepted L label (length s₁) cs₁ noneOpen nobody nobody m₁ m₁ itself in
-    let (y, end₂) = rw (sym struck-alike) at (like-struck f accepted L label (length s₁) cs₂ noneOpen nobody nobody m₂ m₁ other) in
+    let (x, end₁) = like-shared f accepted L label (length s₁) cs₁ noneOpen nobody nobody m₁ m₁ itself in
+    let (y, end₂) = rw (sym same-shared) at (like-shared f accepted L label (length s₁) cs₂ noneOpen nobody nobody m₂ m₁ other) in
     record {
-      answers = alike-both f L (shown f L noneOpen m₁ cs₁) (shown f L noneOpen m₂ cs₂) (shown f L noneOpen m₁ (struck f L noneOpen cs₁)) x y;
+      answers = alike-both f L (shown f L noneOpen m₁ cs₁) (shown f L noneOpen m₂ cs₂) (shown f L noneOpen m₁ (sharedCalls f L noneOpen cs₁)) x y;
       cards = λ o i w d l. end₁ o i w d l ∙ sym (end₂ o i w d l);
     }

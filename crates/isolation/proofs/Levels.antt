@@ -1,4 +1,4 @@
--- Why levels isolate: in an accepted file, a role that suits a label reads only cards of labels it dominates, and writes only cards of labels that dominate it. Assumes
+-- Why levels isolate: in an accepted file, a role that fits a label reads only cards of labels it dominates, and writes only cards of labels that dominate it. Assumes
 -- nothing.
 use Prim.Native.Nat.{ℕ}
 use mathlib.Core.Path.{_≡_, refl}
@@ -17,7 +17,7 @@ use Rattle.policy.specs.Policy.{dominates, may, mayAt, rLevel, wLevel, passes}
 use Rattle.policy.specs.Accepted.{Accepted, Passing}
 use Rattle.policy.proofs.Levels.{turned-order, passes-iff}
 use Rattle.policy.proofs.Inside.{card-label-known}
-use Rattle.monitor.specs.Rules.{suits}
+use Rattle.monitor.specs.Rules.{fittingByFile}
 
 -- a level that passes bounds each label of its set
 passing-bound : (n : ℕ) (ge : Relation) (s p : ℕ → Bool) → Passing n ge s p → (x : ℕ) → Among n x → s x ≡ true → (c : ℕ) × Among n c × (ge c x ≡ true) × (p c ≡ true)
@@ -37,9 +37,9 @@ module _ (f : List ℕ) (accepted : Accepted f) where
       some-of (λ c. may f m r c && eqb (cardLabel f c) (cardLabel f o)) (cards f) o w
       (and-iff (may f m r o) (eqb (cardLabel f o) (cardLabel f o)) .1 (h, eq-eqb (cardLabel f o) (cardLabel f o) refl))
 
-  module _ (l r o : ℕ) (label : Among (labels f) l) (card : Among (cards f) o) (suited : suits f l r ≡ true) where
+  module _ (l r o : ℕ) (label : Among (labels f) l) (card : Among (cards f) o) (suited : fittingByFile f l r ≡ true) where
     both : (passes (dominates f l) (rLevel f r) ≡ true) × (passes (λ a. dominates f a l) (wLevel f r) ≡ true)
-    unfolding suits
+    unfolding fittingByFile
     both = and-iff (passes (dominates f l) (rLevel f r)) (passes (λ a. dominates f a l) (wLevel f r)) .0 suited
 
     pub reads-below : may f 1 r o ≡ true → dominates f l (cardLabel f o) ≡ true

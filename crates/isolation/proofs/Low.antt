@@ -7,7 +7,6 @@ use mathlib.Core.Bool.{true, false, _&&_, cond, false≢true}
 use mathlib.Core.Option.{Option, none, some, Option·map}
 use native.Mathlib.Omega.{arith}
 use native.Mathlib.Decide.{ℕ-discrete, decLt}
-use borrow.Author.Tests.{eq-eqb}
 use lib.ListN.{length, getD, take, drop, length-drop}
 use lib.Seq.{length-take-le, getD-take, getD-drop, ext-getD}
 use Rattle.search.specs.Search.{Among}
@@ -19,14 +18,15 @@ use Rattle.policy.specs.Tables.{writersAt}
 use Rattle.policy.specs.Accepted.{Accepted}
 use Rattle.monitor.specs.Calls.{ifDone, written, partAt, writeNumber}
 use Rattle.monitor.specs.Runs.{Call, opens, closes, takes, drops, reads, writes, Memory, number, storeAfter}
-use Rattle.monitor.specs.Rules.{Session, Sessions, isFree, seated, suits, uses, openRule, closeRule, takeRule, dropRule, partRule, rule, put, sessionOf, holding, without, next}
+use Rattle.monitor.specs.Places.{isFree, put}
+use Rattle.monitor.specs.Rules.{Session, Sessions, seated, fittingByFile, givesByFile, openRule, closeRule, takeRule, dropRule, partRule, rule, sessionOf, holding, without, next}
 use Rattle.monitor.proofs.Answers.{part-fits}
 use Rattle.monitor.proofs.Frames.{written-in, written-out}
 use Rattle.monitor.proofs.Orderly.{Admitted, Orderly, part-done}
-use Rattle.monitor.proofs.History.{put-at}
-use Rattle.isolation.specs.TwoRuns.{Open, isClosed, grants, mark, track, under, shared, SameCards}
+use Rattle.monitor.proofs.Places.{put-at}
+use Rattle.isolation.specs.TwoRuns.{Open, grants, track, under, shared, SameCards}
 use Rattle.isolation.proofs.Levels.{label-of-card, reads-below, writes-above}
-use Rattle.isolation.proofs.Tracking.{labelOf, Fits, closed-free, placeOf, next-other, track-other, grants-iff}
+use Rattle.isolation.proofs.Tracking.{labelOf, Fits, label-free, placeOf, next-other, track-other, grants-iff}
 
 -- ---- numbers
 
@@ -40,7 +40,7 @@ SameSessions f L t s₁ s₂ = (p : ℕ) → under f L (t p) ≡ true → s₁ p
 
 module _ (f : List ℕ) (L : ℕ) (t : Open) (s₁ s₂ : Sessions) (fits₁ : Fits t s₁) (fits₂ : Fits t s₂) (same : SameSessions f L t s₁ s₂) where
   free-same : (p : ℕ) → isFree (s₁ p) ≡ isFree (s₂ p)
-  free-same p = sym (closed-free (s₁ p)) ∙ ap isClosed (sym (fits₁ p) ∙ fits₂ p) ∙ closed-free (s₂ p)
+  free-same p = sym (label-free (s₁ p)) ∙ ap isFree (sym (fits₁ p) ∙ fits₂ p) ∙ label-free (s₂ p)
 
   pub same-number : (size : ℕ) (c : Call) → shared f L t c ≡ true → rule f size s₁ c ≡ rule f size s₂ c
   unfolding rule shared openRule closeRule takeRule dropRule partRule
@@ -70,10 +70,7 @@ module _ (f : List ℕ) (L : ℕ) (t : Open) (s₁ s₂ : Sessions) (fits₁ : F
           let z = same-number 0 (opens p u l) refl in
           let refused = untrue (grants f t p u l) (λ g. let w = grants-iff f t s₁ known fits₁ p u l .0 g in omega arith) in
           same p (rw refused at k)
-  here known (closes p) h k = absurd (false≢true (rw (mark-here p) at k))
-    where
-      mark-here : (p : ℕ) → mark t p none p ≡ none
-      mark-here p = rw (eq-eqb p p refl)
+  here known (closes p) h k = absurd (false≢true (rw (put-at t p none p refl) at k))
   here known (takes p r) h k = rw (same-number 0 (takes p r) h) (changed-here p (takeRule f s₂ p r) (holding r) (same p h))
   here known (drops p r) h k = rw (same-number 0 (drops p r) h) (changed-here p (dropRule f s₂ p r) (without r) (same p h))
   here known (reads p o i n) h k = same p h
@@ -137,16 +134,16 @@ bytes-same a b at n fits-a fits-b h = ext-getD 0 (take n (drop at a)) (take n (d
     byte c i l = getD-take n (drop at c) i 0 l ∙ getD-drop at c i 0
 
 module _ (f : List ℕ) (accepted : Accepted f) (L : ℕ) (label : Among (labels f) L) (t : Open) (s : Sessions) (known : Orderly f s) (fits : Fits t s) where
-  -- a use of card o at place p, by a role that suits the session's label there
+  -- a use of card o at place p, by a role that fits the session's label there
   pub record Use (mode p o : ℕ) : Type 0 where
     pub card : Among (cards f) o
     pub level : ℕ
     pub inside : Among (labels f) level
     pub tracked : t p ≡ some level
-    pub role : (r : ℕ) × (may f mode r o ≡ true) × (suits f level r ≡ true)
+    pub role : (r : ℕ) × (may f mode r o ≡ true) × (fittingByFile f level r ≡ true)
 
   use-of : (mode size p o k n : ℕ) → partRule f mode s size p o k n ≡ 0 → Use mode p o
-  unfolding uses
+  unfolding givesByFile
   use-of mode size p o k n z =
       let u = part-done f mode s size p o k n z in
       let x = u .session in

@@ -14,10 +14,12 @@ use Rattle.rolefile.specs.Said.{labels, users, clearance}
 use Rattle.policy.specs.Policy.{dominates}
 use Rattle.monitor.specs.Calls.{unless, ifDone}
 use Rattle.monitor.specs.Runs.{Call, opens, closes, takes, drops, reads, writes}
-use Rattle.monitor.specs.Rules.{Session, Sessions, nobody, isFree, openRule, closeRule, takeRule, dropRule, put, sessionOf, holding, without, next}
+use Rattle.monitor.specs.Places.{isFree, put}
+use Rattle.monitor.specs.Rules.{Session, Sessions, nobody, openRule, closeRule, takeRule, dropRule, sessionOf, holding, without, next}
 use Rattle.monitor.proofs.Orderly.{Orderly, opening, either-way}
-use Rattle.monitor.proofs.History.{put-other, close-done}
-use Rattle.isolation.specs.TwoRuns.{Open, noneOpen, isClosed, grants, mark, track}
+use Rattle.monitor.proofs.Places.{put-other}
+use Rattle.monitor.proofs.History.{close-done}
+use Rattle.isolation.specs.TwoRuns.{Open, noneOpen, grants, track}
 
 abbrev pub labelOf : Option Session → Option ℕ
 labelOf o = Option·map (λ s. s .label) o
@@ -28,9 +30,9 @@ Fits t s = (p : ℕ) → t p ≡ labelOf (s p)
 pub none-fits : Fits noneOpen nobody
 none-fits p = refl
 
-pub closed-free : (o : Option Session) → isClosed (labelOf o) ≡ isFree o
-closed-free none = refl
-closed-free (some s) = refl
+pub label-free : (o : Option Session) → isFree (labelOf o) ≡ isFree o
+label-free none = refl
+label-free (some s) = refl
 
 -- the place of a call
 abbrev pub placeOf : Call → ℕ
@@ -55,17 +57,14 @@ next-other f s (reads p o k m) q n = refl
 next-other f s (writes p o k bytes) q n = refl
 
 module _ (f : List ℕ) (t : Open) where
-  mark-other : (p : ℕ) (v : Option ℕ) (q : ℕ) → (p ≡ q → ⊥) → mark t p v q ≡ t q
-  mark-other p v q n = rw (ne-eqb q p (λ e. n (sym e)))
-
   pub track-other : (c : Call) (q : ℕ) → (placeOf c ≡ q → ⊥) → track f t c q ≡ t q
   unfolding track
   track-other (opens p u l) q n = by (grants f t p u l)
     where
-      by : (b : Bool) → cond b (mark t p (some l)) t q ≡ t q
-      by true = mark-other p (some l) q n
+      by : (b : Bool) → cond b (put t p (some l)) t q ≡ t q
+      by true = put-other t p (some l) q n
       by false = refl
-  track-other (closes p) q n = mark-other p _ q n
+  track-other (closes p) q n = put-other t p _ q n
   track-other (takes p r) q n = refl
   track-other (drops p r) q n = refl
   track-other (reads p o k m) q n = refl
@@ -74,16 +73,16 @@ module _ (f : List ℕ) (t : Open) where
 -- ---- the tracker goes along with the sessions
 
 module _ (f : List ℕ) (t : Open) (s : Sessions) (known : Orderly f s) (fits : Fits t s) where
-  free : (p : ℕ) → isClosed (t p) ≡ isFree (s p)
-  free p = ap isClosed (fits p) ∙ closed-free (s p)
+  free : (p : ℕ) → isFree (t p) ≡ isFree (s p)
+  free p = ap isFree (fits p) ∙ label-free (s p)
 
   -- the openings that the tracker grants are those that are done
   pub grants-iff : (p u l : ℕ) → (grants f t p u l ≡ true) ↔ (openRule f s p u l ≡ 0)
   unfolding grants openRule unless
   grants-iff p u l = (
     λ h.
-        let (a, b) = and-iff (among 64 p) (isClosed (t p) && (among (users f) u && (among (labels f) l && dominates f (clearance f u) l))) .0 h in
-        let (c, d) = and-iff (isClosed (t p)) (among (users f) u && (among (labels f) l && dominates f (clearance f u) l)) .0 b in
+        let (a, b) = and-iff (among 64 p) (isFree (t p) && (among (users f) u && (among (labels f) l && dominates f (clearance f u) l))) .0 h in
+        let (c, d) = and-iff (isFree (t p)) (among (users f) u && (among (labels f) l && dominates f (clearance f u) l)) .0 b in
         let (e, g) = and-iff (among (users f) u) (among (labels f) l && dominates f (clearance f u) l) .0 d in
         let (i, j) = and-iff (among (labels f) l) (dominates f (clearance f u) l) .0 g in
         rw (a, sym (free p) ∙ c, e, i, j),
@@ -92,7 +91,7 @@ module _ (f : List ℕ) (t : Open) (s : Sessions) (known : Orderly f s) (fits : 
         rw (among-iff 64 p .1 (o .place), free p ∙ o .free, among-iff (users f) u .1 (o .user), among-iff (labels f) l .1 (o .label), o .cleared),
   )
 
-  put-fits : (p : ℕ) (v : Option Session) → Fits (mark t p (labelOf v)) (put s p v)
+  put-fits : (p : ℕ) (v : Option Session) → Fits (put t p (labelOf v)) (put s p v)
   put-fits p v q = elim (ℕ-discrete q p) [
     | yes e ↦ rw (eq-eqb q p e)
     | no n ↦ rw (ne-eqb q p n) (fits q)
@@ -121,12 +120,12 @@ module _ (f : List ℕ) (t : Open) (s : Sessions) (known : Orderly f s) (fits : 
   unfolding track next ifDone
   fits-track (opens p u l) = by (openRule f s p u l) refl
     where
-      by : (n : ℕ) → openRule f s p u l ≡ n → Fits (cond (grants f t p u l) (mark t p (some l)) t) (ifDone n (put s p (some (sessionOf u l))) s)
+      by : (n : ℕ) → openRule f s p u l ≡ n → Fits (cond (grants f t p u l) (put t p (some l)) t) (ifDone n (put s p (some (sessionOf u l))) s)
       by zero e = rw (grants-iff p u l .1 e) (put-fits p (some (sessionOf u l)))
       by (suc n) e = rw (untrue (grants f t p u l) (λ g. let z = grants-iff p u l .0 g in omega arith)) fits
   fits-track (closes p) = by (closeRule s p) refl
     where
-      by : (n : ℕ) → closeRule s p ≡ n → Fits (mark t p none) (ifDone n (put s p none) s)
+      by : (n : ℕ) → closeRule s p ≡ n → Fits (put t p none) (ifDone n (put s p none) s)
       by zero e = put-fits p none
       by (suc n) e = λ q. elim (ℕ-discrete q p) [
         | yes i ↦ rw (eq-eqb q p i) (ap labelOf (sym (refused-free p (λ z. omega arith)) ∙ ap s (sym i)))

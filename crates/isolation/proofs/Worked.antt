@@ -21,10 +21,10 @@ use Rattle.policy.specs.Accepted.{Accepted}
 use Rattle.policy.proofs.Outcomes.{accepted-fine}
 use Rattle.monitor.specs.Calls.{unless, ifDone}
 use Rattle.monitor.specs.Runs.{Call}
-use Rattle.monitor.specs.Rules.{nobody, belongs, suits, uses, openRule, closeRule, takeRule, dropRule, partRule, rule, next}
+use Rattle.monitor.specs.Rules.{nobody, entitledByFile, fittingByFile, givesByFile, openRule, closeRule, takeRule, dropRule, partRule, rule, next}
 use Rattle.monitor.specs.Cases.{line, bytes}
 use Rattle.monitor.proofs.Demand2.{loaded-runs}
-use Rattle.isolation.specs.TwoRuns.{Answer, noneOpen, grants, track, shared, struck, shown, SameCards, Start}
+use Rattle.isolation.specs.TwoRuns.{Answer, noneOpen, grants, track, shared, sharedCalls, shown, SameCards, Start}
 use Rattle.isolation.specs.Worked.{file, firstStore, secondStore, firstDay, secondDay, low, highFirst, highSecond}
 use Rattle.isolation.proofs.Begins.{start}
 use Rattle.isolation.proofs.ByFile.{partBy, storeBy, shownBy, shown-by}
@@ -49,14 +49,14 @@ computed : (answersBy 2 firstStore firstDay ≡ low) × (answersBy 2 secondStore
 unfolding file line bytes firstStore secondStore firstDay secondDay low highFirst highSecond
     column columns letterOf fields formed lineOf lineAt says last labelBy some every first via upper isLeast least lub
     dominates senior may mayAt level rLevel wLevel
-    unless ifDone belongs suits uses openRule closeRule takeRule dropRule partRule rule next
+    unless ifDone entitledByFile fittingByFile givesByFile openRule closeRule takeRule dropRule partRule rule next
     grants track shared partBy storeBy shownBy
 computed = (refl, refl, refl, refl)
 
 -- ---- the pair falls under demand 3 for label 2
 
-one-list : struck file 2 noneOpen firstDay ≡ struck file 2 noneOpen secondDay
-unfolding file line bytes firstDay secondDay column columns letterOf fields formed lineOf lineAt says last labelBy some via dominates grants track shared struck
+one-list : sharedCalls file 2 noneOpen firstDay ≡ sharedCalls file 2 noneOpen secondDay
+unfolding file line bytes firstDay secondDay column columns letterOf fields formed lineOf lineAt says last labelBy some via dominates grants track shared sharedCalls
 one-list = refl
 
 one-length : (length firstStore ≡ 192) × (length secondStore ≡ 192)
@@ -92,7 +92,7 @@ shows a L store cs long =
 
 -- label 2 is shown the same, and not refusals alone; label 4, one step higher, is shown more, and not the same
 pub record Separated (a b : Start file) : Type 0 where
-  pub struck : struck file 2 noneOpen firstDay ≡ struck file 2 noneOpen secondDay
+  pub sharedCalls : sharedCalls file 2 noneOpen firstDay ≡ sharedCalls file 2 noneOpen secondDay
   pub stores : (length firstStore ≡ length secondStore) × SameCards file 2 firstStore secondStore
   pub low : (answersOf a 2 firstStore firstDay ≡ low) × (answersOf b 2 secondStore secondDay ≡ low)
   pub high : (answersOf a 4 firstStore firstDay ≡ highFirst) × (answersOf b 4 secondStore secondDay ≡ highSecond)
@@ -105,7 +105,7 @@ seventh xs = getD (getD xs 6 (record { number = 0; bytes = [] }) .bytes) 0 0
 pub separated : (a b : Start file) → Separated a b
 unfolding highFirst highSecond
 separated a b = record {
-  struck = one-list;
+  sharedCalls = one-list;
   stores = (one-length .0 ∙ sym (one-length .1), same-cards);
   low = (shows a 2 firstStore firstDay (one-length .0) ∙ computed .0, shows b 2 secondStore secondDay (one-length .1) ∙ computed .1);
   high = (shows a 4 firstStore firstDay (one-length .0) ∙ computed .2, shows b 4 secondStore secondDay (one-length .1) ∙ computed .3);

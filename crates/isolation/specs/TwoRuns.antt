@@ -4,7 +4,6 @@ use mathlib.Core.Path.{_≡_}
 use mathlib.Core.List.{List, [], _∷_}
 use mathlib.Core.Bool.{Bool, true, false, _&&_, cond}
 use mathlib.Core.Option.{Option, none, some}
-use lib.Dec.{eqb}
 use lib.ListN.{length, getD}
 use Rattle.search.specs.Search.{among, Among}
 use Rattle.rolefile.specs.declared.Verdict.{Verdict}
@@ -12,6 +11,7 @@ use Rattle.rolefile.specs.Said.{labels, users, cards, clearance, cardLabel}
 use Rattle.policy.specs.Policy.{dominates}
 use Rattle.policy.specs.Accepted.{Accepted}
 use Rattle.policy.specs.Image.{Loaded}
+use Rattle.monitor.specs.Places.{Places, isFree, put}
 use Rattle.monitor.specs.Runs.{Call, opens, closes, takes, drops, reads, writes, Memory, number, part, after, run}
 
 -- "A read stands for both its calls, on the same state and store, and answers with its number and the bytes of its part"; the other calls answer with their number
@@ -24,28 +24,21 @@ answer m c = record { number = number m c; bytes = part m c }
 
 -- ---- "the file and the calls alone tell which places are open, and at which label"
 
--- at each place the label of the session there; none where the place isn't open
+-- the label of the session at each place; a place is open where it is not free
 abbrev pub Open : Type 0
-Open = ℕ → Option ℕ
+Open = Places ℕ
 
 abbrev pub noneOpen : Open
 noneOpen p = none
 
-abbrev pub isClosed : Option ℕ → Bool
-isClosed none = true
-isClosed (some l) = false
-
 -- "an opening that the rules grant (place 1 to 64 and not open, user and label in range, clearance dominating the label)"
 unfoldable pub grants : List ℕ → Open → ℕ → ℕ → ℕ → Bool
-grants f t p u l = among 64 p && (isClosed (t p) && (among (users f) u && (among (labels f) l && dominates f (clearance f u) l)))
-
-abbrev pub mark : Open → ℕ → Option ℕ → Open
-mark t p v q = cond (eqb q p) v (t q)
+grants f t p u l = among 64 p && (isFree (t p) && (among (users f) u && (among (labels f) l && dominates f (clearance f u) l)))
 
 -- "A place is open from an opening that the rules grant" "to the next closing of that place. The label of its session is the one that this opening named"
 unfoldable pub track : List ℕ → Open → Call → Open
-track f t (opens p u l) = cond (grants f t p u l) (mark t p (some l)) t
-track f t (closes p) = mark t p none
+track f t (opens p u l) = cond (grants f t p u l) (put t p (some l)) t
+track f t (closes p) = put t p none
 track f t (takes p r) = t
 track f t (drops p r) = t
 track f t (reads p o k n) = t
@@ -70,10 +63,10 @@ abbrev pub keep : {A : Type 0} → Bool → A → List A → List A
 keep true x xs = x ∷ xs
 keep false x xs = xs
 
--- "Strike every other call"
-unfoldable pub struck : List ℕ → ℕ → Open → List Call → List Call
-struck f L t [] = []
-struck f L t (c ∷ cs) = keep (shared f L t c) c (struck f L (track f t c) cs)
+-- "Strike every other call": the shared calls of a list are left
+unfoldable pub sharedCalls : List ℕ → ℕ → Open → List Call → List Call
+sharedCalls f L t [] = []
+sharedCalls f L t (c ∷ cs) = keep (shared f L t c) c (sharedCalls f L (track f t c) cs)
 
 -- ---- what is compared
 
@@ -118,5 +111,5 @@ abbrev pub Isolated : List ℕ → Type 0
 Isolated f =
     Accepted f → (a b : Start f) (L : ℕ) → Among (labels f) L
     → (s₁ s₂ : List ℕ) → length s₁ ≡ length s₂ → SameCards f L s₁ s₂
-    → (cs₁ cs₂ : List Call) → struck f L noneOpen cs₁ ≡ struck f L noneOpen cs₂
+    → (cs₁ cs₂ : List Call) → sharedCalls f L noneOpen cs₁ ≡ sharedCalls f L noneOpen cs₂
     → Claim f L (record { state = a .state; store = s₁ }) (record { state = b .state; store = s₂ }) cs₁ cs₂

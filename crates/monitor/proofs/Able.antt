@@ -25,13 +25,13 @@ use Rattle.policy.proofs.Meaning.{counts-known}
 use Rattle.monitor.specs.Session.{labelsIn, usersIn, cardsIn, cleared, entitled, fitting}
 use Rattle.monitor.specs.Calls.{unless, ifDone}
 use Rattle.monitor.specs.Runs.{Call, opens, takes, Memory, after, run}
-use Rattle.monitor.specs.Rules.{Session, Sessions, nobody, belongs, suits, uses, openRule, takeRule, partRule, rule, sessionOf, holding, next, sessions}
+use Rattle.monitor.specs.Rules.{Session, Sessions, nobody, entitledByFile, fittingByFile, givesByFile, openRule, takeRule, partRule, rule, sessionOf, holding, next, sessions}
 use Rattle.monitor.specs.Rights.{canNumber, tableOf, serves, could, Cans, canRule, couldByFile, useOf, Granting}
 use Rattle.monitor.proofs.Answers.{unless-done}
 use Rattle.monitor.proofs.Orderly.{Orderly, opening, taking, part-done}
 use Rattle.monitor.proofs.Stands.{Stands}
 use Rattle.monitor.proofs.InFile.{test-same, test-passed, sound-file, cleared-file, entitled-file, fitting-file}
-use Rattle.monitor.proofs.History.{put-at}
+use Rattle.monitor.proofs.Places.{put-at}
 use Rattle.monitor.proofs.Demand2.{Runs, runs-next, runs-number, loaded-runs, left-runs}
 
 -- ---- by the file
@@ -59,7 +59,7 @@ module _ (f : List ℕ) (form : WellFormed f) (t : Sessions) (known : Orderly f 
   unfolding could couldByFile serves
   could-by u l o m user label card mode =
       rw (stands .tables .counted .roles)
-      (some-agree (λ r. entitled xs u r && (fitting xs l r && member xs (rowOf (tableOf m) o) r)) (λ r. belongs f u r && (suits f l r && may f m r o)) (roles f)
+      (some-agree (λ r. entitled xs u r && (fitting xs l r && member xs (rowOf (tableOf m) o) r)) (λ r. entitledByFile f u r && (fittingByFile f l r && may f m r o)) (roles f)
       (λ r w.
       let few-roles = counts-known f form .roles in
       let few-cards = counts-known f form .cards in
@@ -127,15 +127,15 @@ module _ (f : List ℕ) (size p u l : ℕ) (place : Among 64 p) (enough : 64 * c
   use-rule (suc (suc zero)) o t w = refl
   use-rule (suc (suc (suc m))) o t w = absurd (omega arith)
 
-  holds-one : (m o r : ℕ) → uses f m (holding r (sessionOf u l)) o ≡ true → may f m r o ≡ true
-  unfolding uses
+  holds-one : (m o r : ℕ) → givesByFile f m (holding r (sessionOf u l)) o ≡ true → may f m r o ≡ true
+  unfolding givesByFile
   holds-one m o r h =
       let (q, w, e) = some-iff (λ q. holding r (sessionOf u l) .held q && may f m q o) (roles f) .0 h in
       let (held, gives) = and-iff (holding r (sessionOf u l) .held q) (may f m q o) .0 e in
       ⊎-elim (λ x. absurd (false≢true x)) (λ x. rw (eqb-true q r x) at gives) (or-iff false (eqb q r) .0 held)
 
-  holds-use : (m o r : ℕ) → Among (roles f) r → may f m r o ≡ true → uses f m (holding r (sessionOf u l)) o ≡ true
-  unfolding uses
+  holds-use : (m o r : ℕ) → Among (roles f) r → may f m r o ≡ true → givesByFile f m (holding r (sessionOf u l)) o ≡ true
+  unfolding givesByFile
   holds-use m o r w h =
       some-iff (λ q. holding r (sessionOf u l) .held q && may f m q o) (roles f) .1
       (r, w, and-iff (holding r (sessionOf u l) .held r) (may f m r o) .1 (or-iff false (eqb r r) .1 (inr (eq-eqb r r refl)), h))
@@ -149,9 +149,9 @@ module _ (f : List ℕ) (size p u l : ℕ) (place : Among 64 p) (enough : 64 * c
   come : (o m : ℕ) → Able f u l o m → couldByFile f u l o m ≡ true → (r : ℕ) × Let o m r
   unfolding couldByFile openRule takeRule partRule unless
   come o m a h =
-      let (r, w, e) = some-iff (λ r. belongs f u r && (suits f l r && may f m r o)) (roles f) .0 h in
-      let (b, x) = and-iff (belongs f u r) (suits f l r && may f m r o) .0 e in
-      let (s, g) = and-iff (suits f l r) (may f m r o) .0 x in
+      let (r, w, e) = some-iff (λ r. entitledByFile f u r && (fittingByFile f l r && may f m r o)) (roles f) .0 h in
+      let (b, x) = and-iff (entitledByFile f u r) (fittingByFile f l r && may f m r o) .0 e in
+      let (s, g) = and-iff (fittingByFile f l r) (may f m r o) .0 x in
       let opened : openRule f nobody p u l ≡ 0 = rw (among-iff 64 p .1 place, among-iff (users f) u .1 (a .user), among-iff (labels f) l .1 (a .label), a .cleared) in
       let taken : takeRule f one p r ≡ 0 = rw (among-iff 64 p .1 place, sits-one opened, among-iff (roles f) r .1 w, b, s) in (
         r,
@@ -170,10 +170,10 @@ module _ (f : List ℕ) (size p u l : ℕ) (place : Among 64 p) (enough : 64 * c
       let part = part-done f m (two r) size p o 0 0 (x .used) in
       let who : part .session ≡ holding r (sessionOf u l) =
       Option·some-injective (part .session) (holding r (sessionOf u l)) (sym (part .sits) ∙ sits-two (x .opened) r (x .taken)) in
-      let same : uses f m (holding r (sessionOf u l)) o ≡ true = ap (λ (s : Session). uses f m s o) (sym who) ∙ part .used in (
+      let same : givesByFile f m (holding r (sessionOf u l)) o ≡ true = ap (λ (s : Session). givesByFile f m s o) (sym who) ∙ part .used in (
         record { user = op .user; label = op .label; card = part .card; mode = mode; cleared = op .cleared },
-        some-iff (λ r. belongs f u r && (suits f l r && may f m r o)) (roles f) .1
-            (r, w, and-iff (belongs f u r) (suits f l r && may f m r o) .1 (b, and-iff (suits f l r) (may f m r o) .1 (s, holds-one m o r same))),
+        some-iff (λ r. entitledByFile f u r && (fittingByFile f l r && may f m r o)) (roles f) .1
+            (r, w, and-iff (entitledByFile f u r) (fittingByFile f l r && may f m r o) .1 (b, and-iff (fittingByFile f l r) (may f m r o) .1 (s, holds-one m o r same))),
       )
 
 -- a figure is 1 exactly when the question is done and the answer is yes

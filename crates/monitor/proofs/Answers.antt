@@ -1,18 +1,17 @@
 -- Each number of a call from the tests that led to it, and what a number 0 tells. Assumes nothing.
 use Prim.Native.Nat.{ℕ, zero, suc, _+_, _*_, _≤_, _<_}
-use mathlib.Core.Path.{_≡_, refl}
+use mathlib.Core.Path.{_≡_, refl, sym, _∙_}
 use mathlib.Core.List.{List}
 use mathlib.Core.Bool.{Bool, true, false, not}
 use native.Mathlib.Omega.{arith}
-use borrow.Author.Tests.{leb-true, le-leb, lt-leb}
-use lib.Dec.{leb}
+use borrow.Author.Tests.{leb-true, le-leb}
 use lib.ListN.{length}
 use Rattle.search.specs.Search.{among, Among}
 use Rattle.search.proofs.Truth.{and-iff, among-iff, passed, failed}
 use Rattle.policy.specs.Tables.{isState}
-use Rattle.monitor.specs.Session.{sound, labelsIn, rolesIn, usersIn, cardsIn}
+use Rattle.monitor.specs.Session.{sound, labelsIn, rolesIn, usersIn, cardsIn, inUse}
 use Rattle.monitor.specs.Rights.{canNumber}
-use Rattle.monitor.specs.Calls.{unless, ifDone, openNumber, closeNumber, takeNumber, dropNumber, partNumber, flowsNumber, circleNumber}
+use Rattle.monitor.specs.Calls.{unless, ifDone, atSession, openNumber, closeNumber, takeNumber, dropNumber, partNumber, flowsNumber, circleNumber}
 
 -- ---- a row of tests whose answers r are those of calls: a call's `ensures` is r ≡ t
 module _ (t : Bool) (n rest : ℕ) {r : Bool} (e : r ≡ t) where
@@ -86,18 +85,8 @@ sound-of xs h =
 pub one-of : (n x : ℕ) {r : Bool} → r ≡ among n x → not r ≡ false → Among n x
 one-of n x e h = among-iff n x .0 (passed e h)
 
-module _ (xs : List ℕ) {r : Bool} (e : r ≡ sound xs) (h : not r ≡ false) where
-  good : Sound xs
-  good = sound-of xs (passed e h)
-
-  pub user-known : (x : ℕ) {q : Bool} → q ≡ among (usersIn xs) x → not q ≡ false → Among 256 x
-  user-known x f k = let w = one-of (usersIn xs) x f k in let g = good in omega arith
-
-  pub role-known : (x : ℕ) {q : Bool} → q ≡ among (rolesIn xs) x → not q ≡ false → Among 128 x
-  role-known x f k = let w = one-of (rolesIn xs) x f k in let g = good in omega arith
-
-  pub card-known : (x : ℕ) {q : Bool} → q ≡ among (cardsIn xs) x → not q ≡ false → Among 512 x
-  card-known x f k = let w = one-of (cardsIn xs) x f k in let g = good in omega arith
+pub user-known : (xs : List ℕ) {r : Bool} → r ≡ sound xs → not r ≡ false → (x : ℕ) {q : Bool} → q ≡ among (usersIn xs) x → not q ≡ false → Among 256 x
+user-known xs e h x f k = let w = one-of (usersIn xs) x f k in let few = sound-of xs (passed e h) .users in omega arith
 
 -- ---- what a call that is done tells, for the code that then writes
 pub record Room (xs : List ℕ) (p : ℕ) : Type 0 where
@@ -117,34 +106,79 @@ open-room xs p u l h =
     let w = among-iff (labelsIn xs) l .0 (e .0) in
     (record { long = s .long; place = among-iff 64 p .0 (b .0) }, omega arith, omega arith)
 
+-- a call at a session: what it asks first has passed, and so has the rest
+pub record AtSession (xs : List ℕ) (p rest : ℕ) : Type 0 where
+  pub sound : Sound xs
+  pub place : Among 64 p
+  pub done : rest ≡ 0
+
+pub at-session-done : (xs : List ℕ) (p rest : ℕ) → atSession xs p rest ≡ 0 → AtSession xs p rest
+at-session-done xs p rest h =
+    let a = unless-done (sound xs) 21 _ (omega arith) h in
+    let b = unless-done (among 64 p) 22 _ (omega arith) (a .1) in
+    let c = unless-done (inUse xs p) 24 rest (omega arith) (b .1) in
+    record { sound = sound-of xs (a .0); place = among-iff 64 p .0 (b .0); done = c .1 }
+
+-- ---- a call at a session, where the number r of what it asks first is a closing's
+module _ (xs : List ℕ) (p : ℕ) {r : ℕ} (e : r ≡ closeNumber xs p) where
+  -- it refuses, and so does the call
+  pub first-stops : (rest : ℕ) → (r ≡ 0 → ⊥) → r ≡ atSession xs p rest
+  unfolding closeNumber unless
+  first-stops rest h = e ∙ by (sound xs) (among 64 p) (inUse xs p) (λ z. h (e ∙ z))
+    where
+      by : (a b c : Bool) → (unless a 21 (unless b 22 (unless c 24 0)) ≡ 0 → ⊥)
+          → unless a 21 (unless b 22 (unless c 24 0)) ≡ unless a 21 (unless b 22 (unless c 24 rest))
+      by true true true h = absurd (h refl)
+      by true true false h = refl
+      by true false c h = refl
+      by false b c h = refl
+
+  -- it has passed
+  pub first-passes : (rest : ℕ) {x : ℕ} → r ≡ 0 → x ≡ rest → x ≡ atSession xs p rest
+  unfolding closeNumber unless
+  first-passes rest z k = k ∙ by (sound xs) (among 64 p) (inUse xs p) (sym e ∙ z)
+    where
+      by : (a b c : Bool) → unless a 21 (unless b 22 (unless c 24 0)) ≡ 0 → rest ≡ unless a 21 (unless b 22 (unless c 24 rest))
+      by true true true h = refl
+      by true true false h = absurd (omega arith)
+      by true false c h = absurd (omega arith)
+      by false b c h = absurd (omega arith)
+
+  module _ (z : r ≡ 0) where
+    at-session : AtSession xs p 0
+    unfolding closeNumber
+    at-session = at-session-done xs p 0 (sym e ∙ z)
+
+    pub place-known : Among 64 p
+    place-known = at-session .place
+
+    pub role-known : (x : ℕ) {q : Bool} → q ≡ among (rolesIn xs) x → not q ≡ false → Among 128 x
+    role-known x f k = let w = one-of (rolesIn xs) x f k in let few = at-session .sound .roles in omega arith
+
+    pub card-known : (x : ℕ) {q : Bool} → q ≡ among (cardsIn xs) x → not q ≡ false → Among 512 x
+    card-known x f k = let w = one-of (cardsIn xs) x f k in let few = at-session .sound .cards in omega arith
+
+pub ruleset session-row = (stops, passes, first-stops, first-passes)
+
 pub close-room : (xs : List ℕ) (p : ℕ) → closeNumber xs p ≡ 0 → Room xs p
 unfolding closeNumber
-close-room xs p h =
-    let a = unless-done _ _ _ (omega arith) h in
-    let b = unless-done _ _ _ (omega arith) (a .1) in
-    record { long = sound-of xs (a .0) .long; place = among-iff 64 p .0 (b .0) }
+close-room xs p h = let a = at-session-done xs p 0 h in record { long = a .sound .long; place = a .place }
+
+-- and a role that it names is one of the state's
+role-room : (xs : List ℕ) (p r rest : ℕ) → atSession xs p (unless (among (rolesIn xs) r) 25 rest) ≡ 0 → Room xs p × Among 128 r
+role-room xs p r rest h =
+    let a = at-session-done xs p _ h in
+    let few = a .sound .roles in
+    let v = among-iff (rolesIn xs) r .0 (unless-done _ _ rest (omega arith) (a .done) .0) in
+    (record { long = a .sound .long; place = a .place }, omega arith)
 
 pub take-room : (xs : List ℕ) (p r : ℕ) → takeNumber xs p r ≡ 0 → Room xs p × Among 128 r
 unfolding takeNumber
-take-room xs p r h =
-    let a = unless-done _ _ _ (omega arith) h in
-    let b = unless-done _ _ _ (omega arith) (a .1) in
-    let c = unless-done _ _ _ (omega arith) (b .1) in
-    let d = unless-done _ _ _ (omega arith) (c .1) in
-    let s = sound-of xs (a .0) in
-    let v = among-iff (rolesIn xs) r .0 (d .0) in
-    (record { long = s .long; place = among-iff 64 p .0 (b .0) }, omega arith)
+take-room xs p r h = role-room xs p r _ h
 
 pub drop-room : (xs : List ℕ) (p r : ℕ) → dropNumber xs p r ≡ 0 → Room xs p × Among 128 r
 unfolding dropNumber
-drop-room xs p r h =
-    let a = unless-done _ _ _ (omega arith) h in
-    let b = unless-done _ _ _ (omega arith) (a .1) in
-    let c = unless-done _ _ _ (omega arith) (b .1) in
-    let d = unless-done _ _ _ (omega arith) (c .1) in
-    let s = sound-of xs (a .0) in
-    let v = among-iff (rolesIn xs) r .0 (d .0) in
-    (record { long = s .long; place = among-iff 64 p .0 (b .0) }, omega arith)
+drop-room xs p r h = role-room xs p r 0 h
 
 -- the part lies in the store
 pub record Fit (size o k n : ℕ) : Type 0 where
@@ -155,26 +189,13 @@ pub record Fit (size o k n : ℕ) : Type 0 where
 pub part-fits : (at : ℕ) (xs : List ℕ) (size p o k n : ℕ) → partNumber at xs size p o k n ≡ 0 → Fit size o k n
 unfolding partNumber
 part-fits at xs size p o k n h =
-    let a = unless-done _ _ _ (omega arith) h in
+    let a = unless-done _ _ _ (omega arith) (at-session-done xs p _ h .done) in
     let b = unless-done _ _ _ (omega arith) (a .1) in
     let c = unless-done _ _ _ (omega arith) (b .1) in
     let d = unless-done _ _ _ (omega arith) (c .1) in
-    let e = unless-done _ _ _ (omega arith) (d .1) in
-    let f = unless-done _ _ _ (omega arith) (e .1) in
-    let g = unless-done _ _ _ (omega arith) (f .1) in
-    let v = among-iff (cardsIn xs) o .0 (d .0) in
-    let w = leb-true (64 * cardsIn xs) size (g .0) in
-    record { card = omega arith; inCard = leb-true (k + n) 64 (f .0); inStore = omega arith }
-
--- tests that the code makes by comparing
-module _ (a b n rest : ℕ) where
-  pub stops-above : b < a → n ≡ unless (leb a b) n rest
-  unfolding unless
-  stops-above h = rw (lt-leb a b h)
-
-  pub passes-upto : {x : ℕ} → a ≤ b → x ≡ rest → x ≡ unless (leb a b) n rest
-  unfolding unless
-  passes-upto h k = rw (le-leb a b h) k
+    let v = among-iff (cardsIn xs) o .0 (a .0) in
+    let w = leb-true (64 * cardsIn xs) size (d .0) in
+    record { card = omega arith; inCard = leb-true (k + n) 64 (c .0); inStore = omega arith }
 
 -- a report that is done is on a whole state
 pub flows-state : (xs : List ℕ) (q r : ℕ) → flowsNumber xs q r ≡ 0 → isState xs ≡ true

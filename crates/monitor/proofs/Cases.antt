@@ -1,4 +1,4 @@
--- The definitions answer each case of `Cases` as the document does: one test, computed over the whole table, and one lemma. Assumes nothing.
+-- The definitions find of each case of `Cases` what the document does: one test, computed over the whole table, and one lemma. Assumes nothing.
 use mathlib.Core.Path.{_≡_, refl}
 use mathlib.Core.List.{List, _∷_, map, List·Memᴰ, List·Memᴰ·head, List·Memᴰ·tail}
 use Rattle.search.specs.Search.{some, every, first}
@@ -13,25 +13,25 @@ use Rattle.policy.specs.Policy.{dominates, senior, may, mayAt, level, rLevel, w
 use Rattle.policy.specs.Verdict.{orderVerdict, labelVerdict, roleVerdict, assignVerdict, assignmentVerdict, policyVerdict, verdict}
 use Rattle.policy.specs.Flow.{flows, flowCircle}
 use Rattle.monitor.specs.Calls.{unless, ifDone}
-use Rattle.monitor.specs.Rules.{belongs, suits, uses, openRule, takeRule, partRule, rule, next}
-use Rattle.monitor.specs.Cases.{line, bytes, numbered, Answer, answer, Case, cases}
+use Rattle.monitor.specs.Rules.{entitledByFile, fittingByFile, givesByFile, openRule, takeRule, partRule, rule, next}
+use Rattle.monitor.specs.Cases.{line, bytes, numbered, Findings, findings, Case, cases}
 
--- the definitions' answer for a case's file
-abbrev given : Case → Answer
-given c = answer (bytes (c .file)) (c .expected)
+-- what the definitions find of a case's file
+abbrev given : Case → Findings
+given c = findings (bytes (c .file)) (c .expected)
 
 computed : map given cases ≡ map (λ c. c .expected) cases
-unfolding cases answer line bytes
+unfolding cases findings line bytes
     column columns letterOf fields formed lineOf lineAt
     sized counted firstLimit secondLimit ranged rises headVerdict bodyVerdict lineVerdict scan count unlabelled unlabelledVerdict linesVerdict formVerdict
     says last labelBy some every first via upper isLeast least lub apart partnerWithoutBound unjoined
     dominates senior may mayAt level rLevel wLevel orderVerdict labelVerdict roleVerdict assignVerdict assignmentVerdict policyVerdict verdict flows flowCircle
-    unless ifDone belongs suits uses openRule takeRule partRule rule next numbered
+    unless ifDone entitledByFile fittingByFile givesByFile openRule takeRule partRule rule next numbered
 computed = refl
 
 of-each : (cs : List Case) → map given cs ≡ map (λ c. c .expected) cs → (c : Case) → List·Memᴰ c cs → given c ≡ c .expected
 of-each (x ∷ cs) e c (List·Memᴰ·head same) = cc
 of-each (x ∷ cs) e c (List·Memᴰ·tail m) = of-each cs (cc) c m
 
-pub cases-hold : (c : Case) → List·Memᴰ c cases → answer (bytes (c .file)) (c .expected) ≡ c .expected
+pub cases-hold : (c : Case) → List·Memᴰ c cases → findings (bytes (c .file)) (c .expected) ≡ c .expected
 cases-hold = of-each cases computed

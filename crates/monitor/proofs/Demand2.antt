@@ -22,7 +22,8 @@ use Rattle.policy.proofs.Meaning.{counts-known, flow-file, circle-file}
 use Rattle.monitor.specs.Calls.{unless, ifDone, written, partAt, opened, closed, taken, dropped, writeNumber}
 use Rattle.monitor.specs.Calls.{flowsNumber, circleNumber, Flows, Circles}
 use Rattle.monitor.specs.Runs.{Call, opens, closes, takes, drops, reads, writes, Memory, number, stateAfter, storeAfter, after, run}
-use Rattle.monitor.specs.Rules.{Session, Sessions, nobody, seated, belongs, suits, openRule, closeRule, takeRule, dropRule, partRule, rule, put, sessionOf, holding, without, next, sessions}
+use Rattle.monitor.specs.Places.{put}
+use Rattle.monitor.specs.Rules.{Session, Sessions, nobody, seated, seatedAt, entitledByFile, fittingByFile, openRule, closeRule, takeRule, dropRule, partRule, rule, sessionOf, holding, without, next, sessions}
 use Rattle.monitor.proofs.Answers.{part-fits, unless-done}
 use Rattle.monitor.proofs.Frames.{length-written}
 use Rattle.monitor.proofs.Orderly.{Orderly, nobody-orderly, opening, seated-done, taking, either-way, orderly-next, dropping}
@@ -92,7 +93,7 @@ module _ (f : List ℕ) (form : WellFormed f) (t : Sessions) (known : Orderly f 
       rw (take-file f form t known xs stands p r)
       (both-ways (Stands f) (takeRule f t p r) (put t p (Option·map (holding r) (t p))) t (taken xs p r) xs
       (λ h.
-      let a = seated-done t p (λ s. unless (among (roles f) r) 25 (unless (belongs f (s .user) r) 27 (unless (suits f (s .label) r) 28 0))) h in
+      let a = seated-done t p (λ s. unless (among (roles f) r) 25 (unless (entitledByFile f (s .user) r) 27 (unless (fittingByFile f (s .label) r) 28 0))) h in
       let s = a .session in
       let w = role-small r (taking f r s (a .done) .0) in
       stands-put f t xs (taken xs p r) p stands (a .place) (taken-touched xs p (stands .long) (a .place) r w)
@@ -145,27 +146,29 @@ module _ (b : Bool) (n rest : ℕ) where
       by true = k
       by false = h
 
-seated-not-21 : (s : Option Session) (rule : Session → ℕ) → ((s : Session) → rule s ≡ 21 → ⊥) → seated s rule ≡ 21 → ⊥
-seated-not-21 none rule h e = omega arith
-seated-not-21 (some s) rule h e = h s e
+seated-not-21 : (t : Sessions) (p : ℕ) (rule : Session → ℕ) → ((s : Session) → rule s ≡ 21 → ⊥) → seatedAt t p rule ≡ 21 → ⊥
+seated-not-21 t p rule h = other-than-21 (among 64 p) 22 (seated (t p) rule) (λ e. omega arith) (by (t p))
+  where
+    by : (s : Option Session) → seated s rule ≡ 21 → ⊥
+    by none e = omega arith
+    by (some s) e = h s e
 
 part-not-21 : (f : List ℕ) (m size : ℕ) (t : Sessions) (p o k n : ℕ) → partRule f m t size p o k n ≡ 21 → ⊥
 unfolding partRule
 part-not-21 f m size t p o k n =
-    other-than-21 _ 22 _ (λ e. omega arith) (seated-not-21 (t p) _ (λ s. other-than-21 _ 25 _ (λ e. omega arith)
-    (other-than-21 _ 29 _ (λ e. omega arith) (other-than-21 _ 30 _ (λ e. omega arith) (other-than-21 _ 31 _ (λ e. omega arith) (λ e. omega arith))))))
+    seated-not-21 t p _ (λ s. other-than-21 _ 25 _ (λ e. omega arith)
+    (other-than-21 _ 29 _ (λ e. omega arith) (other-than-21 _ 30 _ (λ e. omega arith) (other-than-21 _ 31 _ (λ e. omega arith) (λ e. omega arith)))))
 
 pub rule-not-21 : (f : List ℕ) (size : ℕ) (t : Sessions) (c : Call) → rule f size t c ≡ 21 → ⊥
 unfolding rule openRule closeRule takeRule dropRule partRule
 rule-not-21 f size t (opens p u l) =
     other-than-21 _ 22 _ (λ e. omega arith) (other-than-21 _ 23 _ (λ e. omega arith) (other-than-21 _ 25 _ (λ e. omega arith)
     (other-than-21 _ 25 _ (λ e. omega arith) (other-than-21 _ 26 _ (λ e. omega arith) (λ e. omega arith)))))
-rule-not-21 f size t (closes p) = other-than-21 _ 22 _ (λ e. omega arith) (seated-not-21 (t p) _ (λ s e. omega arith))
+rule-not-21 f size t (closes p) = seated-not-21 t p _ (λ s e. omega arith)
 rule-not-21 f size t (takes p r) =
-    other-than-21 _ 22 _ (λ e. omega arith) (seated-not-21 (t p) _ (λ s. other-than-21 _ 25 _ (λ e. omega arith)
-    (other-than-21 _ 27 _ (λ e. omega arith) (other-than-21 _ 28 _ (λ e. omega arith) (λ e. omega arith)))))
-rule-not-21 f size t (drops p r) =
-    other-than-21 _ 22 _ (λ e. omega arith) (seated-not-21 (t p) _ (λ s. other-than-21 _ 25 _ (λ e. omega arith) (λ e. omega arith)))
+    seated-not-21 t p _ (λ s. other-than-21 _ 25 _ (λ e. omega arith)
+    (other-than-21 _ 27 _ (λ e. omega arith) (other-than-21 _ 28 _ (λ e. omega arith) (λ e. omega arith))))
+rule-not-21 f size t (drops p r) = seated-not-21 t p _ (λ s. other-than-21 _ 25 _ (λ e. omega arith) (λ e. omega arith))
 rule-not-21 f size t (reads p o k n) = part-not-21 f 1 size t p o k n
 rule-not-21 f size t (writes p o k bytes) = part-not-21 f 2 size t p o k (length bytes)
 

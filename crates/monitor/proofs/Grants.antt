@@ -21,7 +21,8 @@ use Rattle.policy.specs.Image.{Loaded}
 use Rattle.policy.proofs.Levels.{turned-order, passes-iff}
 use Rattle.monitor.specs.Calls.{unless}
 use Rattle.monitor.specs.Runs.{Call, opens, closes, takes, drops, reads, writes, number, run}
-use Rattle.monitor.specs.Rules.{Session, Sessions, nobody, isFree, seated, belongs, suits, uses, openRule, closeRule, takeRule, dropRule, partRule, rule, sessions}
+use Rattle.monitor.specs.Places.{isFree}
+use Rattle.monitor.specs.Rules.{Session, Sessions, nobody, seatedAt, entitledByFile, fittingByFile, givesByFile, openRule, closeRule, takeRule, dropRule, partRule, rule, sessions}
 use Rattle.monitor.specs.Granted.{Sits, Holds, MayOpen, Seated, MayTake, MayDrop, MayUse, Granted}
 use Rattle.monitor.proofs.Orderly.{Admitted, Orderly, nobody-orderly, opening, seated-done, taking, dropping, part-done}
 use Rattle.monitor.proofs.History.{orderly-sessions, sat-some, Opened, sits-iff, holds-iff}
@@ -43,7 +44,7 @@ module _ (f : List ℕ) (cs : List Call) where
   session-of p h = sat-some (Opened f cs p (h .user) (h .label)) (now p) (sits-iff f cs p (h .user) (h .label) .1 (h .sits))
 
   -- the rule of a call at a place, done
-  seated-of : (p : ℕ) (s : Session) (rule : Session → ℕ) → now p ≡ some s → rule s ≡ 0 → unless (among 64 p) 22 (seated (now p) rule) ≡ 0
+  seated-of : (p : ℕ) (s : Session) (rule : Session → ℕ) → now p ≡ some s → rule s ≡ 0 → seatedAt now p rule ≡ 0
   unfolding unless
   seated-of p s rule e h = let a : Admitted f p s = rw e at (known p) in rw (among-iff 64 p .1 (a .place), e) h
 
@@ -95,9 +96,9 @@ module _ (f : List ℕ) (cs : List Call) where
         seated-of p s (λ s. unless (among (roles f) r) 25 0) e (rw (among-iff (roles f) r .1 (g .role))),
   )
 
-  belongs-iff : (u r : ℕ) → (belongs f u r ≡ true) ↔ ((q : ℕ) × Among (roles f) q × (assigned f u q ≡ true) × (senior f q r ≡ true))
-  unfolding belongs
-  belongs-iff u r = (
+  entitled-by-file-iff : (u r : ℕ) → (entitledByFile f u r ≡ true) ↔ ((q : ℕ) × Among (roles f) q × (assigned f u q ≡ true) × (senior f q r ≡ true))
+  unfolding entitledByFile
+  entitled-by-file-iff u r = (
     λ h. let (q, w, e) = some-iff test (roles f) .0 h in let (a, s) = and-iff (assigned f u q) (senior f q r) .0 e in (q, w, a, s),
     λ (q, w, a, s). some-iff test (roles f) .1 (q, w, and-iff (assigned f u q) (senior f q r) .1 (a, s)),
   )
@@ -106,10 +107,10 @@ module _ (f : List ℕ) (cs : List Call) where
       test q = assigned f u q && senior f q r
 
   module _ (order : PartialOrder (labels f) (dominates f)) where
-    suits-iff : (l r : ℕ) → (suits f l r ≡ true)
+    fitting-by-file-iff : (l r : ℕ) → (fittingByFile f l r ≡ true)
         ↔ (Passing (labels f) (dominates f) (mayAt f 1 r) (dominates f l) × Passing (labels f) (turned (dominates f)) (mayAt f 2 r) (λ a. dominates f a l))
-    unfolding suits rLevel wLevel
-    suits-iff l r =
+    unfolding fittingByFile rLevel wLevel
+    fitting-by-file-iff l r =
         let reads = passes-iff (labels f) (dominates f) (mayAt f 1 r) order (dominates f l) in
         let writes = passes-iff (labels f) (turned (dominates f)) (mayAt f 2 r) (turned-order order) (λ a. dominates f a l) in
         let one = passes (dominates f l) (rLevel f r) in
@@ -123,23 +124,23 @@ module _ (f : List ℕ) (cs : List Call) where
           let a = seated-done now p rest h in
           let s = a .session in
           let (w, b, c) = taking f r s (a .done) in
-          let (i, j) = suits-iff (s .label) r .0 c in
-          record { session = there p s (a .sits); role = w; member = belongs-iff (s .user) r .0 b; reads = i; writes = j },
+          let (i, j) = fitting-by-file-iff (s .label) r .0 c in
+          record { session = there p s (a .sits); role = w; member = entitled-by-file-iff (s .user) r .0 b; reads = i; writes = j },
       λ g.
           let (s, e, (u, l)) = session-of p (g .session) in
-          let b = belongs-iff (g .session .user) r .1 (g .member) in
-          let c = suits-iff (g .session .label) r .1 (g .reads, g .writes) in
+          let b = entitled-by-file-iff (g .session .user) r .1 (g .member) in
+          let c = fitting-by-file-iff (g .session .label) r .1 (g .reads, g .writes) in
           seated-of p s rest e (rw (among-iff (roles f) r .1 (g .role), u, l, b, c)),
     )
       where
         rest : Session → ℕ
-        rest s = unless (among (roles f) r) 25 (unless (belongs f (s .user) r) 27 (unless (suits f (s .label) r) 28 0))
+        rest s = unless (among (roles f) r) 25 (unless (entitledByFile f (s .user) r) 27 (unless (fittingByFile f (s .label) r) 28 0))
 
   -- ---- read and write
 
-  uses-iff : (m p o : ℕ) (s : Session) → now p ≡ some s → (uses f m s o ≡ true) ↔ ((r : ℕ) × Holds f cs p r × (may f m r o ≡ true))
-  unfolding uses
-  uses-iff m p o s e = (
+  gives-by-file-iff : (m p o : ℕ) (s : Session) → now p ≡ some s → (givesByFile f m s o ≡ true) ↔ ((r : ℕ) × Holds f cs p r × (may f m r o ≡ true))
+  unfolding givesByFile
+  gives-by-file-iff m p o s e = (
     λ h.
         let (r, w, k) = some-iff test (roles f) .0 h in
         let (a, b) = and-iff (s .held r) (may f m r o) .0 k in
@@ -161,7 +162,7 @@ module _ (f : List ℕ) (cs : List Call) where
         record {
           session = there p (a .session) (a .sits);
           card = a .card;
-          role = uses-iff m p o (a .session) (a .sits) .0 (a .used);
+          role = gives-by-file-iff m p o (a .session) (a .sits) .0 (a .used);
           inCard = a .inCard;
           inStore = a .inStore;
         },
@@ -170,14 +171,14 @@ module _ (f : List ℕ) (cs : List Call) where
         seated-of p s rest e
         (rw (
           among-iff (cards f) o .1 (g .card),
-          uses-iff m p o s e .1 (g .role),
+          gives-by-file-iff m p o s e .1 (g .role),
           le-leb (k + n) 64 (g .inCard),
           le-leb (64 * cards f) size (g .inStore),
         )),
   )
     where
       rest : Session → ℕ
-      rest s = unless (among (cards f) o) 25 (unless (uses f m s o) 29 (unless (leb (k + n) 64) 30 (unless (leb (64 * cards f) size) 31 0)))
+      rest s = unless (among (cards f) o) 25 (unless (givesByFile f m s o) 29 (unless (leb (k + n) 64) 30 (unless (leb (64 * cards f) size) 31 0)))
 
 -- ---- demand 2
 

@@ -15,8 +15,10 @@ use Rattle.search.proofs.Truth.{or-iff, and-iff, among-iff, untrue, both}
 use Rattle.rolefile.specs.Said.{roles}
 use Rattle.monitor.specs.Calls.{unless, ifDone}
 use Rattle.monitor.specs.Runs.{Call, opens, closes, takes, drops, reads, writes}
-use Rattle.monitor.specs.Rules.{Session, Sessions, nobody, isFree, belongs, suits, openRule, closeRule, takeRule, dropRule, rule, put, sessionOf, holding, without, next, sessions}
+use Rattle.monitor.specs.Places.{isFree, put}
+use Rattle.monitor.specs.Rules.{Session, Sessions, nobody, entitledByFile, fittingByFile, openRule, closeRule, takeRule, dropRule, rule, sessionOf, holding, without, next, sessions}
 use Rattle.monitor.specs.Granted.{ends, NoneEnds, Since, Sits, Holds}
+use Rattle.monitor.proofs.Places.{put-at, put-other}
 use Rattle.monitor.proofs.Orderly.{Admitted, Orderly, nobody-orderly, opening, seated-done, either-way, orderly-next}
 
 -- ---- lists of calls
@@ -47,13 +49,6 @@ which-way : {A : Type 0} (P : A → Type 0) (n : ℕ) (new old : A) → P (ifDon
 unfolding ifDone
 which-way P zero new old h = inl (refl, h)
 which-way P (suc n) new old h = inr (λ e. omega arith, h)
-
-module _ (t : Sessions) (q : ℕ) (s : Option Session) (p : ℕ) where
-  pub put-at : q ≡ p → put t q s p ≡ s
-  put-at e = rw (eq-eqb p q (sym e))
-
-  pub put-other : (q ≡ p → ⊥) → put t q s p ≡ t p
-  put-other n = rw (ne-eqb p q (λ e. n (sym e)))
 
 -- a closing of a place where a session sits is done, and so is a dropping of a role of the file
 module _ (f : List ℕ) (t : Sessions) (known : Orderly f t) (p : ℕ) (s : Session) (sits : t p ≡ some s) where
@@ -260,5 +255,5 @@ module _ (f : List ℕ) (cs : List Call) (p : ℕ) where
     where
       begun : (t : Sessions) → takeRule f t p r ≡ 0 → Sat (Held r) (next f t (takes p r) p)
       begun t z =
-          let a = seated-done t p (λ s. unless (among (roles f) r) 25 (unless (belongs f (s .user) r) 27 (unless (suits f (s .label) r) 28 0))) z in
+          let a = seated-done t p (λ s. unless (among (roles f) r) 25 (unless (entitledByFile f (s .user) r) 27 (unless (fittingByFile f (s .label) r) 28 0))) z in
           rw (z, eq-eqb p p refl, a .sits) (or-iff (a .session .held r) (eqb r r) .1 (inr (eq-eqb r r refl)))

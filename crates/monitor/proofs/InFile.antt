@@ -24,8 +24,9 @@ use Rattle.policy.proofs.Assigning.{passes-shown}
 use Rattle.policy.proofs.Inside.{assigned-known}
 use Rattle.policy.proofs.Meaning.{counts-known, marked-file}
 use Rattle.monitor.specs.Session.{sound, labelsIn, rolesIn, usersIn, cardsIn, placeAt, heldAt, inUse, userAt, labelAt, cleared, entitled, fitting, gives}
-use Rattle.monitor.specs.Calls.{unless, openNumber, closeNumber, takeNumber, dropNumber, partNumber}
-use Rattle.monitor.specs.Rules.{Session, Sessions, isFree, seated, belongs, suits, uses, openRule, closeRule, takeRule, dropRule, partRule}
+use Rattle.monitor.specs.Calls.{unless, atSession, openNumber, closeNumber, takeNumber, dropNumber, partNumber}
+use Rattle.monitor.specs.Places.{isFree}
+use Rattle.monitor.specs.Rules.{Session, Sessions, seated, seatedAt, entitledByFile, fittingByFile, givesByFile, openRule, closeRule, takeRule, dropRule, partRule}
 use Rattle.monitor.proofs.Orderly.{Admitted, Known, Orderly}
 use Rattle.monitor.proofs.Stands.{SessionAt, Seat, Stands}
 
@@ -69,11 +70,12 @@ module _ (f : List ℕ) (form : WellFormed f) (t : Sessions) (known : Orderly f 
       by none e = rw e
       by (some s) a = rw (a .used)
 
-  -- a session sits there, or 24
-  seated-file : (p : ℕ) → Among 64 p → {x : ℕ} (rule : Session → ℕ) → ((s : Session) → SessionAt xs p s → Admitted f p s → x ≡ rule s)
-      → unless (inUse xs p) 24 x ≡ seated (t p) rule
+  -- a session sits there, or 21, 22 or 24
+  seated-file : (p : ℕ) {x : ℕ} (rule : Session → ℕ) → ((s : Session) → SessionAt xs p s → Admitted f p s → x ≡ rule s) → atSession xs p x ≡ seatedAt t p rule
   unfolding inUse unless
-  seated-file p w {x} rule h = by (t p) (stands .seats p w) (known p)
+  seated-file p {x} rule h =
+      test-passed 21 sound-file
+      ∙ test-same (among 64 p) (among 64 p) 22 refl (λ place. by (t p) (stands .seats p (among-iff 64 p .0 place)) (known p))
     where
       by : (s : Option Session) → Seat xs p s → Known f p s → unless (eqb (getD xs (placeAt p) 0) 1) 24 x ≡ seated s rule
       by none e k = rw e
@@ -98,8 +100,8 @@ module _ (f : List ℕ) (form : WellFormed f) (t : Sessions) (known : Orderly f 
       both : ℕ → Bool
       both r = member xs a r && member xs b r
 
-  pub entitled-file : (u r : ℕ) → Among (users f) u → Among (roles f) r → entitled xs u r ≡ belongs f u r
-  unfolding entitled belongs
+  pub entitled-file : (u r : ℕ) → Among (users f) u → Among (roles f) r → entitled xs u r ≡ entitledByFile f u r
+  unfolding entitled entitledByFile
   entitled-file u r v w =
       let c = counts-known f form in
       let few-users = c .users in
@@ -109,8 +111,8 @@ module _ (f : List ℕ) (form : WellFormed f) (t : Sessions) (known : Orderly f 
       (λ q i. rw (stands .tables .assigning u q (omega arith) i, stands .tables .seniors r q (omega arith) i, le-leb r (roles f) (w .1)))
       (λ q e. assigned-known f (form .good) u q (and-iff (assigned f u q) (senior f q r) .0 e .0) .1)
 
-  pub fitting-file : (l r : ℕ) → Among (labels f) l → Among (roles f) r → fitting xs l r ≡ suits f l r
-  unfolding fitting suits rLevel wLevel
+  pub fitting-file : (l r : ℕ) → Among (labels f) l → Among (roles f) r → fitting xs l r ≡ fittingByFile f l r
+  unfolding fitting fittingByFile rLevel wLevel
   fitting-file l r v w =
       let c = counts-known f form in
       let few-roles = c .roles in
@@ -126,8 +128,8 @@ module _ (f : List ℕ) (form : WellFormed f) (t : Sessions) (known : Orderly f 
 
   -- the table at `at` says who may use cards by mode m
   module _ (at m : ℕ) (inside : at + 8192 ≤ 65536) (says : (o r : ℕ) → Among 512 o → Among 128 r → member xs (rowOf at o) r ≡ may f m r o) where
-    gives-file : (p o : ℕ) (s : Session) → SessionAt xs p s → Admitted f p s → Among (cards f) o → gives xs at p o ≡ uses f m s o
-    unfolding gives uses
+    gives-file : (p o : ℕ) (s : Session) → SessionAt xs p s → Admitted f p s → Among (cards f) o → gives xs at p o ≡ givesByFile f m s o
+    unfolding gives givesByFile
     gives-file p o s a k w =
         let c = counts-known f form in
         let few-cards = c .cards in
@@ -141,13 +143,11 @@ module _ (f : List ℕ) (form : WellFormed f) (t : Sessions) (known : Orderly f 
     pub part-file : (size p o k n : ℕ) → partNumber at xs size p o k n ≡ partRule f m t size p o k n
     unfolding partNumber partRule
     part-file size p o k n =
-        test-passed 21 sound-file
-        ∙ test-same (among 64 p) (among 64 p) 22 refl (λ place.
-        seated-file p (among-iff 64 p .0 place) _ (λ s a adm.
+        seated-file p _ (λ s a adm.
         test-same (among (cardsIn xs) o) (among (cards f) o) 25 (rw (stands .tables .counted .cards)) (λ card.
-        test-same (gives xs at p o) (uses f m s o) 29 (gives-file p o s a adm (among-iff (cards f) o .0 card)) (λ used.
+        test-same (gives xs at p o) (givesByFile f m s o) 29 (gives-file p o s a adm (among-iff (cards f) o .0 card)) (λ used.
         test-same (leb (k + n) 64) (leb (k + n) 64) 30 refl (λ fits.
-        test-same (leb (64 * cardsIn xs) size) (leb (64 * cards f) size) 31 (rw (stands .tables .counted .cards)) (λ stored. refl))))))
+        test-same (leb (64 * cardsIn xs) size) (leb (64 * cards f) size) 31 (rw (stands .tables .counted .cards)) (λ stored. refl)))))
 
   -- ---- the numbers
 
@@ -164,9 +164,7 @@ module _ (f : List ℕ) (form : WellFormed f) (t : Sessions) (known : Orderly f 
 
   pub close-file : (p : ℕ) → closeNumber xs p ≡ closeRule t p
   unfolding closeNumber closeRule
-  close-file p =
-      test-passed 21 sound-file
-      ∙ test-same (among 64 p) (among 64 p) 22 refl (λ place. seated-file p (among-iff 64 p .0 place) (λ s. 0) (λ s a adm. refl))
+  close-file p = seated-file p (λ s. 0) (λ s a adm. refl)
 
   user-is : (p : ℕ) (s : Session) → SessionAt xs p s → userAt xs p ≡ s .user
   unfolding userAt
@@ -179,20 +177,16 @@ module _ (f : List ℕ) (form : WellFormed f) (t : Sessions) (known : Orderly f 
   pub take-file : (p r : ℕ) → takeNumber xs p r ≡ takeRule f t p r
   unfolding takeNumber takeRule
   take-file p r =
-      test-passed 21 sound-file
-      ∙ test-same (among 64 p) (among 64 p) 22 refl (λ place.
-      seated-file p (among-iff 64 p .0 place) _ (λ s a adm.
+      seated-file p _ (λ s a adm.
       test-same (among (rolesIn xs) r) (among (roles f) r) 25 (rw (stands .tables .counted .roles)) (λ role.
       let w = among-iff (roles f) r .0 role in
-      test-same (entitled xs (userAt xs p) r) (belongs f (s .user) r) 27
+      test-same (entitled xs (userAt xs p) r) (entitledByFile f (s .user) r) 27
       (ap (λ (u : ℕ). entitled xs u r) (user-is p s a) ∙ entitled-file (s .user) r (adm .user) w) (λ member.
-      test-same (fitting xs (labelAt xs p) r) (suits f (s .label) r) 28
-      (ap (λ (l : ℕ). fitting xs l r) (label-is p s a) ∙ fitting-file (s .label) r (adm .label) w) (λ suited. refl)))))
+      test-same (fitting xs (labelAt xs p) r) (fittingByFile f (s .label) r) 28
+      (ap (λ (l : ℕ). fitting xs l r) (label-is p s a) ∙ fitting-file (s .label) r (adm .label) w) (λ suited. refl))))
 
   pub drop-file : (p r : ℕ) → dropNumber xs p r ≡ dropRule f t p r
   unfolding dropNumber dropRule
   drop-file p r =
-      test-passed 21 sound-file
-      ∙ test-same (among 64 p) (among 64 p) 22 refl (λ place.
-      seated-file p (among-iff 64 p .0 place) _ (λ s a adm.
-      test-same (among (rolesIn xs) r) (among (roles f) r) 25 (rw (stands .tables .counted .roles)) (λ role. refl)))
+      seated-file p _ (λ s a adm.
+      test-same (among (rolesIn xs) r) (among (roles f) r) 25 (rw (stands .tables .counted .roles)) (λ role. refl))

@@ -3,6 +3,7 @@ pub mod Known
 pub mod Filled
 pub mod Holding
 pub mod Frames
+pub mod Places
 pub mod Orderly
 pub mod Stands
 pub mod InFile
@@ -12,3 +13,4 @@ pub mod Grants
 pub mod Cases
 pub mod Able
 pub mod Reviewed
+pub mod Wrote

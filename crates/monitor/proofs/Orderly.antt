@@ -1,4 +1,4 @@
--- What the rules have seen to wherever a session sits: its place, user, label and roles are the file's, and each role held suits its label. Assumes nothing.
+-- What the rules have seen to wherever a session sits: its place, user, label and roles are the file's, and each role held fits its label. Assumes nothing.
 use Prim.Native.Nat.{ℕ, zero, suc, _+_, _*_, _≤_}
 use mathlib.Core.Path.{_≡_, refl}
 use mathlib.Core.Logic.{⊎-elim}
@@ -15,14 +15,15 @@ use Rattle.rolefile.specs.Said.{labels, roles, users, cards, clearance}
 use Rattle.policy.specs.Policy.{dominates}
 use Rattle.monitor.specs.Calls.{unless, ifDone}
 use Rattle.monitor.specs.Runs.{Call, opens, closes, takes, drops, reads, writes}
-use Rattle.monitor.specs.Rules.{Session, Sessions, nobody, isFree, seated, belongs, suits, uses, openRule, closeRule, takeRule, dropRule, partRule, put, sessionOf, holding, without, next}
+use Rattle.monitor.specs.Places.{isFree, put}
+use Rattle.monitor.specs.Rules.{Session, Sessions, nobody, seated, seatedAt, entitledByFile, fittingByFile, givesByFile, openRule, closeRule, takeRule, dropRule, partRule, sessionOf, holding, without, next}
 use Rattle.monitor.proofs.Answers.{unless-done}
 
 pub record Admitted (f : List ℕ) (p : ℕ) (s : Session) : Type 0 where
   pub place : Among 64 p
   pub user : Among (users f) (s .user)
   pub label : Among (labels f) (s .label)
-  pub roles : (r : ℕ) → s .held r ≡ true → Among (roles f) r × (suits f (s .label) r ≡ true)
+  pub roles : (r : ℕ) → s .held r ≡ true → Among (roles f) r × (fittingByFile f (s .label) r ≡ true)
 
 abbrev pub Known : List ℕ → ℕ → Option Session → Type 0
 Known f p none = Unit {0}
@@ -72,7 +73,7 @@ pub record At (t : Sessions) (p : ℕ) (rule : Session → ℕ) : Type 0 where
   pub sits : t p ≡ some session
   pub done : rule session ≡ 0
 
-pub seated-done : (t : Sessions) (p : ℕ) (rule : Session → ℕ) → unless (among 64 p) 22 (seated (t p) rule) ≡ 0 → At t p rule
+pub seated-done : (t : Sessions) (p : ℕ) (rule : Session → ℕ) → seatedAt t p rule ≡ 0 → At t p rule
 seated-done t p rule h =
     let a = unless-done (among 64 p) 22 (seated (t p) rule) (omega arith) h in
     there (among-iff 64 p .0 (a .0)) (t p) refl (a .1)
@@ -81,12 +82,12 @@ seated-done t p rule h =
     there w none e d = absurd (omega arith)
     there w (some s) e d = record { place = w; session = s; sits = e; done = d }
 
-pub taking : (f : List ℕ) (r : ℕ) (s : Session) → unless (among (roles f) r) 25 (unless (belongs f (s .user) r) 27 (unless (suits f (s .label) r) 28 0)) ≡ 0
-    → Among (roles f) r × (belongs f (s .user) r ≡ true) × (suits f (s .label) r ≡ true)
+pub taking : (f : List ℕ) (r : ℕ) (s : Session) → unless (among (roles f) r) 25 (unless (entitledByFile f (s .user) r) 27 (unless (fittingByFile f (s .label) r) 28 0)) ≡ 0
+    → Among (roles f) r × (entitledByFile f (s .user) r ≡ true) × (fittingByFile f (s .label) r ≡ true)
 taking f r s h =
     let a = unless-done (among (roles f) r) 25 _ (omega arith) h in
-    let b = unless-done (belongs f (s .user) r) 27 _ (omega arith) (a .1) in
-    let c = unless-done (suits f (s .label) r) 28 _ (omega arith) (b .1) in
+    let b = unless-done (entitledByFile f (s .user) r) 27 _ (omega arith) (a .1) in
+    let c = unless-done (fittingByFile f (s .label) r) 28 _ (omega arith) (b .1) in
     (among-iff (roles f) r .0 (a .0), b .0, c .0)
 
 pub dropping : (f : List ℕ) (r : ℕ) → unless (among (roles f) r) 25 0 ≡ 0 → Among (roles f) r
@@ -98,16 +99,16 @@ pub record Using (f : List ℕ) (m : ℕ) (t : Sessions) (size p o k n : ℕ) : 
   pub session : Session
   pub sits : t p ≡ some session
   pub card : Among (cards f) o
-  pub used : uses f m session o ≡ true
+  pub used : givesByFile f m session o ≡ true
   pub inCard : k + n ≤ 64
   pub inStore : 64 * cards f ≤ size
 
 pub part-done : (f : List ℕ) (m : ℕ) (t : Sessions) (size p o k n : ℕ) → partRule f m t size p o k n ≡ 0 → Using f m t size p o k n
 unfolding partRule
 part-done f m t size p o k n h =
-    let a = seated-done t p (λ s. unless (among (cards f) o) 25 (unless (uses f m s o) 29 (unless (leb (k + n) 64) 30 (unless (leb (64 * cards f) size) 31 0)))) h in
+    let a = seated-done t p (λ s. unless (among (cards f) o) 25 (unless (givesByFile f m s o) 29 (unless (leb (k + n) 64) 30 (unless (leb (64 * cards f) size) 31 0)))) h in
     let (i, b) = unless-done (among (cards f) o) 25 _ (omega arith) (a .done) in
-    let (j, c) = unless-done (uses f m (a .session) o) 29 _ (omega arith) b in
+    let (j, c) = unless-done (givesByFile f m (a .session) o) 29 _ (omega arith) b in
     let (x, d) = unless-done (leb (k + n) 64) 30 _ (omega arith) c in
     let (y, z) = unless-done (leb (64 * cards f) size) 31 _ (omega arith) d in
     record {
@@ -142,7 +143,7 @@ module _ (f : List ℕ) (t : Sessions) (known : Orderly f t) where
   orderly-next (closes p) = either-way (Orderly f) (closeRule t p) (put t p none) t (λ h. orderly-put f t p none known tt) known
   orderly-next (takes p r) = either-way (Orderly f) (takeRule f t p r) (put t p (Option·map (holding r) (t p))) t
       (λ h.
-      let a = seated-done t p (λ s. unless (among (roles f) r) 25 (unless (belongs f (s .user) r) 27 (unless (suits f (s .label) r) 28 0))) h in
+      let a = seated-done t p (λ s. unless (among (roles f) r) 25 (unless (entitledByFile f (s .user) r) 27 (unless (fittingByFile f (s .label) r) 28 0))) h in
       let s = a .session in
       let (w, b, c) = taking f r s (a .done) in
       let m = admitted p s (a .sits) in

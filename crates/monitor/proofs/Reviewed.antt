@@ -18,7 +18,7 @@ use Rattle.policy.specs.Policy.{dominates, senior}
 use Rattle.policy.specs.Tables.{rowOf}
 use Rattle.policy.proofs.Meaning.{counts-known, marked-file}
 use Rattle.monitor.specs.Session.{sound, entitled, fitting}
-use Rattle.monitor.specs.Rules.{Sessions, belongs, suits}
+use Rattle.monitor.specs.Rules.{Sessions, entitledByFile, fittingByFile}
 use Rattle.monitor.specs.Rights.{tableOf, serves, could, couldByFile}
 use Rattle.monitor.specs.Review.{counted, isLabel, isRole, isUser, isCard, clearanceOf, dominatesIn, seniorTo, assignedTo, entitledTo, mayOpen, mayTake, giveCard}
 use Rattle.monitor.proofs.Orderly.{Orderly}
@@ -80,7 +80,7 @@ module _ (f : List ℕ) (form : WellFormed f) (t : Sessions) (orderly : Orderly 
       let few-roles = counts-known f form .roles in
       rw (user u v, role r w) (stands .tables .assigning u r (omega arith) (omega arith))
 
-  pub review-entitled : (u r : ℕ) → Among (users f) u → Among (roles f) r → entitledTo xs u r ≡ belongs f u r
+  pub review-entitled : (u r : ℕ) → Among (users f) u → Among (roles f) r → entitledTo xs u r ≡ entitledByFile f u r
   unfolding entitledTo
   review-entitled u r v w = rw (user u v, role r w) (entitled-file f form t orderly xs stands u r v w)
 
@@ -89,7 +89,7 @@ module _ (f : List ℕ) (form : WellFormed f) (t : Sessions) (orderly : Orderly 
   review-opens u l v w = rw (user u v, label l w) (cleared-file f form t orderly xs stands u l v w)
 
   pub review-takes : (u l r : ℕ) → Among (users f) u → Among (labels f) l → Among (roles f) r
-      → mayTake xs u l r ≡ (dominates f (clearance f u) l && (belongs f u r && suits f l r))
+      → mayTake xs u l r ≡ (dominates f (clearance f u) l && (entitledByFile f u r && fittingByFile f l r))
   unfolding mayTake
   review-takes u l r v w i = rw (review-opens u l v w, review-entitled u r v i, fitting-file f form t orderly xs stands l r w i)
 

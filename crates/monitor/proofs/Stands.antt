@@ -19,7 +19,8 @@ use Rattle.policy.specs.Image.{Describes, Image}
 use Rattle.policy.proofs.Builds.{describes-stays}
 use Rattle.monitor.specs.Session.{placeAt, heldAt}
 use Rattle.monitor.specs.Calls.{written, opened, closed, taken, dropped}
-use Rattle.monitor.specs.Rules.{Session, Sessions, nobody, put, sessionOf, holding, without}
+use Rattle.monitor.specs.Places.{put}
+use Rattle.monitor.specs.Rules.{Session, Sessions, nobody, sessionOf, holding, without}
 use Rattle.monitor.proofs.Frames.{length-written, written-in, written-out}
 use Rattle.monitor.proofs.Holding.{added-placed, removed-placed, length-less}
 

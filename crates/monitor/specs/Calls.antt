@@ -28,6 +28,14 @@ ifDone (suc n) new old = old
 abbrev pub written : List ℕ → ℕ → List ℕ → List ℕ
 written xs at bs = take at xs ++ bs ++ drop (at + length bs) xs
 
+-- what a call at a place asks first, that a session sits there, and then the rest
+abbrev pub atSession : List ℕ → ℕ → ℕ → ℕ
+atSession xs p rest =
+    unless (sound xs) 21
+    (unless (among 64 p) 22
+    (unless (inUse xs p) 24
+    rest))
+
 -- ---- open: "gives it a user and a label that the clearance dominates, and no roles"
 
 unfoldable pub openNumber : List ℕ → ℕ → ℕ → ℕ → ℕ
@@ -46,18 +54,14 @@ opened xs p u l = written xs (placeAt p) (1 ∷ (u - 1) ∷ l ∷ replicate 17 0
 abbrev pub openState : List ℕ → ℕ → ℕ → ℕ → List ℕ
 openState xs p u l = ifDone (openNumber xs p u l) (opened xs p u l) xs
 
-pub record Opens (xs : List ℕ) (p u l r : ℕ) (ys : List ℕ) : Type 0 where
-  pub number : r ≡ openNumber xs p u l
+pub record Opens (xs : List ℕ) (p u l n : ℕ) (ys : List ℕ) : Type 0 where
+  pub number : n ≡ openNumber xs p u l
   pub state : ys ≡ openState xs p u l
 
 -- ---- close: "empties the place"
 
 unfoldable pub closeNumber : List ℕ → ℕ → ℕ
-closeNumber xs p =
-    unless (sound xs) 21
-    (unless (among 64 p) 22
-    (unless (inUse xs p) 24
-    0))
+closeNumber xs p = atSession xs p 0
 
 unfoldable pub closed : List ℕ → ℕ → List ℕ
 closed xs p = written xs (placeAt p) (replicate 20 0)
@@ -65,29 +69,22 @@ closed xs p = written xs (placeAt p) (replicate 20 0)
 abbrev pub closeState : List ℕ → ℕ → List ℕ
 closeState xs p = ifDone (closeNumber xs p) (closed xs p) xs
 
-pub record Closes (xs : List ℕ) (p r : ℕ) (ys : List ℕ) : Type 0 where
-  pub number : r ≡ closeNumber xs p
+pub record Closes (xs : List ℕ) (p n : ℕ) (ys : List ℕ) : Type 0 where
+  pub number : n ≡ closeNumber xs p
   pub state : ys ≡ closeState xs p
 
 -- ---- take and drop a role, as document 01 has it (the field: activate and deactivate): "Taking a role already held, or dropping one not held, is done and changes nothing"
 
 unfoldable pub takeNumber : List ℕ → ℕ → ℕ → ℕ
 takeNumber xs p r =
-    unless (sound xs) 21
-    (unless (among 64 p) 22
-    (unless (inUse xs p) 24
+    atSession xs p
     (unless (among (rolesIn xs) r) 25
     (unless (entitled xs (userAt xs p) r) 27
     (unless (fitting xs (labelAt xs p) r) 28
-    0)))))
+    0)))
 
 unfoldable pub dropNumber : List ℕ → ℕ → ℕ → ℕ
-dropNumber xs p r =
-    unless (sound xs) 21
-    (unless (among 64 p) 22
-    (unless (inUse xs p) 24
-    (unless (among (rolesIn xs) r) 25
-    0)))
+dropNumber xs p r = atSession xs p (unless (among (rolesIn xs) r) 25 0)
 
 -- the byte of the held roles in which role r has its bit, and that bit
 abbrev pub roleAt : ℕ → ℕ → ℕ
@@ -108,27 +105,25 @@ takeState xs p r = ifDone (takeNumber xs p r) (taken xs p r) xs
 abbrev pub dropState : List ℕ → ℕ → ℕ → List ℕ
 dropState xs p r = ifDone (dropNumber xs p r) (dropped xs p r) xs
 
-pub record Takes (xs : List ℕ) (p q r : ℕ) (ys : List ℕ) : Type 0 where
-  pub number : r ≡ takeNumber xs p q
-  pub state : ys ≡ takeState xs p q
+pub record Takes (xs : List ℕ) (p r n : ℕ) (ys : List ℕ) : Type 0 where
+  pub number : n ≡ takeNumber xs p r
+  pub state : ys ≡ takeState xs p r
 
-pub record Drops (xs : List ℕ) (p q r : ℕ) (ys : List ℕ) : Type 0 where
-  pub number : r ≡ dropNumber xs p q
-  pub state : ys ≡ dropState xs p q
+pub record Drops (xs : List ℕ) (p r n : ℕ) (ys : List ℕ) : Type 0 where
+  pub number : n ≡ dropNumber xs p r
+  pub state : ys ≡ dropState xs p r
 
 -- ---- read and write n bytes of card o from offset k on: "Card o fills bytes 64 × (o − 1) to 64 × o − 1 of the store"
 
 -- the number, by the table of those who may: readers or writers
 unfoldable pub partNumber : ℕ → List ℕ → ℕ → ℕ → ℕ → ℕ → ℕ → ℕ
 partNumber at xs size p o k n =
-    unless (sound xs) 21
-    (unless (among 64 p) 22
-    (unless (inUse xs p) 24
+    atSession xs p
     (unless (among (cardsIn xs) o) 25
     (unless (gives xs at p o) 29
     (unless (leb (k + n) 64) 30
     (unless (leb (64 * cardsIn xs) size) 31
-    0))))))
+    0))))
 
 abbrev pub partAt : ℕ → ℕ → ℕ
 partAt o k = 64 * (o - 1) + k
@@ -156,8 +151,8 @@ pub record Reads (xs : List ℕ) (store : RefT (List ℕ)) (p o k n : ℕ) (part
 abbrev pub writeStore : List ℕ → List ℕ → ℕ → ℕ → ℕ → List ℕ → List ℕ
 writeStore xs store p o k bytes = ifDone (writeNumber xs store p o k bytes) (written store (partAt o k) bytes) store
 
-pub record Writes (xs old : List ℕ) (p o k : ℕ) (bytes : List ℕ) (r : ℕ) (new : List ℕ) : Type 0 where
-  pub number : r ≡ writeNumber xs old p o k bytes
+pub record Writes (xs old : List ℕ) (p o k : ℕ) (bytes : List ℕ) (n : ℕ) (new : List ℕ) : Type 0 where
+  pub number : n ≡ writeNumber xs old p o k bytes
   pub store : new ≡ writeStore xs old p o k bytes
 
 -- ---- the flow report: "whether the first flows to the second (never to itself), and gives the lowest role on a circle of two or more roles, or 0"

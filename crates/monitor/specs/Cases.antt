@@ -1,4 +1,4 @@
--- The cases of "Example files", those with a star and the others too: each file with the answer that the document gives for it, and session calls after its load with their
+-- The cases of "Example files", those with a star and the others too: each file with what the document says of it, and session calls after its load with their
 -- numbers. Where the document tells of a file without showing it, the file is a small one of that kind. Assumes nothing.
 use Prim.Native.Nat.{ℕ, _*_}
 use Prim.Native.Char.{code}
@@ -45,16 +45,16 @@ numbered f t [] = []
 numbered f t (x ∷ xs) = (x .0, rule f (64 * cards f) t (x .0)) ∷ numbered f (next f t (x .0)) xs
 
 -- the verdict on a file; and, as far as the document gives them, the rows of its roles, the role on a circle of flow, flows, and session calls
-pub record Answer : Type 0 where
+pub record Findings : Type 0 where
   pub verdict : Verdict
   pub rows : List Row
   pub circle : Option ℕ
   pub flows : List Flow
   pub calls : List Answered
 
--- the definitions' answer for the file f, about the roles that the document's answer is about
-unfoldable pub answer : List ℕ → Answer → Answer
-answer f a = record {
+-- what the definitions find of the file f, about the roles and for the calls that the document tells of
+unfoldable pub findings : List ℕ → Findings → Findings
+findings f a = record {
   verdict = verdict f;
   rows = map (λ x. row f (x .0)) (a .rows);
   circle = Option·map (λ r. flowCircle f) (a .circle);
@@ -64,7 +64,7 @@ answer f a = record {
 
 pub record Case : Type 0 where
   pub file : List String
-  pub expected : Answer
+  pub expected : Findings
 
 unfoldable pub cases : List Case
 cases =

@@ -1,6 +1,7 @@
 pub mod Session
 pub mod Calls
 pub mod Runs
+pub mod Places
 pub mod Rules
 pub mod Granted
 pub mod Cases

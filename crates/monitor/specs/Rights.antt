@@ -13,7 +13,7 @@ use Rattle.policy.specs.Tables.{rowOf, readersAt, writersAt}
 use Rattle.monitor.specs.Session.{sound, labelsIn, rolesIn, usersIn, cardsIn, cleared, entitled, fitting}
 use Rattle.monitor.specs.Calls.{unless, ifDone}
 use Rattle.monitor.specs.Runs.{Call, opens, takes, reads, writes, Memory, number, after}
-use Rattle.monitor.specs.Rules.{belongs, suits}
+use Rattle.monitor.specs.Rules.{entitledByFile, fittingByFile}
 
 -- ---- by the state's bytes
 
@@ -58,7 +58,7 @@ canRule f u l o m =
 
 -- a role that the user may take at the label may read (m = 1) or write (m = 2) the card
 unfoldable pub couldByFile : List ℕ → ℕ → ℕ → ℕ → ℕ → Bool
-couldByFile f u l o m = some (roles f) (λ r. belongs f u r && (suits f l r && may f m r o))
+couldByFile f u l o m = some (roles f) (λ r. entitledByFile f u r && (fittingByFile f l r && may f m r o))
 
 -- ---- by the session calls: a use of the card, of no bytes
 

@@ -2,7 +2,7 @@
 -- proofs/ shows that the calls are answered so on every state that a load of f and any calls left. Assumes nothing.
 use Prim.Native.Nat.{ℕ, _+_, _*_}
 use mathlib.Core.List.{List, [], _∷_}
-use mathlib.Core.Bool.{Bool, true, false, not, _&&_, _||_, cond}
+use mathlib.Core.Bool.{Bool, false, not, _&&_, _||_}
 use mathlib.Core.Option.{Option, none, some, Option·map}
 use lib.Dec.{leb, eqb}
 use lib.ListN.{length}
@@ -12,6 +12,7 @@ use Rattle.rolefile.specs.Said.{labels, roles, users, cards, clearance, assigne
 use Rattle.policy.specs.Policy.{dominates, senior, may, rLevel, wLevel, passes}
 use Rattle.monitor.specs.Calls.{unless, ifDone}
 use Rattle.monitor.specs.Runs.{Call, opens, closes, takes, drops, reads, writes}
+use Rattle.monitor.specs.Places.{Places, isFree, put}
 
 -- ---- who sits where, by the calls so far
 
@@ -21,35 +22,35 @@ pub record Session : Type 0 where
   pub label : ℕ
   pub held : ℕ → Bool
 
--- the session at each place; a free place has none
+-- the session at each place
 abbrev pub Sessions : Type 0
-Sessions = ℕ → Option Session
+Sessions = Places Session
 
 abbrev pub nobody : Sessions
 nobody p = none
-
-abbrev pub isFree : Option Session → Bool
-isFree none = true
-isFree (some s) = false
 
 -- 24 where no session sits at the place; else what the rule says of the session
 abbrev pub seated : Option Session → (Session → ℕ) → ℕ
 seated none rule = 24
 seated (some s) rule = rule s
 
--- ---- the rules
+-- what a call at a place asks first, that a session sits there
+abbrev pub seatedAt : Sessions → ℕ → (Session → ℕ) → ℕ
+seatedAt t p rule = unless (among 64 p) 22 (seated (t p) rule)
+
+-- ---- the rules, which `entitled`, `fitting` and `gives` of Session ask by the state's bytes
 
 -- "the user is assigned to it or to a senior of it"; a role is a senior of itself
-unfoldable pub belongs : List ℕ → ℕ → ℕ → Bool
-belongs f u r = search.some (roles f) (λ q. assigned f u q && senior f q r)
+unfoldable pub entitledByFile : List ℕ → ℕ → ℕ → Bool
+entitledByFile f u r = search.some (roles f) (λ q. assigned f u q && senior f q r)
 
 -- "the session's label dominates its r-level, and its w-level dominates the session's label"
-unfoldable pub suits : List ℕ → ℕ → ℕ → Bool
-suits f l r = passes (dominates f l) (rLevel f r) && passes (λ a. dominates f a l) (wLevel f r)
+unfoldable pub fittingByFile : List ℕ → ℕ → ℕ → Bool
+fittingByFile f l r = passes (dominates f l) (rLevel f r) && passes (λ a. dominates f a l) (wLevel f r)
 
 -- "A session may use the permissions of all roles it holds, inherited ones included": to read (m = 1) or write (m = 2) card o
-unfoldable pub uses : List ℕ → ℕ → Session → ℕ → Bool
-uses f m s o = search.some (roles f) (λ r. s .held r && may f m r o)
+unfoldable pub givesByFile : List ℕ → ℕ → Session → ℕ → Bool
+givesByFile f m s o = search.some (roles f) (λ r. s .held r && may f m r o)
 
 -- ---- the number of each call
 
@@ -63,30 +64,28 @@ openRule f t p u l =
     0))))
 
 unfoldable pub closeRule : Sessions → ℕ → ℕ
-closeRule t p = unless (among 64 p) 22 (seated (t p) (λ s. 0))
+closeRule t p = seatedAt t p (λ s. 0)
 
 unfoldable pub takeRule : List ℕ → Sessions → ℕ → ℕ → ℕ
 takeRule f t p r =
-    unless (among 64 p) 22
-    (seated (t p) (λ s.
+    seatedAt t p (λ s.
     unless (among (roles f) r) 25
-    (unless (belongs f (s .user) r) 27
-    (unless (suits f (s .label) r) 28
-    0))))
+    (unless (entitledByFile f (s .user) r) 27
+    (unless (fittingByFile f (s .label) r) 28
+    0)))
 
 unfoldable pub dropRule : List ℕ → Sessions → ℕ → ℕ → ℕ
-dropRule f t p r = unless (among 64 p) 22 (seated (t p) (λ s. unless (among (roles f) r) 25 0))
+dropRule f t p r = seatedAt t p (λ s. unless (among (roles f) r) 25 0)
 
 -- n bytes from offset k on of card o of a store of `size` bytes, to be read or written
 unfoldable pub partRule : List ℕ → ℕ → Sessions → ℕ → ℕ → ℕ → ℕ → ℕ → ℕ
 partRule f m t size p o k n =
-    unless (among 64 p) 22
-    (seated (t p) (λ s.
+    seatedAt t p (λ s.
     unless (among (cards f) o) 25
-    (unless (uses f m s o) 29
+    (unless (givesByFile f m s o) 29
     (unless (leb (k + n) 64) 30
     (unless (leb (64 * cards f) size) 31
-    0)))))
+    0))))
 
 unfoldable pub rule : List ℕ → ℕ → Sessions → Call → ℕ
 rule f size t (opens p u l) = openRule f t p u l
@@ -97,9 +96,6 @@ rule f size t (reads p o k n) = partRule f 1 t size p o k n
 rule f size t (writes p o k bytes) = partRule f 2 t size p o k (length bytes)
 
 -- ---- who sits where after a call
-
-abbrev pub put : Sessions → ℕ → Option Session → Sessions
-put t p s q = cond (eqb q p) s (t q)
 
 abbrev pub sessionOf : ℕ → ℕ → Session
 sessionOf u l = record { user = u; label = l; held = λ r. false }

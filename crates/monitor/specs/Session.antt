@@ -1,12 +1,12 @@
 -- The places of a state, and what the calls read of a state. Every accessor is total: a byte past the end is 0. Assumes nothing.
 use Prim.Native.Nat.{ℕ, _+_, _*_, _-_}
 use mathlib.Core.List.{List}
-use mathlib.Core.Bool.{Bool, _&&_, _||_}
+use mathlib.Core.Bool.{Bool, _&&_}
 use lib.Dec.{leb, eqb}
 use lib.ListN.{getD}
 use Rattle.search.specs.Search.{among}
 use Rattle.roleset.specs.Row.{common}
-use Rattle.policy.specs.Tables.{word, byteOf, rowOf, marked, isState, clearancesAt, rLevelsAt, wLevelsAt, seniorsAt, assignedAt}
+use Rattle.policy.specs.Tables.{word, byteOf, rowOf, marked, isState, passesIn, clearancesAt, rLevelsAt, wLevelsAt, seniorsAt, assignedAt}
 
 -- ---- counts
 
@@ -53,12 +53,12 @@ cleared xs u l = marked xs (byteOf xs clearancesAt u) l
 unfoldable pub entitled : List ℕ → ℕ → ℕ → Bool
 entitled xs u r = common xs (rowOf assignedAt u) (rowOf seniorsAt r)
 
--- "the session's label dominates its r-level, and its w-level dominates the session's label. A free level always passes; an undefined one never"
+-- "the session's label dominates its r-level, and its w-level dominates the session's label"
 unfoldable pub fitting : List ℕ → ℕ → ℕ → Bool
 fitting xs l r =
     let reads = byteOf xs rLevelsAt r in
     let writes = byteOf xs wLevelsAt r in
-    (eqb reads 0 || marked xs l reads) && (eqb writes 0 || marked xs writes l)
+    passesIn xs reads l reads && passesIn xs writes writes l
 
 -- a role that place p holds gives the read, or the write, of card o
 unfoldable pub gives : List ℕ → ℕ → ℕ → ℕ → Bool

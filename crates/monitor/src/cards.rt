@@ -12,14 +12,9 @@ fn part_number(s: &[u8], at: u64, size: usize, place: u64, card: u64, offset: u6
     requires { ⌜ at ≤ 20496 ⌝ }
     ensures { λ r. ⌜ r ≡ partNumber at (now (s .entry)) size place card offset n ⌝ }
 {
-    if !state::sound(s) {
-        return 21;
-    }
-    if !state::among(64, place) {
-        return 22;
-    }
-    if !state::in_use(s, place) {
-        return 24;
+    let first = sessions::session_number(s, place);
+    if first != 0 {
+        return first;
     }
     if !state::counted(s, 6, card) {
         return 25;

@@ -7,10 +7,8 @@ use super::rules;
 use super::state;
 ghost use mathlib.Core.Path.{_≡_};
 ghost use Prim.Native.Nat.{ℕ, _<_};
-ghost use mathlib.Core.Bool.{_&&_, _||_};
-ghost use lib.Dec.{eqb};
 ghost use Rattle.search.specs.Search.{among};
-ghost use Rattle.roleset.specs.Row.{member, Placed};
+ghost use Rattle.roleset.specs.Row.{member};
 ghost use Rattle.monitor.specs.Review as review;
 
 // How many things the count at `at` tells of.
@@ -139,7 +137,7 @@ pub fn may_open(s: &[u8], user: u64, label: u64) -> bool
 }
 
 // Whether the user may take the role in a session at the label.
-pub fn may_take(s: &[u8], user: u64, label: u64, role: u64) -> bool
+fn may_take(s: &[u8], user: u64, label: u64, role: u64) -> bool
     ensures { λ r. ⌜ r ≡ review.mayTake (now (s .entry)) user label role ⌝ }
 {
     if !may_open(s, user, label) {
@@ -151,15 +149,6 @@ pub fn may_take(s: &[u8], user: u64, label: u64, role: u64) -> bool
     rules::fitting(s, label, role)
 }
 
-// Puts the role into a row where it belongs there, as where it may be taken.
-pub fn put_where(row: &mut [u8], role: usize, may: bool)
-    ensures { λ _. ⌜ Placed 0 (λ r. member (now (row .entry)) 0 r || (may && (among 128 role && eqb r role))) (now (row .entry)) (now (row .exit)) ⌝ }
-{
-    if may {
-        roleset::add(row, 0, role);
-    }
-}
-
 // The roles that the user may take in a session at the label.
 pub fn roles_at(s: &[u8], user: u64, label: u64) -> [u8; 16]
     ensures { λ row. ⌜ ((r : ℕ) → member row 0 r ≡ review.mayTake (now (s .entry)) user label r) ⌝ }
@@ -169,7 +158,7 @@ pub fn roles_at(s: &[u8], user: u64, label: u64) -> [u8; 16]
     let mut i = 0;
     while i < n {
         let may = may_take(s, user, label, i + 1);
-        put_where(&mut row, i as usize + 1, may);
+        roleset::add_where(&mut row, 0, i as usize + 1, may);
         i += 1;
     }
     row

@@ -1,9 +1,8 @@
 // What the rules ask of a user, a label, a role and a card.
 use super::state;
 ghost use mathlib.Core.Path.{_≡_};
-ghost use mathlib.Core.Bool.{_||_};
 ghost use Prim.Native.Nat.{_+_, _*_, _≤_};
-ghost use lib.Dec.{leb, eqb};
+ghost use lib.Dec.{leb};
 ghost use lib.ListN.{length};
 ghost use Rattle.search.specs.Search.{Among};
 ghost use Rattle.roleset.specs.Row.{member};
@@ -30,7 +29,7 @@ pub fn entitled(s: &[u8], user: u64, role: u64) -> bool
 
 // Whether label a dominates label b, one of which is a level: a free level, 0, always passes.
 fn passes(s: &[u8], level: u64, a: u64, b: u64) -> bool
-    ensures { λ r. ⌜ r ≡ (eqb level 0 || tables.marked (now (s .entry)) a b) ⌝ }
+    ensures { λ r. ⌜ r ≡ tables.passesIn (now (s .entry)) level a b ⌝ }
 {
     if level == 0 {
         return true;

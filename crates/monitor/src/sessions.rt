@@ -67,8 +67,8 @@ pub fn open(s: &mut [u8], place: u64, user: u64, label: u64) -> u64
     n
 }
 
-// The number that a closing gets.
-fn close_number(s: &[u8], place: u64) -> u64
+// The number that a call at a place gets where no session sits, else 0. A closing asks no more.
+pub fn session_number(s: &[u8], place: u64) -> u64
     ensures { λ r. ⌜ r ≡ closeNumber (now (s .entry)) place ⌝ }
 {
     if !state::sound(s) {
@@ -97,7 +97,7 @@ fn empty(s: &mut [u8], place: u64)
 pub fn close(s: &mut [u8], place: u64) -> u64
     ensures { λ r. ⌜ Closes (now (s .entry)) place r (now (s .exit)) ⌝ }
 {
-    let n = close_number(s, place);
+    let n = session_number(s, place);
     if n == 0 {
         empty(s, place);
     }
@@ -108,14 +108,9 @@ pub fn close(s: &mut [u8], place: u64) -> u64
 fn take_number(s: &[u8], place: u64, role: u64) -> u64
     ensures { λ r. ⌜ r ≡ takeNumber (now (s .entry)) place role ⌝ }
 {
-    if !state::sound(s) {
-        return 21;
-    }
-    if !state::among(64, place) {
-        return 22;
-    }
-    if !state::in_use(s, place) {
-        return 24;
+    let n = session_number(s, place);
+    if n != 0 {
+        return n;
     }
     if !state::counted(s, 2, role) {
         return 25;
@@ -153,14 +148,9 @@ pub fn take(s: &mut [u8], place: u64, role: u64) -> u64
 fn drop_number(s: &[u8], place: u64, role: u64) -> u64
     ensures { λ r. ⌜ r ≡ dropNumber (now (s .entry)) place role ⌝ }
 {
-    if !state::sound(s) {
-        return 21;
-    }
-    if !state::among(64, place) {
-        return 22;
-    }
-    if !state::in_use(s, place) {
-        return 24;
+    let n = session_number(s, place);
+    if n != 0 {
+        return n;
     }
     if !state::counted(s, 2, role) {
         return 25;

@@ -7,7 +7,7 @@ ghost use Rattle.policy.specs.Tables as tables;
 ghost use Rattle.monitor.specs.Session as session;
 
 // The byte at i.
-pub fn byte(s: &[u8], i: u64) -> u64
+fn byte(s: &[u8], i: u64) -> u64
     ensures { λ r. ⌜ (r ≡ getD (now (s .entry)) i 0) × (r < 256) ⌝ }
 {
     let k = i as usize;

@@ -31,6 +31,10 @@ common xs a b = whole xs a && whole xs b && some 128 (λ r. member xs a r && mem
 abbrev pub added : List ℕ → ℕ → ℕ → ℕ → Bool
 added xs at role r = member xs at r || (among 128 role && eqb r role)
 
+-- with a role where `on`
+abbrev pub addedWhere : List ℕ → ℕ → ℕ → Bool → ℕ → Bool
+addedWhere xs at role on r = member xs at r || (on && (among 128 role && eqb r role))
+
 abbrev pub removed : List ℕ → ℕ → ℕ → ℕ → Bool
 removed xs at role r = member xs at r && not (eqb r role)
 

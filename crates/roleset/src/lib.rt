@@ -8,7 +8,7 @@ ghost use mathlib.Core.Path.{_≡_};
 ghost use mathlib.Core.Bool.{false, _&&_};
 ghost use Prim.Native.Nat.{ℕ, _+_, _*_};
 ghost use Rattle.search.specs.Search.{some};
-ghost use Rattle.roleset.specs.Row.{whole, member, common, Placed, PlacedRows, added, removed, united, unitedWhere, joined};
+ghost use Rattle.roleset.specs.Row.{whole, member, common, Placed, PlacedRows, added, addedWhere, removed, united, unitedWhere, joined};
 
 // Whether the row at `at` holds the role.
 pub fn has(s: &[u8], at: usize, role: usize) -> bool
@@ -34,6 +34,15 @@ pub fn add(s: &mut [u8], at: usize, role: usize)
         return;
     }
     inner::add(s, at, role);
+}
+
+// Adds the role where `on` holds.
+pub fn add_where(s: &mut [u8], at: usize, role: usize, on: bool)
+    ensures { λ _. ⌜ Placed at (addedWhere (now (s .entry)) at role on) (now (s .entry)) (now (s .exit)) ⌝ }
+{
+    if on {
+        add(s, at, role);
+    }
 }
 
 // Takes the role out of the row at `at`.

@@ -33,7 +33,7 @@ loop-again c =
     let a = turn .before .before .args in (
       search needs,
       search needs,
-      λ b v. c .before .put-where .ensures .row (omega (arith, w .inv .1)) b
+      λ b v. c .before .add-where .ensures .row (omega (arith, w .inv .1)) b
           ∙ rw (w .inv .2 b v, c .before .before .before .ordered .ensures) (fill-more (ordered (now (a .s)) (a .order) (a .a)) (w .i) b (omega arith)),
     )
 

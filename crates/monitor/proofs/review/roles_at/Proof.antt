@@ -50,7 +50,7 @@ loop-again c =
       search needs,
       search needs,
       search needs,
-      λ r. c .before .put-where .ensures .row (omega (arith, w .inv .2)) r
+      λ r. c .before .add-where .ensures .row (omega (arith, w .inv .2)) r
           ∙ rw (w .inv .3 r, c .before .before .before .may-take .ensures) (fill-more (mayTake (now (a .s)) (a .user) (a .label)) (w .i) r (omega (arith, w .inv .0))),
     )
 

@@ -1,5 +1,4 @@
 -- The tests one after the other.
-use native.Mathlib.Omega.{arith}
 use borrow.Author.Needs.{needs}
 use Rattle.monitor.specs.Rights.{serves}
 use Rattle.monitor.proofs.Known.{tests}

@@ -1,29 +1,21 @@
 -- Each number goes by the test that gave it and those before it.
 use borrow.Author.Needs.{needs}
 use Rattle.monitor.specs.Calls.{dropNumber}
-use Rattle.monitor.proofs.Answers.{row, one-of}
+use Rattle.monitor.proofs.Answers.{session-row}
 use Rattle.monitor.proofs.sessions.drop_number.Statement.{statement}
 use Rattle.monitor.proofs.sessions.drop_number.Tie as tie
 
 returns : tie.Need-returns
 unfolding dropNumber
-returns c = search row depth 10 fits 5000
+returns c = search session-row depth 10 fits 5000
 
 returns-2 : tie.Need-returns-2
 unfolding dropNumber
-returns-2 c = search row depth 10 fits 5000
+returns-2 c = search session-row depth 10 fits 5000
 
 returns-3 : tie.Need-returns-3
 unfolding dropNumber
-returns-3 c = search row depth 10 fits 5000
-
-returns-4 : tie.Need-returns-4
-unfolding dropNumber
-returns-4 c = search row depth 10 fits 5000
-
-returns-5 : tie.Need-returns-5
-unfolding dropNumber
-returns-5 c = search row depth 10 fits 5000
+returns-3 c = search session-row depth 10 fits 5000
 
 pub drop-number-spec : {M : Type 1} → statement M
 drop-number-spec =
@@ -33,8 +25,4 @@ drop-number-spec =
     returns
     (λ c κs. search needs)
     returns-2
-    (λ c κs. one-of 64 _ (c .before .among .ensures) (c .if2 .left))
-    returns-3
-    (λ c κs. search needs)
-    returns-4
-    returns-5)
+    returns-3)

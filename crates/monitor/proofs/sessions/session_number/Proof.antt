@@ -2,8 +2,8 @@
 use borrow.Author.Needs.{needs}
 use Rattle.monitor.specs.Calls.{closeNumber}
 use Rattle.monitor.proofs.Answers.{row, one-of}
-use Rattle.monitor.proofs.sessions.close_number.Statement.{statement}
-use Rattle.monitor.proofs.sessions.close_number.Tie as tie
+use Rattle.monitor.proofs.sessions.session_number.Statement.{statement}
+use Rattle.monitor.proofs.sessions.session_number.Tie as tie
 
 returns : tie.Need-returns
 unfolding closeNumber
@@ -21,8 +21,8 @@ returns-4 : tie.Need-returns-4
 unfolding closeNumber
 returns-4 c = search row depth 9 fits 5000
 
-pub close-number-spec : {M : Type 1} → statement M
-close-number-spec =
+pub session-number-spec : {M : Type 1} → statement M
+session-number-spec =
     tie.close
     (tie.spec
     (λ c κs. search needs)
