@@ -23,7 +23,7 @@ use Rattle.monitor.specs.Calls.{unless, ifDone, written, partAt, opened,
 use Rattle.monitor.specs.Calls.{flowsNumber, circleNumber, Flows, Circles}
 use Rattle.monitor.specs.Runs.{Call, opens, closes, takes, drops, reads, writes, Memory, number, stateAfter, storeAfter, after, run}
 use Rattle.monitor.specs.Places.{put}
-use Rattle.monitor.specs.Rules.{Session, Sessions, nobody, seated, seatedAt, entitledByFile, fittingByFile, openRule, closeRule, takeRule, dropRule, partRule, rule, sessionOf, holding, without, next, sessions}
+use Rattle.monitor.specs.Rules.{Session, Sessions, nobody, seated, seatedAt, openRule, closeRule, takeRule, dropRule, partRule, rule, sessionOf, holding, without, next, sessions}
 use Rattle.monitor.proofs.Answers.{part-fits, unless-done}
 use Rattle.monitor.proofs.Frames.{length-written}
 use Rattle.monitor.proofs.Orderly.{Orderly, nobody-orderly, opening, seated-done, taking, either-way, orderly-next, dropping}
@@ -93,7 +93,7 @@ module _ (f : List ℕ) (form : WellFormed f) (t : Sessions) (known : Orderly f 
       rw (take-file f form t known xs stands p r)
       (both-ways (Stands f) (takeRule f t p r) (put t p (Option·map (holding r) (t p))) t (taken xs p r) xs
       (λ h.
-      let a = seated-done t p (λ s. unless (among (roles f) r) 25 (unless (entitledByFile f (s .user) r) 27 (unless (fittingByFile f (s .label) r) 28 0))) h in
+      let a = seated-done t p _ h in
       let s = a .session in
       let w = role-small r (taking f r s (a .done) .0) in
       stands-put f t xs (taken xs p r) p stands (a .place) (taken-touched xs p (stands .long) (a .place) r w)
@@ -103,7 +103,7 @@ module _ (f : List ℕ) (form : WellFormed f) (t : Sessions) (known : Orderly f 
       rw (drop-file f form t known xs stands p r)
       (both-ways (Stands f) (dropRule f t p r) (put t p (Option·map (without r) (t p))) t (dropped xs p r) xs
       (λ h.
-      let a = seated-done t p (λ s. unless (among (roles f) r) 25 0) h in
+      let a = seated-done t p _ h in
       let s = a .session in
       let w = role-small r (dropping f r (a .done)) in
       stands-put f t xs (dropped xs p r) p stands (a .place) (dropped-touched xs p (stands .long) (a .place) r w)

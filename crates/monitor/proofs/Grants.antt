@@ -89,7 +89,7 @@ module _ (f : List ℕ) (cs : List Call) where
   unfolding dropRule unless
   drop-iff p r = (
     λ h.
-        let a = seated-done now p (λ s. unless (among (roles f) r) 25 0) h in
+        let a = seated-done now p _ h in
         record { session = there p (a .session) (a .sits); role = dropping f r (a .done) },
     λ g.
         let (s, e, k) = session-of p (g .session) in

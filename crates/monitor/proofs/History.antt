@@ -10,13 +10,13 @@ use native.Mathlib.Omega.{arith}
 use native.Mathlib.Decide.{ℕ-discrete}
 use lib.Dec.{eqb}
 use borrow.Author.Tests.{eqb-true, eq-eqb, ne-eqb, not-true}
-use Rattle.search.specs.Search.{among, Among}
+use Rattle.search.specs.Search.{Among}
 use Rattle.search.proofs.Truth.{or-iff, and-iff, among-iff, untrue, both}
 use Rattle.rolefile.specs.Said.{roles}
 use Rattle.monitor.specs.Calls.{unless, ifDone}
 use Rattle.monitor.specs.Runs.{Call, opens, closes, takes, drops, reads, writes}
 use Rattle.monitor.specs.Places.{isFree, put}
-use Rattle.monitor.specs.Rules.{Session, Sessions, nobody, entitledByFile, fittingByFile, openRule, closeRule, takeRule, dropRule, rule, sessionOf, holding, without, next, sessions}
+use Rattle.monitor.specs.Rules.{Session, Sessions, nobody, openRule, closeRule, takeRule, dropRule, rule, sessionOf, holding, without, next, sessions}
 use Rattle.monitor.specs.Granted.{ends, NoneEnds, Since, Sits, Holds}
 use Rattle.monitor.proofs.Places.{put-at, put-other}
 use Rattle.monitor.proofs.Orderly.{Admitted, Orderly, nobody-orderly, opening, seated-done, either-way, orderly-next}
@@ -255,5 +255,5 @@ module _ (f : List ℕ) (cs : List Call) (p : ℕ) where
     where
       begun : (t : Sessions) → takeRule f t p r ≡ 0 → Sat (Held r) (next f t (takes p r) p)
       begun t z =
-          let a = seated-done t p (λ s. unless (among (roles f) r) 25 (unless (entitledByFile f (s .user) r) 27 (unless (fittingByFile f (s .label) r) 28 0))) z in
+          let a = seated-done t p _ z in
           rw (z, eq-eqb p p refl, a .sits) (or-iff (a .session .held r) (eqb r r) .1 (inr (eq-eqb r r refl)))

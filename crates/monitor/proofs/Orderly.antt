@@ -143,7 +143,7 @@ module _ (f : List ℕ) (t : Sessions) (known : Orderly f t) where
   orderly-next (closes p) = either-way (Orderly f) (closeRule t p) (put t p none) t (λ h. orderly-put f t p none known tt) known
   orderly-next (takes p r) = either-way (Orderly f) (takeRule f t p r) (put t p (Option·map (holding r) (t p))) t
       (λ h.
-      let a = seated-done t p (λ s. unless (among (roles f) r) 25 (unless (entitledByFile f (s .user) r) 27 (unless (fittingByFile f (s .label) r) 28 0))) h in
+      let a = seated-done t p _ h in
       let s = a .session in
       let (w, b, c) = taking f r s (a .done) in
       let m = admitted p s (a .sits) in
@@ -157,7 +157,7 @@ module _ (f : List ℕ) (t : Sessions) (known : Orderly f t) where
       known
   orderly-next (drops p r) = either-way (Orderly f) (dropRule f t p r) (put t p (Option·map (without r) (t p))) t
       (λ h.
-      let a = seated-done t p (λ s. unless (among (roles f) r) 25 0) h in
+      let a = seated-done t p _ h in
       let s = a .session in
       let m = admitted p s (a .sits) in
       orderly-put f t p (Option·map (without r) (t p)) known

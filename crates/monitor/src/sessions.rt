@@ -67,7 +67,7 @@ pub fn open(s: &mut [u8], place: u64, user: u64, label: u64) -> u64
     n
 }
 
-// The number that a call at a place gets where no session sits, else 0. A closing asks no more.
+// The number of what a call at a place asks first, that a session sits there. A closing asks no more.
 pub fn session_number(s: &[u8], place: u64) -> u64
     ensures { λ r. ⌜ r ≡ closeNumber (now (s .entry)) place ⌝ }
 {
