@@ -15,7 +15,7 @@ use Rattle.roleset.specs.Row.{bit, member}
 use Rattle.roleset.proofs.Bits.{bit-zero, bit-on}
 use Rattle.rolefile.specs.Form.{fine}
 use Rattle.rolefile.specs.Said.{labels, roles, users, cards, clearance, cardLabel, assigned}
-use Rattle.policy.specs.Policy.{dominates, senior, may, rLevel, wLevel, shown}
+use Rattle.policy.specs.Policy.{dominates, senior, may, rLevel, wLevel, levelNumber}
 use Rattle.policy.specs.Tables.{dominanceAt, clearancesAt, cardLabelsAt, rLevelsAt, wLevelsAt, seniorsAt, assignedAt, readersAt, writersAt, stateSize, rowOf}
 use Rattle.policy.specs.Accepted.{Accepted}
 use Rattle.policy.specs.Image.{Describes, Image, loadVerdict}
@@ -118,10 +118,10 @@ module _ (f : List ℕ) where
   from-seniors = table seniorsAt 2048 (rows (λ q r. leb q (roles f) && senior f r q)) from-assigned
 
   abbrev from-w-levels : ℕ → ℕ
-  from-w-levels = table wLevelsAt 128 (λ i. shown (wLevel f (i + 1))) from-seniors
+  from-w-levels = table wLevelsAt 128 (λ i. levelNumber (wLevel f (i + 1))) from-seniors
 
   abbrev from-r-levels : ℕ → ℕ
-  from-r-levels = table rLevelsAt 128 (λ i. shown (rLevel f (i + 1))) from-w-levels
+  from-r-levels = table rLevelsAt 128 (λ i. levelNumber (rLevel f (i + 1))) from-w-levels
 
   abbrev from-card-labels : ℕ → ℕ
   from-card-labels = table cardLabelsAt 512 (λ i. cardLabel f (i + 1)) from-r-levels
@@ -257,9 +257,9 @@ module _ (f : List ℕ) where
           (λ i l m. past-readers i (omega arith) ∙ table-in writersAt 8192 _ (λ k. 0) i l (omega arith));
     };
     levelled = record {
-      reads = byte-of rLevelsAt 128 (λ r. shown (rLevel f r)) (omega arith)
+      reads = byte-of rLevelsAt 128 (λ r. levelNumber (rLevel f r)) (omega arith)
           (λ i l m. past-card-labels i (omega arith) ∙ table-in rLevelsAt 128 _ from-w-levels i l m);
-      writes = byte-of wLevelsAt 128 (λ r. shown (wLevel f r)) (omega arith)
+      writes = byte-of wLevelsAt 128 (λ r. levelNumber (wLevel f r)) (omega arith)
           (λ i l m. past-r-levels i (omega arith) ∙ table-in wLevelsAt 128 _ from-seniors i l m);
     };
     assigning = member-row assignedAt 256 (λ u r. assigned f u r) (omega arith)

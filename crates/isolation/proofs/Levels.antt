@@ -11,11 +11,11 @@ use Rattle.search.specs.Search.{Among}
 use Rattle.search.proofs.Truth.{and-iff}
 use Rattle.search.proofs.Found.{some-of}
 use Rattle.order.specs.Closure.{Relation, PartialOrder}
-use Rattle.order.specs.Bound.{turned}
+use Rattle.order.specs.Bound.{converse}
 use Rattle.rolefile.specs.Said.{labels, cards, cardLabel}
 use Rattle.policy.specs.Policy.{dominates, may, mayAt, rLevel, wLevel, passes}
 use Rattle.policy.specs.Accepted.{Accepted, Passing}
-use Rattle.policy.proofs.Levels.{turned-order, passes-iff}
+use Rattle.policy.proofs.Levels.{converse-order, passes-iff}
 use Rattle.policy.proofs.Inside.{card-label-known}
 use Rattle.monitor.specs.Rules.{fittingByFile}
 
@@ -52,8 +52,8 @@ module _ (f : List ℕ) (accepted : Accepted f) where
     pub writes-above : may f 2 r o ≡ true → dominates f (cardLabel f o) l ≡ true
     unfolding wLevel
     writes-above h =
-        let passing = passes-iff (labels f) (turned (dominates f)) (mayAt f 2 r) (turned-order order) (λ a. dominates f a l) .0 (both .1) in
+        let passing = passes-iff (labels f) (converse (dominates f)) (mayAt f 2 r) (converse-order order) (λ a. dominates f a l) .0 (both .1) in
         let (c, w, over, q) =
-        passing-bound (labels f) (turned (dominates f)) (mayAt f 2 r) (λ a. dominates f a l) passing (cardLabel f o) (label-of-card o card) (may-at 2 r o card h)
+        passing-bound (labels f) (converse (dominates f)) (mayAt f 2 r) (λ a. dominates f a l) passing (cardLabel f o) (label-of-card o card) (may-at 2 r o card h)
         in
         order .transitive (cardLabel f o) c l (label-of-card o card) w label over q

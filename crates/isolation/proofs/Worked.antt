@@ -9,7 +9,7 @@ use lib.ListN.{length, getD, replicate, getD-replicate, List·getD-append, lengt
 use Rattle.search.specs.Search.{some, every, first}
 use Rattle.search.proofs.Truth.{both}
 use Rattle.order.specs.Closure.{via}
-use Rattle.order.specs.Bound.{upper, isLeast, least, lub, apart, partnerWithoutBound, unjoined}
+use Rattle.order.specs.Bound.{upper, isLeast, least, lub, withoutBound, partnerWithoutBound, lowestWithoutBound}
 use Rattle.rolefile.specs.Field.{column, columns}
 use Rattle.rolefile.specs.Line.{letterOf, fields, formed, lineOf, lineAt}
 use Rattle.rolefile.specs.Form.{fine, scan, sized, counted, firstLimit, secondLimit, ranged, rises, headVerdict, bodyVerdict, lineVerdict}
@@ -36,7 +36,7 @@ accepted-file : verdict file ≡ fine
 unfolding file line bytes
     column columns letterOf fields formed lineOf lineAt
     sized counted firstLimit secondLimit ranged rises headVerdict bodyVerdict lineVerdict scan count unlabelled unlabelledVerdict linesVerdict formVerdict
-    says last labelBy some every first via upper isLeast least lub apart partnerWithoutBound unjoined
+    says last labelBy some every first via upper isLeast least lub withoutBound partnerWithoutBound lowestWithoutBound
     dominates senior may mayAt level rLevel wLevel orderVerdict labelVerdict roleVerdict assignVerdict assignmentVerdict policyVerdict verdict
 accepted-file = refl
 

@@ -12,13 +12,13 @@ use Rattle.search.specs.Search.{among, Among}
 use Rattle.search.proofs.Truth.{and-iff, among-iff}
 use Rattle.search.proofs.Found.{some-iff}
 use Rattle.order.specs.Closure.{PartialOrder}
-use Rattle.order.specs.Bound.{turned}
+use Rattle.order.specs.Bound.{converse}
 use Rattle.rolefile.specs.declared.Verdict.{Verdict}
 use Rattle.rolefile.specs.Said.{labels, roles, users, cards, assigned}
 use Rattle.policy.specs.Policy.{dominates, senior, may, mayAt, rLevel, wLevel, passes}
 use Rattle.policy.specs.Accepted.{Accepted, Passing}
 use Rattle.policy.specs.Image.{Loaded}
-use Rattle.policy.proofs.Levels.{turned-order, passes-iff}
+use Rattle.policy.proofs.Levels.{converse-order, passes-iff}
 use Rattle.monitor.specs.Calls.{unless}
 use Rattle.monitor.specs.Runs.{Call, opens, closes, takes, drops, reads, writes, number, run}
 use Rattle.monitor.specs.Places.{isFree}
@@ -108,11 +108,11 @@ module _ (f : List ℕ) (cs : List Call) where
 
   module _ (order : PartialOrder (labels f) (dominates f)) where
     fitting-by-file-iff : (l r : ℕ) → (fittingByFile f l r ≡ true)
-        ↔ (Passing (labels f) (dominates f) (mayAt f 1 r) (dominates f l) × Passing (labels f) (turned (dominates f)) (mayAt f 2 r) (λ a. dominates f a l))
+        ↔ (Passing (labels f) (dominates f) (mayAt f 1 r) (dominates f l) × Passing (labels f) (converse (dominates f)) (mayAt f 2 r) (λ a. dominates f a l))
     unfolding fittingByFile rLevel wLevel
     fitting-by-file-iff l r =
         let reads = passes-iff (labels f) (dominates f) (mayAt f 1 r) order (dominates f l) in
-        let writes = passes-iff (labels f) (turned (dominates f)) (mayAt f 2 r) (turned-order order) (λ a. dominates f a l) in
+        let writes = passes-iff (labels f) (converse (dominates f)) (mayAt f 2 r) (converse-order order) (λ a. dominates f a l) in
         let one = passes (dominates f l) (rLevel f r) in
         let two = passes (λ a. dominates f a l) (wLevel f r) in
         (λ h. let (a, b) = and-iff one two .0 h in (reads .0 a, writes .0 b), λ (a, b). and-iff one two .1 (reads .1 a, writes .1 b))

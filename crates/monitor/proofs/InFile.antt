@@ -15,12 +15,12 @@ use Rattle.search.proofs.Truth.{and-iff, among-iff, same}
 use Rattle.search.proofs.Found.{some-iff, some-of}
 use Rattle.roleset.specs.Row.{member, common}
 use Rattle.roleset.proofs.Rows.{whole-true}
-use Rattle.order.specs.Bound.{turned}
+use Rattle.order.specs.Bound.{converse}
 use Rattle.rolefile.specs.Said.{labels, roles, users, cards, clearance, assigned}
 use Rattle.rolefile.specs.WellFormed.{WellFormed}
 use Rattle.policy.specs.Policy.{dominates, senior, may, mayAt, rLevel, wLevel}
 use Rattle.policy.specs.Tables.{stateSize, rowOf, marked, seniorsAt, assignedAt}
-use Rattle.policy.proofs.Assigning.{passes-shown}
+use Rattle.policy.proofs.Assigning.{passes-number}
 use Rattle.policy.proofs.Inside.{assigned-known}
 use Rattle.policy.proofs.Meaning.{counts-known, marked-file}
 use Rattle.monitor.specs.Session.{sound, labelsIn, rolesIn, usersIn, cardsIn, placeAt, heldAt, inUse, userAt, labelAt, cleared, entitled, fitting, gives}
@@ -120,9 +120,9 @@ module _ (f : List ℕ) (form : WellFormed f) (t : Sessions) (known : Orderly f 
       rw (
         stands .tables .levelled .reads r i,
         stands .tables .levelled .writes r i,
-        passes-shown (labels f) (dominates f) (mayAt f 1 r) (c .labels .1) (marked xs l) (dominates f l)
+        passes-number (labels f) (dominates f) (mayAt f 1 r) (c .labels .1) (marked xs l) (dominates f l)
             (and-false (among 32 l)) (λ a j. marked-file f form xs (stands .tables) l a (inl v)),
-        passes-shown (labels f) (turned (dominates f)) (mayAt f 2 r) (c .labels .1) (λ a. marked xs a l) (λ a. dominates f a l)
+        passes-number (labels f) (converse (dominates f)) (mayAt f 2 r) (c .labels .1) (λ a. marked xs a l) (λ a. dominates f a l)
             refl (λ a j. marked-file f form xs (stands .tables) a l (inr v)),
       )
 

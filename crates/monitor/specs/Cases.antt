@@ -8,7 +8,7 @@ use mathlib.Core.Bool.{Bool, false}
 use mathlib.Core.Option.{Option, none, some, Option·map}
 use Rattle.rolefile.specs.declared.Verdict.{Verdict}
 use Rattle.rolefile.specs.Form.{fine, refusal}
-use Rattle.policy.specs.Policy.{rLevel, wLevel, shown}
+use Rattle.policy.specs.Policy.{rLevel, wLevel, levelNumber}
 use Rattle.policy.specs.Verdict.{verdict}
 use Rattle.policy.specs.Flow.{flows, flowCircle}
 use Rattle.rolefile.specs.Said.{cards}
@@ -29,7 +29,7 @@ abbrev pub Row : Type 0
 Row = ℕ × ℕ × ℕ
 
 abbrev pub row : List ℕ → ℕ → Row
-row f r = (r, shown (rLevel f r), shown (wLevel f r))
+row f r = (r, levelNumber (rLevel f r), levelNumber (wLevel f r))
 
 -- two roles, and whether the first flows to the second: a line F or none
 abbrev pub Flow : Type 0

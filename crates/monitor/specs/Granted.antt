@@ -7,7 +7,7 @@ use mathlib.Core.Bool.{Bool, true, false, _&&_}
 use lib.Dec.{eqb}
 use lib.ListN.{length}
 use Rattle.search.specs.Search.{Among}
-use Rattle.order.specs.Bound.{turned}
+use Rattle.order.specs.Bound.{converse}
 use Rattle.rolefile.specs.Said.{labels, roles, users, cards, clearance, assigned}
 use Rattle.policy.specs.Policy.{dominates, senior, may, mayAt}
 use Rattle.policy.specs.Accepted.{Passing}
@@ -66,7 +66,7 @@ pub record MayTake (f : List ℕ) (cs : List Call) (p r : ℕ) : Type 0 where
   pub role : Among (roles f) r
   pub member : (q : ℕ) × Among (roles f) q × (assigned f (session .user) q ≡ true) × (senior f q r ≡ true)
   pub reads : Passing (labels f) (dominates f) (mayAt f 1 r) (dominates f (session .label))
-  pub writes : Passing (labels f) (turned (dominates f)) (mayAt f 2 r) (λ a. dominates f a (session .label))
+  pub writes : Passing (labels f) (converse (dominates f)) (mayAt f 2 r) (λ a. dominates f a (session .label))
 
 pub record MayDrop (f : List ℕ) (cs : List Call) (p r : ℕ) : Type 0 where
   pub session : Seated f cs p

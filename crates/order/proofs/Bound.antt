@@ -12,7 +12,7 @@ use Rattle.search.specs.Search.{every, first, implies, Among, Lowest}
 use Rattle.search.proofs.Truth.{or-iff, and-iff, implies-iff, untrue, both, same}
 use Rattle.search.proofs.Found.{every-at, every-of, every-agree, every-cut, first-yet, first-found, first-more, first-none, first-lowest, first-within, first-agree, first-cut}
 use Rattle.order.specs.Closure.{Relation, PartialOrder}
-use Rattle.order.specs.Bound.{upper, isLeast, least, lub, turned, pair, apart, partnerWithoutBound, unjoined, Upper, IsLub, Joined, AllJoined, FirstPair, FirstApart}
+use Rattle.order.specs.Bound.{upper, isLeast, least, lub, converse, pair, withoutBound, partnerWithoutBound, lowestWithoutBound, Upper, IsLub, Joined, AllJoined, FirstPair, FirstWithoutBound}
 use Rattle.order.proofs.Closure.{Agree}
 
 -- every thing of a set has p
@@ -27,7 +27,7 @@ module _ (n : ℕ) (ge : Relation) (s : ℕ → Bool) where
   unfolding upper
   upper-iff c = every-in n s (ge c)
 
-  pub isLeast-iff : (c : ℕ) → (isLeast n ge s c ≡ true) ↔ ((s c ≡ true) × Upper n (turned ge) s c)
+  pub isLeast-iff : (c : ℕ) → (isLeast n ge s c ≡ true) ↔ ((s c ≡ true) × Upper n (converse ge) s c)
   unfolding isLeast
   isLeast-iff c = (
     λ h. let (p, q) = and-iff (s c) (every n (λ x. implies (s x) (ge x c))) .0 h in (p, every-in n s (λ x. ge x c) .0 q),
@@ -97,25 +97,25 @@ module _ (n : ℕ) (ge : Relation) where
       let (p, q) = and-iff (ge c a) (ge c b) .0 h in
       upper-iff n ge (pair a b) c .1 (λ x u k. ⊎-elim (λ i. rw i p) (λ i. rw i q) (pair-iff a b x .0 k)))
 
-  apart-iff : (a b : ℕ) → (apart n ge a b ≡ true) ↔ ((a < b) × (lub n ge (pair a b) ≡ 0))
-  unfolding apart
-  apart-iff a b = (
+  without-bound-iff : (a b : ℕ) → (withoutBound n ge a b ≡ true) ↔ ((a < b) × (lub n ge (pair a b) ≡ 0))
+  unfolding withoutBound
+  without-bound-iff a b = (
     λ h. let (p, q) = and-iff (ltb a b) (eqb (lub n ge (pair a b)) 0) .0 h in (ltb-true a b p, eqb-true (lub n ge (pair a b)) 0 q),
     λ (l, z). and-iff (ltb a b) (eqb (lub n ge (pair a b)) 0) .1 (lt-ltb a b l, eq-eqb (lub n ge (pair a b)) 0 z),
   )
 
-  -- what `apart` tells of two in rising order
-  together : (a b : ℕ) → a < b → apart n ge a b ≡ false → Joined n ge a b
-  together a b l q = lub-exists n ge (pair a b) .0 (λ z. both (apart-iff a b .1 (l, z)) q)
+  -- what `withoutBound` tells of two in rising order
+  together : (a b : ℕ) → a < b → withoutBound n ge a b ≡ false → Joined n ge a b
+  together a b l q = lub-exists n ge (pair a b) .0 (λ z. both (without-bound-iff a b .1 (l, z)) q)
 
-  separate : (a b : ℕ) → apart n ge a b ≡ true → Joined n ge a b → ⊥
-  separate a b h j = lub-exists n ge (pair a b) .1 j (apart-iff a b .0 h .1)
+  separate : (a b : ℕ) → withoutBound n ge a b ≡ true → Joined n ge a b → ⊥
+  separate a b h j = lub-exists n ge (pair a b) .1 j (without-bound-iff a b .0 h .1)
 
   partnerWithoutBound-none : (a : ℕ) → (partnerWithoutBound n ge a ≡ 0) ↔ ((b : ℕ) → Among n b → a < b → Joined n ge a b)
   unfolding partnerWithoutBound
   partnerWithoutBound-none a = (
-    λ q b w l. together a b l (first-none (apart n ge a) n .0 q b w),
-    λ h. first-none (apart n ge a) n .1 (λ b w. untrue (apart n ge a b) (λ p. separate a b p (h b w (apart-iff a b .0 p .0)))),
+    λ q b w l. together a b l (first-none (withoutBound n ge a) n .0 q b w),
+    λ h. first-none (withoutBound n ge a) n .1 (λ b w. untrue (withoutBound n ge a b) (λ p. separate a b p (h b w (without-bound-iff a b .0 p .0)))),
   )
 
   -- a pair the other way round, and a thing with itself
@@ -142,12 +142,12 @@ module _ (n : ℕ) (ge : Relation) where
     },
   )
 
-  pub some-apart : ℕ → Bool
-  some-apart a = ltb 0 (partnerWithoutBound n ge a)
+  pub some-without : ℕ → Bool
+  some-without a = ltb 0 (partnerWithoutBound n ge a)
 
-  pub unjoined-none : PartialOrder n ge → (unjoined n ge ≡ 0) ↔ AllJoined n ge
-  unfolding unjoined some-apart
-  unjoined-none o = (
+  pub lowest-without-none : PartialOrder n ge → (lowestWithoutBound n ge ≡ 0) ↔ AllJoined n ge
+  unfolding lowestWithoutBound some-without
+  lowest-without-none o = (
     λ q a b v w. elim (decLt a b) [
       | yes l ↦ rising q a b v w l
       | no l ↦ elim (decLt b a) [
@@ -155,28 +155,28 @@ module _ (n : ℕ) (ge : Relation) where
         | no m ↦ let i : a ≡ b = omega arith in rw (← i) (joined-self o a v)
       ]
     ],
-    λ h. first-none some-apart n .1 (λ a v. le-ltb 0 (partnerWithoutBound n ge a) (omega (arith, partnerWithoutBound-none a .1 (λ b w l. h a b v w)))),
+    λ h. first-none some-without n .1 (λ a v. le-ltb 0 (partnerWithoutBound n ge a) (omega (arith, partnerWithoutBound-none a .1 (λ b w l. h a b v w)))),
   )
     where
-      rising : first n some-apart ≡ 0 → (a b : ℕ) → Among n a → Among n b → a < b → Joined n ge a b
-      rising q a b v w l = partnerWithoutBound-none a .0 (omega (arith, ltb-false 0 (partnerWithoutBound n ge a) (first-none some-apart n .0 q a v))) b w l
+      rising : first n some-without ≡ 0 → (a b : ℕ) → Among n a → Among n b → a < b → Joined n ge a b
+      rising q a b v w l = partnerWithoutBound-none a .0 (omega (arith, ltb-false 0 (partnerWithoutBound n ge a) (first-none some-without n .0 q a v))) b w l
 
-  pub unjoined-first : (a : ℕ) → 1 ≤ a → unjoined n ge ≡ a → FirstPair n ge a (partnerWithoutBound n ge a)
-  unfolding unjoined partnerWithoutBound some-apart
-  unjoined-first a l q = go (first-lowest some-apart n a l .0 q)
+  pub lowest-without-first : (a : ℕ) → 1 ≤ a → lowestWithoutBound n ge ≡ a → FirstPair n ge a (partnerWithoutBound n ge a)
+  unfolding lowestWithoutBound partnerWithoutBound some-without
+  lowest-without-first a l q = go (first-lowest some-without n a l .0 q)
     where
-      pairs : Lowest n some-apart a → Lowest n (apart n ge a) (partnerWithoutBound n ge a) → FirstPair n ge a (partnerWithoutBound n ge a)
+      pairs : Lowest n some-without a → Lowest n (withoutBound n ge a) (partnerWithoutBound n ge a) → FirstPair n ge a (partnerWithoutBound n ge a)
       pairs low h = record {
         lower = low .inside;
         higher = h .inside;
-        rising = apart-iff a (partnerWithoutBound n ge a) .0 (h .holds) .0;
-        apart = separate a (partnerWithoutBound n ge a) (h .holds);
+        rising = without-bound-iff a (partnerWithoutBound n ge a) .0 (h .holds) .0;
+        withoutBound = separate a (partnerWithoutBound n ge a) (h .holds);
         earlier = λ x y v w k m. partnerWithoutBound-none x .0 (omega (arith, ltb-false 0 (partnerWithoutBound n ge x) (low .lower x v m))) y w k;
         sooner = λ y w k m. together a y k (h .lower y w m);
       }
 
-      go : Lowest n some-apart a → FirstPair n ge a (partnerWithoutBound n ge a)
-      go low = pairs low (first-lowest (apart n ge a) n (partnerWithoutBound n ge a) (ltb-true 0 (partnerWithoutBound n ge a) (low .holds)) .0 refl)
+      go : Lowest n some-without a → FirstPair n ge a (partnerWithoutBound n ge a)
+      go low = pairs low (first-lowest (withoutBound n ge a) n (partnerWithoutBound n ge a) (ltb-true 0 (partnerWithoutBound n ge a) (low .holds)) .0 refl)
 
 -- ---- an order sees only its things
 
@@ -202,15 +202,15 @@ module _ (n : ℕ) (f g : Relation) (h : Agree n n f g) where
       ))
 
   partnerWithoutBound-agree : (a : ℕ) → partnerWithoutBound n f a ≡ partnerWithoutBound n g a
-  unfolding partnerWithoutBound apart
-  partnerWithoutBound-agree a = first-agree (apart n f a) (apart n g a) n (λ b w. rw (lub-agree (pair a b)))
+  unfolding partnerWithoutBound withoutBound
+  partnerWithoutBound-agree a = first-agree (withoutBound n f a) (withoutBound n g a) n (λ b w. rw (lub-agree (pair a b)))
 
-  pub unjoined-agree : unjoined n f ≡ unjoined n g
-  unfolding unjoined
-  unjoined-agree = first-agree (λ a. ltb 0 (partnerWithoutBound n f a)) (λ a. ltb 0 (partnerWithoutBound n g a)) n (λ a w. rw (partnerWithoutBound-agree a))
+  pub lowest-without-agree : lowestWithoutBound n f ≡ lowestWithoutBound n g
+  unfolding lowestWithoutBound
+  lowest-without-agree = first-agree (λ a. ltb 0 (partnerWithoutBound n f a)) (λ a. ltb 0 (partnerWithoutBound n g a)) n (λ a w. rw (partnerWithoutBound-agree a))
 
-  pub first-apart-agree : (a b : ℕ) → FirstApart n f a b → FirstApart n g a b
-  first-apart-agree a b h = record { lower = h .lower ∙ unjoined-agree; higher = rw (← (partnerWithoutBound-agree a)) (h .higher) }
+  pub first-without-agree : (a b : ℕ) → FirstWithoutBound n f a b → FirstWithoutBound n g a b
+  first-without-agree a b h = record { lower = h .lower ∙ lowest-without-agree; higher = rw (← (partnerWithoutBound-agree a)) (h .higher) }
 
 -- and of a set only which things are in it
 pub lub-same-set : (n : ℕ) (ge : Relation) (s t : ℕ → Bool) → ((x : ℕ) → Among n x → s x ≡ t x) → lub n ge s ≡ lub n ge t
@@ -228,23 +228,23 @@ lub-within n ge s = first-within (isLeast n ge (upper n ge s)) n
 
 -- what a search answers that tries the things in turn
 module _ (n : ℕ) (ge : Relation) where
-  abbrev pub NoneApart : ℕ → Type 0
-  NoneApart i = first i (some-apart n ge) ≡ 0
+  abbrev pub NoneWithout : ℕ → Type 0
+  NoneWithout i = first i (some-without n ge) ≡ 0
 
-  pub none-apart-yet : NoneApart 0
-  none-apart-yet = first-yet (some-apart n ge)
+  pub none-without-yet : NoneWithout 0
+  none-without-yet = first-yet (some-without n ge)
 
-  pub none-apart-more : (i h : ℕ) → NoneApart i → h ≡ partnerWithoutBound n ge (i + 1) → h ≤ 0 → NoneApart (i + 1)
-  unfolding some-apart
-  none-apart-more i h none e z = first-more (some-apart n ge) i none (le-ltb 0 (partnerWithoutBound n ge (i + 1)) (omega arith))
+  pub none-without-more : (i h : ℕ) → NoneWithout i → h ≡ partnerWithoutBound n ge (i + 1) → h ≤ 0 → NoneWithout (i + 1)
+  unfolding some-without
+  none-without-more i h none e z = first-more (some-without n ge) i none (le-ltb 0 (partnerWithoutBound n ge (i + 1)) (omega arith))
 
-  pub apart-found : (i h : ℕ) → i < n → NoneApart i → h ≡ partnerWithoutBound n ge (i + 1) → 0 < h → FirstApart n ge (i + 1) h
-  unfolding unjoined some-apart
-  apart-found i h l none e p = record {
-    lower = first-found (some-apart n ge) n i l none (lt-ltb 0 (partnerWithoutBound n ge (i + 1)) (omega arith));
+  pub without-found : (i h : ℕ) → i < n → NoneWithout i → h ≡ partnerWithoutBound n ge (i + 1) → 0 < h → FirstWithoutBound n ge (i + 1) h
+  unfolding lowestWithoutBound some-without
+  without-found i h l none e p = record {
+    lower = first-found (some-without n ge) n i l none (lt-ltb 0 (partnerWithoutBound n ge (i + 1)) (omega arith));
     higher = rw (lt-ltb 0 (i + 1) (omega arith)) e;
   }
 
-  pub none-apart : NoneApart n → FirstApart n ge 0 0
-  unfolding unjoined some-apart
-  none-apart none = record { lower = sym none; higher = refl }
+  pub none-without : NoneWithout n → FirstWithoutBound n ge 0 0
+  unfolding lowestWithoutBound some-without
+  none-without none = record { lower = sym none; higher = refl }

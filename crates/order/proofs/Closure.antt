@@ -154,11 +154,11 @@ module _ (e : Relation) where
     circle-lowest a l = first-lowest (λ a. path n e a a) n a l
 
 -- a path in the relation turned round is one the other way
-pub via-turned : (e : Relation) (k a b : ℕ) → via (λ x y. e y x) k a b ≡ via e k b a
+pub via-converse : (e : Relation) (k a b : ℕ) → via (λ x y. e y x) k a b ≡ via e k b a
 unfolding via
-via-turned e zero a b = refl
-via-turned e (suc k) a b =
-    rw (via-turned e k a b, via-turned e k a (suc k), via-turned e k (suc k) b)
+via-converse e zero a b = refl
+via-converse e (suc k) a b =
+    rw (via-converse e k a b, via-converse e k a (suc k), via-converse e k (suc k) b)
     (ap (λ t. via e k b a || t) (and-comm (via e k (suc k) a) (via e k b (suc k))))
 
 -- f and g say the same of the things 1 to n over the things 1 to m

@@ -9,7 +9,7 @@ use Rattle.search.specs.Search.{Among}
 use Rattle.search.proofs.Truth.{both}
 use Rattle.search.proofs.Found.{last-or}
 use Rattle.order.specs.Closure.{Relation, PartialOrder}
-use Rattle.order.specs.Bound.{upper, turned, Upper, Lower, IsLub, IsGlb, AllJoined}
+use Rattle.order.specs.Bound.{upper, converse, Upper, Lower, IsLub, IsGlb, AllJoined}
 use Rattle.order.proofs.Bound.{pair-iff, upper-iff}
 
 module _ (n : ℕ) (ge : Relation) (o : PartialOrder n ge) (joins : AllJoined n ge) where
@@ -77,15 +77,15 @@ module _ (n : ℕ) (ge : Relation) (o : PartialOrder n ge) (joins : AllJoined n 
   glb-iff-lower s = (λ (c, b). (c, b .inside, b .over), λ (d, w, u). of d w u)
     where
       below : ℕ → Bool
-      below = upper n (turned ge) s
+      below = upper n (converse ge) s
 
       of : (d : ℕ) → Among n d → Lower n ge s d → (c : ℕ) × IsGlb n ge s c
       of d w u =
-          let (c, b) = lub-of-set below d w (upper-iff n (turned ge) s d .1 u) in (
+          let (c, b) = lub-of-set below d w (upper-iff n (converse ge) s d .1 u) in (
             c,
             record {
               inside = b .inside;
-              over = λ x v p. b .least x v (λ y z q. upper-iff n (turned ge) s y .0 q x v p);
-              least = λ y v q. b .over y v (upper-iff n (turned ge) s y .1 q);
+              over = λ x v p. b .least x v (λ y z q. upper-iff n (converse ge) s y .0 q x v p);
+              least = λ y v q. b .over y v (upper-iff n (converse ge) s y .1 q);
             },
           )

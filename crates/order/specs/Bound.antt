@@ -2,7 +2,7 @@
 --     lub n ge s                    the least upper bound of s, or 0
 --     glb n ge s                    the greatest lower bound: the least upper bound in the order turned round
 --     partnerWithoutBound n ge a    the lowest b after a with which a has no least upper bound, or 0
---     unjoined n ge                 the lowest a with such a b, or 0: with it, the first pair without a least upper bound
+--     lowestWithoutBound n ge       the lowest a with such a b, or 0: with it, the first pair without a least upper bound
 --     IsLub, IsGlb, Joined, FirstPair say the same as properties
 -- Assumes nothing.
 use Prim.Native.Nat.{ℕ, _<_}
@@ -26,28 +26,28 @@ least n ge s = first n (isLeast n ge s)
 unfoldable pub lub : ℕ → Relation → (ℕ → Bool) → ℕ
 lub n ge s = least n ge (upper n ge s)
 
-abbrev pub turned : Relation → Relation
-turned ge a b = ge b a
+abbrev pub converse : Relation → Relation
+converse ge a b = ge b a
 
 abbrev pub glb : ℕ → Relation → (ℕ → Bool) → ℕ
-glb n ge s = lub n (turned ge) s
+glb n ge s = lub n (converse ge) s
 
 -- the set of a and b
 abbrev pub pair : ℕ → ℕ → ℕ → Bool
 pair a b x = eqb x a || eqb x b
 
-unfoldable pub apart : ℕ → Relation → ℕ → ℕ → Bool
-apart n ge a b = ltb a b && eqb (lub n ge (pair a b)) 0
+unfoldable pub withoutBound : ℕ → Relation → ℕ → ℕ → Bool
+withoutBound n ge a b = ltb a b && eqb (lub n ge (pair a b)) 0
 
 unfoldable pub partnerWithoutBound : ℕ → Relation → ℕ → ℕ
-partnerWithoutBound n ge a = first n (apart n ge a)
+partnerWithoutBound n ge a = first n (withoutBound n ge a)
 
-unfoldable pub unjoined : ℕ → Relation → ℕ
-unjoined n ge = first n (λ a. ltb 0 (partnerWithoutBound n ge a))
+unfoldable pub lowestWithoutBound : ℕ → Relation → ℕ
+lowestWithoutBound n ge = first n (λ a. ltb 0 (partnerWithoutBound n ge a))
 
 -- what a search for the first pair answers: its lower and its higher thing, or 0 and 0
-pub record FirstApart (n : ℕ) (ge : Relation) (a b : ℕ) : Type 0 where
-  pub lower : a ≡ unjoined n ge
+pub record FirstWithoutBound (n : ℕ) (ge : Relation) (a b : ℕ) : Type 0 where
+  pub lower : a ≡ lowestWithoutBound n ge
   pub higher : b ≡ cond (ltb 0 a) (partnerWithoutBound n ge a) 0
 
 -- ---- the same as properties
@@ -63,11 +63,11 @@ pub record IsLub (n : ℕ) (ge : Relation) (s : ℕ → Bool) (c : ℕ) : Type 0
 
 -- c is under each of s
 abbrev pub Lower : ℕ → Relation → (ℕ → Bool) → ℕ → Type 0
-Lower n ge s c = Upper n (turned ge) s c
+Lower n ge s c = Upper n (converse ge) s c
 
 -- c is under each of s, and over whatever else is
 abbrev pub IsGlb : ℕ → Relation → (ℕ → Bool) → ℕ → Type 0
-IsGlb n ge s c = IsLub n (turned ge) s c
+IsGlb n ge s c = IsLub n (converse ge) s c
 
 -- a and b have a least upper bound
 abbrev pub Joined : ℕ → Relation → ℕ → ℕ → Type 0
@@ -82,6 +82,6 @@ pub record FirstPair (n : ℕ) (ge : Relation) (a b : ℕ) : Type 0 where
   pub lower : Among n a
   pub higher : Among n b
   pub rising : a < b
-  pub apart : Joined n ge a b → ⊥
+  pub withoutBound : Joined n ge a b → ⊥
   pub earlier : (x y : ℕ) → Among n x → Among n y → x < y → x < a → Joined n ge x y
   pub sooner : (y : ℕ) → Among n y → a < y → y < b → Joined n ge a y

@@ -7,7 +7,7 @@ ghost use mathlib.Core.Bool.{true, false, _&&_};
 ghost use Prim.Native.Nat.{ℕ, _+_, _≤_, _<_, min};
 ghost use lib.Dec.{leb};
 ghost use Rattle.search.specs.Search.{Among, among, every, implies};
-ghost use Rattle.order.specs.Bound.{upper, least, glb, turned, partnerWithoutBound, FirstApart};
+ghost use Rattle.order.specs.Bound.{upper, least, glb, converse, partnerWithoutBound, FirstWithoutBound};
 ghost use Rattle.order.specs.Table.{marks, mark};
 
 // The set of the first n things.
@@ -61,7 +61,7 @@ fn leads(s: [bool; 32], under: [bool; 32], among: bool) -> bool
 
 // The greatest of the set, or 0. Where several are over all of it, the lowest number of them.
 fn greatest(t: &[[bool; 32]; 32], s: &[bool; 32]) -> usize
-    ensures { λ r. ⌜ r ≡ least 32 (turned (mark (now (t .entry)))) (marks (now (s .entry))) ⌝ }
+    ensures { λ r. ⌜ r ≡ least 32 (converse (mark (now (t .entry)))) (marks (now (s .entry))) ⌝ }
 {
     let set = *s;
     let mut i = 0;
@@ -87,7 +87,7 @@ fn narrowed(s: [bool; 32], under: [bool; 32], on: bool) -> [bool; 32]
 
 // The lower bounds of the set among the first n things.
 fn lower_bounds(t: &[[bool; 32]; 32], n: usize, s: [bool; 32]) -> [bool; 32]
-    ensures { λ r. ⌜ ((c : ℕ) → Among 32 c → marks r c ≡ (leb c (min n 32) && upper (min n 32) (turned (mark (now (t .entry)))) (marks s) c)) ⌝ }
+    ensures { λ r. ⌜ ((c : ℕ) → Among 32 c → marks r c ≡ (leb c (min n 32) && upper (min n 32) (converse (mark (now (t .entry)))) (marks s) c)) ⌝ }
 {
     let m = super::marks::lesser(n, 32);
     let mut r = first_things(m);
@@ -124,8 +124,8 @@ fn column(t: &[[bool; 32]; 32], j: usize) -> [bool; 32]
 }
 
 // The order turned round.
-pub fn turned(t: [[bool; 32]; 32]) -> [[bool; 32]; 32]
-    ensures { λ r. ⌜ ((a b : ℕ) → Among 32 a → Among 32 b → mark r a b ≡ turned (mark t) a b) ⌝ }
+pub fn converse(t: [[bool; 32]; 32]) -> [[bool; 32]; 32]
+    ensures { λ r. ⌜ ((a b : ℕ) → Among 32 a → Among 32 b → mark r a b ≡ converse (mark t) a b) ⌝ }
 {
     let mut r = t;
     let mut j = 0;
@@ -139,7 +139,7 @@ pub fn turned(t: [[bool; 32]; 32]) -> [[bool; 32]; 32]
 // The greatest of what s and the row of thing j + 1 have in common, or 0.
 fn greatest_common(t: &[[bool; 32]; 32], s: [bool; 32], j: usize) -> usize
     requires { ⌜ j < 32 ⌝ }
-    ensures { λ r. ⌜ r ≡ least 32 (turned (mark (now (t .entry)))) (λ a. marks s a && mark (now (t .entry)) (j + 1) a) ⌝ }
+    ensures { λ r. ⌜ r ≡ least 32 (converse (mark (now (t .entry)))) (λ a. marks s a && mark (now (t .entry)) (j + 1) a) ⌝ }
 {
     let row = t[j];
     let both = common(s, row);
@@ -150,7 +150,7 @@ fn greatest_common(t: &[[bool; 32]; 32], s: [bool; 32], j: usize) -> usize
 // in the order that was turned round.
 fn partner(up: &[[bool; 32]; 32], m: usize, i: usize) -> usize
     requires { ⌜ (m ≤ 32) × (i < m) ⌝ }
-    ensures { λ r. ⌜ r ≡ partnerWithoutBound m (turned (mark (now (up .entry)))) (i + 1) ⌝ }
+    ensures { λ r. ⌜ r ≡ partnerWithoutBound m (converse (mark (now (up .entry)))) (i + 1) ⌝ }
 {
     let over = up[i];
     let bounds = common(first_things(m), over);
@@ -172,10 +172,10 @@ pub struct Pair {
 
 // The first pair among the first n things that has no least upper bound.
 pub fn first_pair(t: [[bool; 32]; 32], n: usize) -> Pair
-    ensures { λ r. ⌜ FirstApart (min n 32) (mark t) (r .lower) (r .higher) ⌝ }
+    ensures { λ r. ⌜ FirstWithoutBound (min n 32) (mark t) (r .lower) (r .higher) ⌝ }
 {
     let m = super::marks::lesser(n, 32);
-    let up = turned(t);
+    let up = converse(t);
     let mut i = 0;
     while i < m {
         let higher = partner(&up, m, i);

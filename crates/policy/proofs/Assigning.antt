@@ -11,7 +11,7 @@ use borrow.Author.Tests.{ne-eqb, le-leb}
 use Rattle.search.specs.Search.{Among, among}
 use Rattle.search.proofs.Truth.{and-iff, among-iff, same}
 use Rattle.order.specs.Closure.{Relation}
-use Rattle.order.specs.Bound.{turned}
+use Rattle.order.specs.Bound.{converse}
 use Rattle.rolefile.specs.declared.Verdict.{Verdict}
 use Rattle.rolefile.specs.Line.{A, lineAt, lines}
 use Rattle.rolefile.specs.Form.{refusal, header, scan}
@@ -23,7 +23,7 @@ use Rattle.rolefile.proofs.Sections.{part, Section, told}
 use Rattle.rolefile.proofs.Within.{scan-within}
 use Rattle.policy.specs.declared.Level.{Level}
 use Rattle.policy.specs.declared.Level.the-variants.{Free, Label, Undefined}
-use Rattle.policy.specs.Policy.{dominates, mayAt, level, rLevel, wLevel, passes, isDefined, shown}
+use Rattle.policy.specs.Policy.{dominates, mayAt, level, rLevel, wLevel, passes, isDefined, levelNumber}
 use Rattle.policy.specs.Tables.{dominanceAt, clearancesAt, rLevelsAt, wLevelsAt, byteOf, marked, assignByTables}
 use Rattle.policy.specs.Image.{Labelled, Dominating, Levelled}
 use Rattle.policy.specs.Verdict.{assignVerdict, assignmentVerdict}
@@ -43,20 +43,20 @@ tables-clean xs u r =
 -- ---- a level as it is kept: no label is 0 or 99
 
 module _ (n : ℕ) (ge : Relation) (s : ℕ → Bool) (few : n ≤ 32) where
-  pub defined-shown : not (eqb (shown (level n ge s)) 99) ≡ isDefined (level n ge s)
-  defined-shown = go (level n ge s) (level-tells n ge s)
+  pub defined-number : not (eqb (levelNumber (level n ge s)) 99) ≡ isDefined (level n ge s)
+  defined-number = go (level n ge s) (level-tells n ge s)
     where
-      go : (l : Level) → Tells n ge s l → not (eqb (shown l) 99) ≡ isDefined l
+      go : (l : Level) → Tells n ge s l → not (eqb (levelNumber l) 99) ≡ isDefined l
       go Free t = refl
       go (Label c) (h, b) = rw (ne-eqb c 99 (λ e. omega (arith, b .inside)))
       go Undefined t = refl
 
   -- what a test of the number kept says, where it agrees with p on the labels
-  pub passes-shown : (test p : ℕ → Bool) → test 99 ≡ false → ((l : ℕ) → Among n l → test l ≡ p l)
-      → (eqb (shown (level n ge s)) 0 || test (shown (level n ge s))) ≡ passes p (level n ge s)
-  passes-shown test p none agree = go (level n ge s) (level-tells n ge s)
+  pub passes-number : (test p : ℕ → Bool) → test 99 ≡ false → ((l : ℕ) → Among n l → test l ≡ p l)
+      → (eqb (levelNumber (level n ge s)) 0 || test (levelNumber (level n ge s))) ≡ passes p (level n ge s)
+  passes-number test p none agree = go (level n ge s) (level-tells n ge s)
     where
-      go : (l : Level) → Tells n ge s l → (eqb (shown l) 0 || test (shown l)) ≡ passes p l
+      go : (l : Level) → Tells n ge s l → (eqb (levelNumber l) 0 || test (levelNumber l)) ≡ passes p l
       go Free t = refl
       go (Label c) (h, b) = rw (ne-eqb c 0 (λ e. omega (arith, b .inside))) (agree c (b .inside))
       go Undefined t = none
@@ -108,10 +108,10 @@ module _ (f ys : List ℕ) (counts : GoodCounts (header f)) (between : Between (
           labelled .users u v,
           levelled .reads r w,
           levelled .writes r w,
-          defined-shown (labels f) (turned (dominates f)) (mayAt f 2 r) (counts .labels .1),
-          passes-shown (labels f) (dominates f) (mayAt f 1 r) (counts .labels .1) (marked ys c) (dominates f c)
+          defined-number (labels f) (converse (dominates f)) (mayAt f 2 r) (counts .labels .1),
+          passes-number (labels f) (dominates f) (mayAt f 1 r) (counts .labels .1) (marked ys c) (dominates f c)
               (and-false (among 32 c)) (λ l i. marked-is c l (inr i)),
-          passes-shown (labels f) (turned (dominates f)) (mayAt f 2 r) (counts .labels .1) (λ l. marked ys l c) (λ l. dominates f l c)
+          passes-number (labels f) (converse (dominates f)) (mayAt f 2 r) (counts .labels .1) (λ l. marked ys l c) (λ l. dominates f l c)
               refl (λ l i. marked-is l c (inl i)),
         )
       where

@@ -10,9 +10,9 @@ use lib.Dec.{eqb}
 use borrow.Author.Tests.{eqb-true, eq-eqb}
 use Rattle.search.proofs.Truth.{untrue, both}
 use Rattle.order.specs.Closure.{Relation, path, closure, circle, OnCircle, PartialOrder}
-use Rattle.order.specs.Bound.{turned, unjoined, partnerWithoutBound, AllJoined, FirstPair}
+use Rattle.order.specs.Bound.{converse, lowestWithoutBound, partnerWithoutBound, AllJoined, FirstPair}
 use Rattle.order.proofs.Closure.{circle-finds, circle-none}
-use Rattle.order.proofs.Bound.{unjoined-none, unjoined-first}
+use Rattle.order.proofs.Bound.{lowest-without-none, lowest-without-first}
 use Rattle.rolefile.specs.declared.Verdict.{Verdict}
 use Rattle.rolefile.specs.Line.{A, lineAt}
 use Rattle.rolefile.specs.Form.{fine, refusal, found}
@@ -23,7 +23,7 @@ use Rattle.rolefile.proofs.Decides.{cond-decides, fine-decides, test-decides, u
 use Rattle.policy.specs.Policy.{dominates, mayAt, rLevel, wLevel, passes, isDefined}
 use Rattle.policy.specs.Verdict.{assignVerdict, assignmentVerdict}
 use Rattle.policy.specs.Accepted.{ReadsUnder, WritesOver, NoWriteLevel, Assigned, GoodOrder, AssignRefused, noLevel, readsMore, writesLess}
-use Rattle.policy.proofs.Levels.{turned-order, defined-iff, boundless, passing-bounded, passes-iff}
+use Rattle.policy.proofs.Levels.{converse-order, defined-iff, without-bound, passing-bounded, passes-iff}
 
 -- ---- 11 and 13
 
@@ -62,34 +62,34 @@ module _ (n : ℕ) (ge : Relation) where
       omega arith
     where
       lower : (a b c d : ℕ) → FirstPair n ge a b → FirstPair n ge c d → a < c → ⊥
-      lower a b c d h g l = h .apart (g .earlier a b (h .lower) (h .higher) (h .rising) l)
+      lower a b c d h g l = h .withoutBound (g .earlier a b (h .lower) (h .higher) (h .rising) l)
 
       higher : (a b d : ℕ) → FirstPair n ge a b → FirstPair n ge a d → b < d → ⊥
-      higher a b d h g l = h .apart (g .sooner b (h .higher) (h .rising) l)
+      higher a b d h g l = h .withoutBound (g .sooner b (h .higher) (h .rising) l)
 
   abbrev pub PairRefusal : Verdict → Type 0
   PairRefusal v = (a : ℕ) × (b : ℕ) × FirstPair n ge a b × (v ≡ refusal 12 a b)
 
   pub pair-decides : PartialOrder n ge
-      → Decides (found (unjoined n ge) (refusal 12 (unjoined n ge) (partnerWithoutBound n ge (unjoined n ge)))) (AllJoined n ge) PairRefusal
+      → Decides (found (lowestWithoutBound n ge) (refusal 12 (lowestWithoutBound n ge) (partnerWithoutBound n ge (lowestWithoutBound n ge)))) (AllJoined n ge) PairRefusal
   pair-decides o =
-      decides-as (found-decides low (refusal 12 low high) (omega arith)) (unjoined-none n ge o)
+      decides-as (found-decides low (refusal 12 low high) (omega arith)) (lowest-without-none n ge o)
       (λ v. (
         λ (z, e). (low, high, pair z, e),
         λ (a, b, h, e).
-            let z : low ≡ 0 → ⊥ = λ z. h .apart (unjoined-none n ge o .0 z a b (h .lower) (h .higher)) in
+            let z : low ≡ 0 → ⊥ = λ z. h .withoutBound (lowest-without-none n ge o .0 z a b (h .lower) (h .higher)) in
             let (p, q) = first-pair a b low high h (pair z) in
             (z, e ∙ rw (p, q)),
       ))
     where
       low : ℕ
-      low = unjoined n ge
+      low = lowestWithoutBound n ge
 
       high : ℕ
       high = partnerWithoutBound n ge low
 
       pair : (low ≡ 0 → ⊥) → FirstPair n ge low high
-      pair z = unjoined-first n ge low (omega arith) refl
+      pair z = lowest-without-first n ge low (omega arith) refl
 
 -- ---- 14 to 16
 
@@ -108,11 +108,11 @@ module _ (f : List ℕ) (o : PartialOrder (labels f) (dominates f)) where
   unfolding assignVerdict rLevel wLevel
   assign-decides u r =
       decides-as
-      (unless-decides (defined-iff (labels f) (turned (dominates f)) (mayAt f 2 r)) (refusal 14 u r) (omega arith) (λ d.
+      (unless-decides (defined-iff (labels f) (converse (dominates f)) (mayAt f 2 r)) (refusal 14 u r) (omega arith) (λ d.
       unless-decides (passes-iff (labels f) (dominates f) (mayAt f 1 r) o (λ l. dominates f (clearance f u) l)) (refusal 15 u r) (omega arith) (λ p.
-      test-decides (passes-iff (labels f) (turned (dominates f)) (mayAt f 2 r) (turned-order o) writes) (refusal 16 u r) (omega arith)))) (
+      test-decides (passes-iff (labels f) (converse (dominates f)) (mayAt f 2 r) (converse-order o) writes) (refusal 16 u r) (omega arith)))) (
         λ (d, (p, q)). record { reads = p; writes = q },
-        λ a. (passing-bounded (labels f) (turned (dominates f)) (mayAt f 2 r) writes (a .writes), (a .reads, a .writes)),
+        λ a. (passing-bounded (labels f) (converse (dominates f)) (mayAt f 2 r) writes (a .writes), (a .reads, a .writes)),
       )
       (λ v. (to v, λ (n, b, e). of b v e))
     where
@@ -124,7 +124,7 @@ module _ (f : List ℕ) (o : PartialOrder (labels f) (dominates f)) where
           (Else (Fails (ReadsUnder f u r) (refusal 15 u r)) (ReadsUnder f u r) (Fails (WritesOver f u r) (refusal 16 u r)))
 
       to : (v : Verdict) → Why v → AssignRefusal f u r v
-      to v (inl (d, e)) = (14, noLevel (boundless (labels f) (turned (dominates f)) (mayAt f 2 r) d), e)
+      to v (inl (d, e)) = (14, noLevel (without-bound (labels f) (converse (dominates f)) (mayAt f 2 r) d), e)
       to v (inr (d, inl (h, e))) = (15, readsMore d h, e)
       to v (inr (d, inr (p, (h, e)))) = (16, writesLess d p h, e)
 

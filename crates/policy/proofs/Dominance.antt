@@ -11,10 +11,10 @@ use Rattle.search.specs.Search.{Among}
 use Rattle.search.proofs.Truth.{and-iff, untrue}
 use Rattle.search.proofs.Found.{some-iff, first-agree}
 use Rattle.order.specs.Closure.{Relation, path, loop, circle}
-use Rattle.order.specs.Bound.{partnerWithoutBound, unjoined, FirstApart}
+use Rattle.order.specs.Bound.{partnerWithoutBound, lowestWithoutBound, FirstWithoutBound}
 use Rattle.order.specs.Table.{mark, Rows, reflexive}
 use Rattle.order.proofs.Closure.{via-agree}
-use Rattle.order.proofs.Bound.{first-apart-agree}
+use Rattle.order.proofs.Bound.{first-without-agree}
 use Rattle.rolefile.specs.Line.{D, fields}
 use Rattle.rolefile.specs.Form.{refusal, found, header}
 use Rattle.rolefile.specs.Said.{labels, over}
@@ -64,9 +64,9 @@ closed-of f t c p rows a b v w = elim (decLt (labels f) a) [
 -- ---- 11 and 12
 
 -- the first pair that was found is refused
-pub apart-verdict : (n : ℕ) (ge : Relation) (a b : ℕ) → FirstApart n ge a b
-    → found (unjoined n ge) (refusal 12 (unjoined n ge) (partnerWithoutBound n ge (unjoined n ge))) ≡ found a (refusal 12 a b)
-apart-verdict n ge a b h = rw (← (h .lower)) (go a (h .higher))
+pub pair-verdict : (n : ℕ) (ge : Relation) (a b : ℕ) → FirstWithoutBound n ge a b
+    → found (lowestWithoutBound n ge) (refusal 12 (lowestWithoutBound n ge) (partnerWithoutBound n ge (lowestWithoutBound n ge))) ≡ found a (refusal 12 a b)
+pair-verdict n ge a b h = rw (← (h .lower)) (go a (h .higher))
   where
     go : (a : ℕ) → b ≡ cond (ltb 0 a) (partnerWithoutBound n ge a) 0 → found a (refusal 12 a (partnerWithoutBound n ge a)) ≡ found a (refusal 12 a b)
     go zero e = refl
@@ -76,7 +76,7 @@ pub order-verdict-is : (f : List ℕ) (t c : List (List Bool)) → labels f ≤ 
     → orderVerdict (labels f) (mark t) (mark c) ≡ labelVerdict f
 unfolding orderVerdict labelVerdict
 order-verdict-is f t c few p closed =
-    rw (loops, apart-verdict n (mark c) a b here, apart-verdict n (dominates f) a b (first-apart-agree n (mark c) (dominates f) agree a b here))
+    rw (loops, pair-verdict n (mark c) a b here, pair-verdict n (dominates f) a b (first-without-agree n (mark c) (dominates f) agree a b here))
   where
     n : ℕ
     n = labels f
@@ -88,10 +88,10 @@ order-verdict-is f t c few p closed =
     agree a b v w = closed a b (omega arith) (omega arith) ∙ rw (le-leb a n (v .1))
 
     a : ℕ
-    a = unjoined n (mark c)
+    a = lowestWithoutBound n (mark c)
 
     b : ℕ
     b = cond (ltb 0 a) (partnerWithoutBound n (mark c) a) 0
 
-    here : FirstApart n (mark c) a b
+    here : FirstWithoutBound n (mark c) a b
     here = record { lower = refl; higher = refl }

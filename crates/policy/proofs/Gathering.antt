@@ -16,7 +16,7 @@ use Rattle.order.specs.Closure.{Relation}
 use Rattle.order.specs.Bound.{lub}
 use Rattle.order.proofs.Bound.{lub-same-set}
 use Rattle.order.proofs.Stored.{place}
-use Rattle.policy.specs.Policy.{levelAt, level, shown}
+use Rattle.policy.specs.Policy.{levelAt, level, levelNumber}
 use Rattle.policy.specs.Tables.{byteOf, rowOf, cardLabelsAt, gathered}
 use Rattle.policy.proofs.Relating.{others-stay}
 
@@ -58,18 +58,18 @@ gathered-yet xs at l r = refl
 -- ---- the level of a set, as it is kept
 
 module _ (n : ℕ) (ge : Relation) (s : ℕ → Bool) where
-  pub level-empty : some n s ≡ false → 0 ≡ shown (level n ge s)
+  pub level-empty : some n s ≡ false → 0 ≡ levelNumber (level n ge s)
   unfolding level
   level-empty e = rw e
 
-  bounded : (b : ℕ) → some n s ≡ true → b ≡ lub n ge s → shown (levelAt b) ≡ shown (level n ge s)
+  bounded : (b : ℕ) → some n s ≡ true → b ≡ lub n ge s → levelNumber (levelAt b) ≡ levelNumber (level n ge s)
   unfolding level
   bounded b e q = rw (e, q)
 
-  pub level-undefined : (b : ℕ) → some n s ≡ true → b ≡ lub n ge s → b ≡ 0 → 99 ≡ shown (level n ge s)
+  pub level-undefined : (b : ℕ) → some n s ≡ true → b ≡ lub n ge s → b ≡ 0 → 99 ≡ levelNumber (level n ge s)
   level-undefined b e q z = rw z at (bounded b e q)
 
-  pub level-bound : (b : ℕ) → some n s ≡ true → b ≡ lub n ge s → (b ≡ 0 → ⊥) → b ≡ shown (level n ge s)
+  pub level-bound : (b : ℕ) → some n s ≡ true → b ≡ lub n ge s → (b ≡ 0 → ⊥) → b ≡ levelNumber (level n ge s)
   level-bound zero e q ne = absurd (ne refl)
   level-bound (suc b) e q ne = bounded (suc b) e q
 

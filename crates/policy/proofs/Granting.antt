@@ -16,7 +16,7 @@ use Rattle.search.proofs.Found.{some-of, some-iff, some-none, some-agree}
 use Rattle.roleset.specs.Row.{member}
 use Rattle.roleset.proofs.Rows.{member-of, no-bits, same-bytes}
 use Rattle.order.specs.Closure.{Relation}
-use Rattle.order.specs.Bound.{turned}
+use Rattle.order.specs.Bound.{converse}
 use Rattle.order.specs.Table.{mark}
 use Rattle.order.proofs.Closure.{Agree}
 use Rattle.order.proofs.Bound.{lub-agree}
@@ -28,9 +28,9 @@ use Rattle.rolefile.specs.Section.{one, two, three}
 use Rattle.rolefile.specs.WellFormed.{GoodCounts}
 use Rattle.rolefile.proofs.Sections.{part, Section, says-three}
 use Rattle.policy.specs.declared.build.Parts.{Parts}
-use Rattle.policy.specs.Policy.{dominates, senior, may, mayAt, level, rLevel, wLevel, shown}
+use Rattle.policy.specs.Policy.{dominates, senior, may, mayAt, level, rLevel, wLevel, levelNumber}
 use Rattle.policy.specs.Tables.{dominanceAt, cardLabelsAt, rLevelsAt, wLevelsAt, seniorsAt, readersAt, writersAt, byteOf, rowOf, Kept}
-use Rattle.policy.specs.Tables.{granted, gathered, Bytes, Granted}
+use Rattle.policy.specs.Tables.{grantedByLines, gathered, Bytes, GrantedRows}
 use Rattle.policy.specs.Image.{Labelled, Seniors, Permitting}
 use Rattle.policy.specs.Stages.{Ready, Zeros, Closed, Granting}
 use Rattle.policy.proofs.Readying.{Good, good-of, counts-of, section-p, one-within, limits-p}
@@ -86,8 +86,8 @@ module _ (f xs : List ℕ) (good : Good f) (few : roles f ≤ 128) (seniors : Se
   senior-row : (q r : ℕ) → Among (roles f) q → Among 128 r → (among 128 q && member xs (rowOf seniorsAt q) r) ≡ senior f r q
   senior-row q r v w = rw (among-iff 128 q .1 (omega arith), seniors q r (omega arith) w, le-leb q (roles f) (v .1))
 
-  pub may-is : (d o r : ℕ) → Among 128 r → granted xs (part f j) m d o r ≡ may f d r o
-  unfolding granted may
+  pub may-is : (d o r : ℕ) → Among 128 r → grantedByLines xs (part f j) m d o r ≡ may f d r o
+  unfolding grantedByLines may
   may-is d o r w =
       some-agree
       (λ i. eqb (two p i) o && (eqb (three p i) d && (among 128 (one p i) && member xs (rowOf seniorsAt (one p i)) r)))
@@ -105,7 +105,7 @@ module _ (f xs : List ℕ) (good : Good f) (few : roles f ≤ 128) (seniors : Se
       line : ℕ → Bool
       line i = eqb (two p i) o && eqb (three p i) d
 
-  pub permitted : (ys : List ℕ) → Granted (granted xs (part f j) m) xs ys → Zeros readersAt 28688 xs → Permitting f ys
+  pub permitted : (ys : List ℕ) → GrantedRows (grantedByLines xs (part f j) m) xs ys → Zeros readersAt 28688 xs → Permitting f ys
   permitted ys g zeros = record {
     readers = λ o r v w. g .readers o r v w ∙ rw (none readersAt o r (omega arith) v) (may-is 1 o r w);
     writers = λ o r v w. g .writers o r v w ∙ rw (none writersAt o r (omega arith) v) (may-is 2 o r w);
@@ -149,16 +149,16 @@ module _ (f : List ℕ) (between : Between (roles f) (above f)) (r : ℕ) (past 
   unfolding mayAt
   no-label d l = some-none (λ o. may f d r o && eqb (cardLabel f o) l) (cards f) .1 (λ o w. rw (no-card d o))
 
-  free-past : (n d : ℕ) (ge : Relation) → 0 ≡ shown (level n ge (mayAt f d r))
+  free-past : (n d : ℕ) (ge : Relation) → 0 ≡ levelNumber (level n ge (mayAt f d r))
   free-past n d ge = level-empty n ge (mayAt f d r) (some-none (mayAt f d r) n .1 (λ l w. no-label d l))
 
 -- a table of levels: the roles' are stored, and the others stay 0
 module _ (f : List ℕ) (counts : GoodCounts (header f)) (between : Between (roles f) (above f)) (d at : ℕ) (ge le : Relation) (g xs ys : List ℕ) where
   pub levels-are : Agree (labels f) (labels f) ge le
       → ((l r : ℕ) → Among 32 l → Among 128 r → member g (rowOf 0 l) r ≡ mayAt f d r l)
-      → Bytes at (roles f) (λ r. shown (level (labels f) ge (λ l. member g (rowOf 0 l) r))) xs ys
+      → Bytes at (roles f) (λ r. levelNumber (level (labels f) ge (λ l. member g (rowOf 0 l) r))) xs ys
       → Zeros at (at + 128) xs
-      → (r : ℕ) → Among 128 r → byteOf ys at r ≡ shown (level (labels f) le (mayAt f d r))
+      → (r : ℕ) → Among 128 r → byteOf ys at r ≡ levelNumber (level (labels f) le (mayAt f d r))
   levels-are order set put zeros r w = elim (decLt (roles f) r) [
     | yes l ↦
         put .rest (at + (r - 1)) (λ m. omega arith)
@@ -166,7 +166,7 @@ module _ (f : List ℕ) (counts : GoodCounts (header f)) (between : Between (rol
         ∙ free-past f between r l (labels f) d le
     | no l ↦
         put .bytes r (omega arith)
-        ∙ ap shown (level-agree (labels f) ge le (λ l. member g (rowOf 0 l) r) (mayAt f d r) order (λ l v. set l r (omega (arith, counts .labels)) w))
+        ∙ ap levelNumber (level-agree (labels f) ge le (λ l. member g (rowOf 0 l) r) (mayAt f d r) order (λ l v. set l r (omega (arith, counts .labels)) w))
   ]
 
 -- ---- the whole stage, from x₀: the table of dominance, the lines' permissions, the levels of reading and those of writing
@@ -181,12 +181,12 @@ module _ (f : List ℕ) (q : Parts) (h : Line) (t up : List (List Bool)) (x₀ x
     (labelled : Labelled f x₀) (seniors : Seniors f x₀) (closed : Closed f t) (no-level : Zeros 1808 2064 x₀) (no-role : Zeros 12304 28688 x₀)
     (table : (a b : ℕ) → Among 32 a → Among 32 b → getD x₁ (dominanceAt + (32 * (a - 1) + (b - 1))) 0 ≡ cond (mark t a b) 1 0)
     (kept : Kept 16 1040 x₀ x₁)
-    (grants : Granted (granted x₁ (part f (q .p .start)) (q .p .count)) x₁ x₂)
-    (turns : Agree 32 32 (mark up) (turned (mark t)))
+    (grants : GrantedRows (grantedByLines x₁ (part f (q .p .start)) (q .p .count)) x₁ x₂)
+    (turns : Agree 32 32 (mark up) (converse (mark t)))
     (reads : (l r : ℕ) → Among 32 l → Among 128 r → member reading (rowOf 0 l) r ≡ gathered x₂ readersAt (h .d) l r)
-    (read-levels : Bytes rLevelsAt (h .b) (λ r. shown (level (h .a) (turned (mark up)) (λ l. member reading (rowOf 0 l) r))) x₂ x₃)
+    (read-levels : Bytes rLevelsAt (h .b) (λ r. levelNumber (level (h .a) (converse (mark up)) (λ l. member reading (rowOf 0 l) r))) x₂ x₃)
     (writes : (l r : ℕ) → Among 32 l → Among 128 r → member writing (rowOf 0 l) r ≡ gathered x₃ writersAt (h .d) l r)
-    (write-levels : Bytes wLevelsAt (h .b) (λ r. shown (level (h .a) (turned (mark t)) (λ l. member writing (rowOf 0 l) r))) x₃ x₄) where
+    (write-levels : Bytes wLevelsAt (h .b) (λ r. levelNumber (level (h .a) (converse (mark t)) (λ l. member writing (rowOf 0 l) r))) x₃ x₄) where
   good : Good f
   good = good-of f (ready .lines)
 
@@ -230,21 +230,21 @@ module _ (f : List ℕ) (q : Parts) (h : Line) (t up : List (List Bool)) (x₀ x
   dominance : Agree (labels f) (labels f) (mark t) (dominates f)
   dominance a b v w = closed a b (omega (arith, counts .labels)) (omega (arith, counts .labels)) ∙ rw (le-leb a (labels f) (v .1))
 
-  upward : Agree (labels f) (labels f) (turned (mark up)) (dominates f)
+  upward : Agree (labels f) (labels f) (converse (mark up)) (dominates f)
   upward a b v w = turns b a (omega (arith, counts .labels)) (omega (arith, counts .labels)) ∙ dominance a b v w
 
-  read₃ : (r : ℕ) → Among 128 r → byteOf x₃ rLevelsAt r ≡ shown (rLevel f r)
+  read₃ : (r : ℕ) → Among 128 r → byteOf x₃ rLevelsAt r ≡ levelNumber (rLevel f r)
   unfolding rLevel
   read₃ =
-      levels-are f counts between 1 rLevelsAt (turned (mark up)) (dominates f) reading x₂ x₃ upward
+      levels-are f counts between 1 rLevelsAt (converse (mark up)) (dominates f) reading x₂ x₃ upward
       (λ l r v w. rw (ready .head) at reads l r v w ∙ may-at-is f x₂ (counts .cards) labels₂ 1 readersAt (permitting₂ .readers) l r w)
       (rw (ready .head) at read-levels)
       (λ i l m. zeros₂ i (omega arith) (omega arith))
 
-  written₄ : (r : ℕ) → Among 128 r → byteOf x₄ wLevelsAt r ≡ shown (wLevel f r)
+  written₄ : (r : ℕ) → Among 128 r → byteOf x₄ wLevelsAt r ≡ levelNumber (wLevel f r)
   unfolding wLevel
   written₄ =
-      levels-are f counts between 2 wLevelsAt (turned (mark t)) (turned (dominates f)) writing x₃ x₄ (λ a b v w. dominance b a w v)
+      levels-are f counts between 2 wLevelsAt (converse (mark t)) (converse (dominates f)) writing x₃ x₄ (λ a b v w. dominance b a w v)
       (λ l r v w. rw (ready .head) at writes l r v w ∙ may-at-is f x₃ (counts .cards) labels₃ 2 writersAt (permitting₃ .writers) l r w)
       (rw (ready .head) at write-levels)
       (λ i l m. kept₃ i (λ n. omega arith) ∙ zeros₂ i (omega arith) (omega arith))

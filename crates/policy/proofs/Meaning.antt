@@ -58,9 +58,9 @@ module _ (f : List ℕ) (form : WellFormed f) where
 
 module _ (f : List ℕ) where
   -- no role flows to itself, so a circle has two roles or more
-  pub flows-apart : (r : ℕ) → flows f r r ≡ false
+  pub flows-irreflexive : (r : ℕ) → flows f r r ≡ false
   unfolding flows
-  flows-apart r = rw (eq-eqb r r refl)
+  flows-irreflexive r = rw (eq-eqb r r refl)
 
   pub flow-circle-iff : (a : ℕ) → 1 ≤ a → (flowCircle f ≡ a) ↔ LowestOnCircle (roles f) (flows f) a
   unfolding flowCircle

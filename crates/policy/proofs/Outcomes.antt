@@ -5,7 +5,7 @@ use mathlib.Core.Logic.{_↔_, _⊎_, inl, inr, ⊎-elim}
 use mathlib.Core.List.{List}
 use native.Mathlib.Omega.{arith}
 use Rattle.order.specs.Closure.{Relation, circle}
-use Rattle.order.specs.Bound.{unjoined, partnerWithoutBound, AllJoined}
+use Rattle.order.specs.Bound.{lowestWithoutBound, partnerWithoutBound, AllJoined}
 use Rattle.rolefile.specs.declared.Verdict.{Verdict}
 use Rattle.rolefile.specs.Line.{U, O, lines}
 use Rattle.rolefile.specs.Form.{fine, refusal, _then_, scan, found}
@@ -54,7 +54,7 @@ verdict-decides : (f : List ℕ) → Decides (verdict f) (Accepted f) (Refusal f
 unfolding verdict policyVerdict labelVerdict orderVerdict roleVerdict dominates senior
 verdict-decides f =
     let a = circle (labels f) (over f) in
-    let b = unjoined (labels f) (dominates f) in
+    let b = lowestWithoutBound (labels f) (dominates f) in
     rw (then-joined (found a (refusal 11 a 0)) (found b (refusal 12 b (partnerWithoutBound (labels f) (dominates f) b)))
     (roleVerdict f then scan (lines f) (assignmentVerdict f)))
     (decides-when

@@ -15,7 +15,7 @@ use Rattle.roleset.specs.Row.{member}
 use Rattle.roleset.proofs.Rows.{member-of, no-bits}
 use Rattle.order.specs.Closure.{path, loop, circle}
 use Rattle.order.specs.Table.{related, reflexive, Tabled}
-use Rattle.order.proofs.Closure.{via-agree, via-turned}
+use Rattle.order.proofs.Closure.{via-agree, via-converse}
 use Rattle.rolefile.specs.declared.Line.{Line}
 use Rattle.rolefile.specs.declared.Verdict.{Verdict}
 use Rattle.rolefile.specs.Line.{S, fields}
@@ -77,7 +77,7 @@ module _ (f : List ℕ) (good : Good f) {j m : ℕ} (s : Section f S j m) (few :
     paths q r v w =
         pathed .rows (omega arith) .done q r v w
         ∙ via-agree (roles f) 128 (related ys seniorsAt) (λ a b. above f b a) few (λ a b x y. direct a b (omega arith) y) (roles f) (omega arith) q r v w
-        ∙ via-turned (above f) (roles f) q r
+        ∙ via-converse (above f) (roles f) q r
 
     pub role-circle : loop (roles f) (related zs seniorsAt) ≡ circle (roles f) (above f)
     role-circle = first-agree (λ a. related zs seniorsAt a a) (λ a. path (roles f) (above f) a a) (roles f) (λ a w. paths a a w (omega arith))

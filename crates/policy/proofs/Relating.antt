@@ -16,7 +16,7 @@ use Rattle.roleset.specs.Row.{member, added, joined, Placed}
 use Rattle.roleset.proofs.Rows.{other-row, same-bytes, whole-true}
 use Rattle.order.specs.Closure.{Relation}
 use Rattle.rolefile.specs.Section.{one, two, three}
-use Rattle.policy.specs.Tables.{rowOf, seniorsAt, readersAt, writersAt, Kept, pairs, granted, Related, Granted}
+use Rattle.policy.specs.Tables.{rowOf, seniorsAt, readersAt, writersAt, Kept, pairs, grantedByLines, Related, GrantedRows}
 
 -- two rows of one table do not overlap
 rows-apart : (at x y : ℕ) → 1 ≤ x → 1 ≤ y → (y ≡ x → ⊥) → (rowOf at y + 16 ≤ rowOf at x) ⊎ (rowOf at x + 16 ≤ rowOf at y)
@@ -88,21 +88,21 @@ pairs-none p x y = refl
 abbrev Said : Type 0
 Said = ℕ → ℕ → ℕ → Bool
 
-pub granted-none : (said : Said) (xs : List ℕ) → ((d o r : ℕ) → Among 2 d → Among 512 o → said d o r ≡ false) → Granted said xs xs
+pub granted-none : (said : Said) (xs : List ℕ) → ((d o r : ℕ) → Among 2 d → Among 512 o → said d o r ≡ false) → GrantedRows said xs xs
 granted-none said xs h = record {
   readers = λ o r v w. rw (h 1 o r (omega arith) v) (sym (or-false (member xs (rowOf readersAt o) r)));
   writers = λ o r v w. rw (h 2 o r (omega arith) v) (sym (or-false (member xs (rowOf writersAt o) r)));
   rest = λ i out. refl;
 }
 
-pub granted-as : {said told : Said} {xs ys : List ℕ} → ((d o r : ℕ) → said d o r ≡ told d o r) → Granted said xs ys → Granted told xs ys
+pub granted-as : {said told : Said} {xs ys : List ℕ} → ((d o r : ℕ) → said d o r ≡ told d o r) → GrantedRows said xs ys → GrantedRows told xs ys
 granted-as e t = record {
   readers = λ o r v w. rw (← (e 1 o r)) (t .readers o r v w);
   writers = λ o r v w. rw (← (e 2 o r)) (t .writers o r v w);
   rest = t .rest;
 }
 
-pub granted-more : {said more : Said} {xs ys zs : List ℕ} → Granted said xs ys → Granted more ys zs → Granted (λ d o r. said d o r || more d o r) xs zs
+pub granted-more : {said more : Said} {xs ys zs : List ℕ} → GrantedRows said xs ys → GrantedRows more ys zs → GrantedRows (λ d o r. said d o r || more d o r) xs zs
 granted-more {said} {more} {xs} t u = record {
   readers = λ o r v w. u .readers o r v w ∙ rw (t .readers o r v w) (or-assoc (member xs (rowOf readersAt o) r) (said 1 o r) (more 1 o r));
   writers = λ o r v w. u .writers o r v w ∙ rw (t .writers o r v w) (or-assoc (member xs (rowOf writersAt o) r) (said 2 o r) (more 2 o r));
@@ -145,7 +145,7 @@ module _ (role card mode : ℕ) (xs ys : List ℕ) (fits : 28688 ≤ length xs) 
   there d o r b ne = rw (ne-eqb mode d ne, unsaid (eqb card o) false refl) (sym (or-false b))
 
   pub granted-read : mode ≡ 1 → Placed (rowOf readersAt card) (joined xs (rowOf readersAt card) (rowOf seniorsAt role)) xs ys
-      → Granted (lineGrants xs role card mode) xs ys
+      → GrantedRows (lineGrants xs role card mode) xs ys
   granted-read e p = record {
     readers = λ o r u t. row-joined readersAt writersAt role card xs ys fits v w p (omega arith) o r u ∙ ap (λ b. member xs (rowOf readersAt o) r || b) (here 1 o r e);
     writers = λ o r u t. row-apart readersAt writersAt role card xs ys fits v w p (inl (omega arith)) o r u ∙ there 2 o r _ (λ q. omega arith);
@@ -153,7 +153,7 @@ module _ (role card mode : ℕ) (xs ys : List ℕ) (fits : 28688 ≤ length xs) 
   }
 
   pub granted-write : mode ≡ 2 → Placed (rowOf writersAt card) (joined xs (rowOf writersAt card) (rowOf seniorsAt role)) xs ys
-      → Granted (lineGrants xs role card mode) xs ys
+      → GrantedRows (lineGrants xs role card mode) xs ys
   granted-write e p = record {
     readers = λ o r u t. row-apart writersAt readersAt role card xs ys fits v w p (inr (omega arith)) o r u ∙ there 1 o r _ (λ q. omega arith);
     writers = λ o r u t. row-joined writersAt readersAt role card xs ys fits v w p (omega arith) o r u ∙ ap (λ b. member xs (rowOf writersAt o) r || b) (here 2 o r e);
@@ -162,22 +162,22 @@ module _ (role card mode : ℕ) (xs ys : List ℕ) (fits : 28688 ≤ length xs) 
 
 -- numbers that are no role's, no card's or no mode's grant nothing
 module _ (role card mode : ℕ) (xs : List ℕ) where
-  pub no-role : (Among 128 role → ⊥) → Granted (lineGrants xs role card mode) xs xs
+  pub no-role : (Among 128 role → ⊥) → GrantedRows (lineGrants xs role card mode) xs xs
   no-role h = granted-none _ xs (λ d o r u t.
       unsaid (eqb card o) _ (unsaid (eqb mode d) _ (rw (untrue (among 128 role) (λ e. h (among-iff 128 role .0 e))))))
 
-  pub no-card : (Among 512 card → ⊥) → Granted (lineGrants xs role card mode) xs xs
+  pub no-card : (Among 512 card → ⊥) → GrantedRows (lineGrants xs role card mode) xs xs
   no-card h = granted-none _ xs (λ d o r u t. rw (ne-eqb card o (λ e. h (rw e t))))
 
-  pub no-mode : (Among 2 mode → ⊥) → Granted (lineGrants xs role card mode) xs xs
+  pub no-mode : (Among 2 mode → ⊥) → GrantedRows (lineGrants xs role card mode) xs xs
   no-mode h = granted-none _ xs (λ d o r u t. unsaid (eqb card o) _ (rw (ne-eqb mode d (λ e. h (rw e u)))))
 
 -- one line more; the seniors' rows are as they were
 pub granted-line : (xs ys p : List ℕ) (i a b c d o r : ℕ) → a ≡ one p (i + 1) → b ≡ two p (i + 1) → c ≡ three p (i + 1) → Kept readersAt 28688 xs ys
-    → (granted xs p i d o r || lineGrants ys a b c d o r) ≡ granted xs p (i + 1) d o r
-unfolding granted
+    → (grantedByLines xs p i d o r || lineGrants ys a b c d o r) ≡ grantedByLines xs p (i + 1) d o r
+unfolding grantedByLines
 granted-line xs ys p i a b c d o r ea eb ec kept =
-    rw (ap (λ x. granted xs p i d o r || (eqb b o && (eqb c d && x))) seniors, ea, eb, ec)
+    rw (ap (λ x. grantedByLines xs p i d o r || (eqb b o && (eqb c d && x))) seniors, ea, eb, ec)
     (sym (some-more (λ k. eqb (two p k) o && (eqb (three p k) d && (among 128 (one p k) && member xs (rowOf seniorsAt (one p k)) r))) i))
   where
     seniors : (among 128 a && member ys (rowOf seniorsAt a) r) ≡ (among 128 a && member xs (rowOf seniorsAt a) r)
@@ -185,6 +185,6 @@ granted-line xs ys p i a b c d o r ea eb ec kept =
         let w = among-iff 128 a .0 e in
         same-bytes xs ys (rowOf seniorsAt a) (rowOf seniorsAt a) (λ k l. kept (rowOf seniorsAt a + k) (λ m. omega arith)) r)
 
-pub granted-yet : (xs p : List ℕ) (d o r : ℕ) → granted xs p 0 d o r ≡ false
-unfolding granted Rattle.search.specs.Search.some
+pub granted-yet : (xs p : List ℕ) (d o r : ℕ) → grantedByLines xs p 0 d o r ≡ false
+unfolding grantedByLines Rattle.search.specs.Search.some
 granted-yet xs p d o r = refl

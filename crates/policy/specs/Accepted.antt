@@ -7,7 +7,7 @@ use mathlib.Core.List.{List}
 use mathlib.Core.Bool.{Bool, true}
 use Rattle.search.specs.Search.{Among}
 use Rattle.order.specs.Closure.{Relation, OnCircle, PartialOrder, Irreflexive}
-use Rattle.order.specs.Bound.{turned, IsLub, AllJoined, FirstPair}
+use Rattle.order.specs.Bound.{converse, IsLub, AllJoined, FirstPair}
 use Rattle.rolefile.specs.declared.Verdict.{Verdict}
 use Rattle.rolefile.specs.Line.{H, U, O, A, lineAt, lines}
 use Rattle.rolefile.specs.Form.{header, fine, refusal}
@@ -22,8 +22,8 @@ abbrev pub Some : ℕ → (ℕ → Bool) → Type 0
 Some n s = (l : ℕ) × Among n l × (s l ≡ true)
 
 -- s is not empty and has no least upper bound: an undefined level
-abbrev pub Boundless : ℕ → Relation → (ℕ → Bool) → Type 0
-Boundless n ge s = Some n s × ((c : ℕ) → IsLub n ge s c → ⊥)
+abbrev pub WithoutBound : ℕ → Relation → (ℕ → Bool) → Type 0
+WithoutBound n ge s = Some n s × ((c : ℕ) → IsLub n ge s c → ⊥)
 
 -- s is empty, a free level, or its least upper bound has p
 abbrev pub Passing : ℕ → Relation → (ℕ → Bool) → (ℕ → Bool) → Type 0
@@ -35,11 +35,11 @@ ReadsUnder f u r = Passing (labels f) (dominates f) (mayAt f 1 r) (λ c. dominat
 
 -- "the w-level must dominate the clearance": a bound of the labels written, in the order turned round
 abbrev pub WritesOver : List ℕ → ℕ → ℕ → Type 0
-WritesOver f u r = Passing (labels f) (turned (dominates f)) (mayAt f 2 r) (λ c. dominates f c (clearance f u))
+WritesOver f u r = Passing (labels f) (converse (dominates f)) (mayAt f 2 r) (λ c. dominates f c (clearance f u))
 
 -- 14: an undefined w-level: there are writes and no greatest lower bound
 abbrev pub NoWriteLevel : List ℕ → ℕ → Type 0
-NoWriteLevel f r = Boundless (labels f) (turned (dominates f)) (mayAt f 2 r)
+NoWriteLevel f r = WithoutBound (labels f) (converse (dominates f)) (mayAt f 2 r)
 
 -- 003, Theorem 3, for an A line
 pub record Assigned (f : List ℕ) (u r : ℕ) : Type 0 where

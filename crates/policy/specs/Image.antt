@@ -10,7 +10,7 @@ use Rattle.roleset.specs.Row.{member}
 use Rattle.rolefile.specs.declared.Verdict.{Verdict}
 use Rattle.rolefile.specs.Form.{fine, refusal, unless, _then_}
 use Rattle.rolefile.specs.Said.{labels, roles, users, cards, clearance, cardLabel, assigned}
-use Rattle.policy.specs.Policy.{dominates, senior, may, rLevel, wLevel, shown}
+use Rattle.policy.specs.Policy.{dominates, senior, may, rLevel, wLevel, levelNumber}
 use Rattle.policy.specs.Tables.{dominanceAt, clearancesAt, cardLabelsAt, rLevelsAt, wLevelsAt, seniorsAt, assignedAt, readersAt, writersAt, stateSize, word, byteOf, rowOf}
 use Rattle.policy.specs.Verdict.{verdict}
 
@@ -38,10 +38,10 @@ pub record Permitting (f ys : List ℕ) : Type 0 where
   pub readers : (o r : ℕ) → Among 512 o → Among 128 r → member ys (rowOf readersAt o) r ≡ may f 1 r o
   pub writers : (o r : ℕ) → Among 512 o → Among 128 r → member ys (rowOf writersAt o) r ≡ may f 2 r o
 
--- a role's two bytes are its r-level and its w-level, as `shown`
+-- a role's two bytes are its r-level and its w-level, as `levelNumber`
 pub record Levelled (f ys : List ℕ) : Type 0 where
-  pub reads : (r : ℕ) → Among 128 r → byteOf ys rLevelsAt r ≡ shown (rLevel f r)
-  pub writes : (r : ℕ) → Among 128 r → byteOf ys wLevelsAt r ≡ shown (wLevel f r)
+  pub reads : (r : ℕ) → Among 128 r → byteOf ys rLevelsAt r ≡ levelNumber (rLevel f r)
+  pub writes : (r : ℕ) → Among 128 r → byteOf ys wLevelsAt r ≡ levelNumber (wLevel f r)
 
 -- the row of a user holds the roles that the user is assigned to
 abbrev pub Assigning : List ℕ → List ℕ → Type 0

@@ -5,7 +5,7 @@ use mathlib.Core.Bool.{Bool, true, false, _&&_, cond}
 use lib.Dec.{eqb}
 use Rattle.search.specs.Search.{some}
 use Rattle.order.specs.Closure.{Relation, closure}
-use Rattle.order.specs.Bound.{lub, turned}
+use Rattle.order.specs.Bound.{lub, converse}
 use Rattle.rolefile.specs.Said.{labels, roles, cards, over, above, permits, cardLabel}
 use Rattle.policy.specs.declared.Level.{Level}
 use Rattle.policy.specs.declared.Level.the-variants.{Free, Label, Undefined}
@@ -40,7 +40,7 @@ rLevel f r = level (labels f) (dominates f) (mayAt f 1 r)
 
 -- "Its w-level is the greatest lower bound of the labels it may write": the least upper bound in the order turned round
 unfoldable pub wLevel : List ℕ → ℕ → Level
-wLevel f r = level (labels f) (turned (dominates f)) (mayAt f 2 r)
+wLevel f r = level (labels f) (converse (dominates f)) (mayAt f 2 r)
 
 -- "A free level always passes; an undefined one never"
 abbrev pub passes : (ℕ → Bool) → Level → Bool
@@ -54,7 +54,7 @@ isDefined (Label a) = true
 isDefined Undefined = false
 
 -- how a level is printed and kept: "0 free, 99 undefined"
-abbrev pub shown : Level → ℕ
-shown Free = 0
-shown (Label a) = a
-shown Undefined = 99
+abbrev pub levelNumber : Level → ℕ
+levelNumber Free = 0
+levelNumber (Label a) = a
+levelNumber Undefined = 99

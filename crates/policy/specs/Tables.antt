@@ -86,8 +86,8 @@ abbrev pub unlabelledByte : ℕ → Bool
 unlabelledByte v = eqb v 0 || eqb v 255
 
 -- a line of mode d for card o has a role whose seniors, itself included, hold r
-unfoldable pub granted : List ℕ → List ℕ → ℕ → ℕ → ℕ → ℕ → Bool
-granted xs p m d o r = some m (λ i. eqb (two p i) o && (eqb (three p i) d && (among 128 (one p i) && member xs (rowOf seniorsAt (one p i)) r)))
+unfoldable pub grantedByLines : List ℕ → List ℕ → ℕ → ℕ → ℕ → ℕ → Bool
+grantedByLines xs p m d o r = some m (λ i. eqb (two p i) o && (eqb (three p i) d && (among 128 (one p i) && member xs (rowOf seniorsAt (one p i)) r)))
 
 -- of the first n cards, one of label l has r in its row of the table at `at`
 unfoldable pub gathered : List ℕ → ℕ → ℕ → ℕ → ℕ → Bool
@@ -106,7 +106,7 @@ pub record Bytes (at size : ℕ) (v : ℕ → ℕ) (xs ys : List ℕ) : Type 0 w
   pub rest : Kept at (at + size) xs ys
 
 -- the readers' and the writers' rows with what `said` gives for mode 1 and mode 2
-pub record Granted (said : ℕ → ℕ → ℕ → Bool) (xs ys : List ℕ) : Type 0 where
+pub record GrantedRows (said : ℕ → ℕ → ℕ → Bool) (xs ys : List ℕ) : Type 0 where
   pub readers : (o r : ℕ) → Among 512 o → Among 128 r → member ys (rowOf readersAt o) r ≡ (member xs (rowOf readersAt o) r || said 1 o r)
   pub writers : (o r : ℕ) → Among 512 o → Among 128 r → member ys (rowOf writersAt o) r ≡ (member xs (rowOf writersAt o) r || said 2 o r)
   pub rest : Kept readersAt 28688 xs ys

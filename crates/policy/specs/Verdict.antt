@@ -4,7 +4,7 @@ use mathlib.Core.List.{List}
 use mathlib.Core.Bool.{cond}
 use lib.Dec.{eqb}
 use Rattle.order.specs.Closure.{Relation, path, loop, circle}
-use Rattle.order.specs.Bound.{unjoined, partnerWithoutBound}
+use Rattle.order.specs.Bound.{lowestWithoutBound, partnerWithoutBound}
 use Rattle.rolefile.specs.declared.Verdict.{Verdict}
 use Rattle.rolefile.specs.Line.{A, lineAt, lines}
 use Rattle.rolefile.specs.Form.{fine, refusal, unless, _then_, scan, found, formVerdict}
@@ -15,7 +15,7 @@ use Rattle.policy.specs.Policy.{dominates, rLevel, wLevel, passes, isDef
 unfoldable pub orderVerdict : ℕ → Relation → Relation → Verdict
 orderVerdict n paths ge =
     let a = loop n paths in
-    let b = unjoined n ge in
+    let b = lowestWithoutBound n ge in
     found a (refusal 11 a 0) then found b (refusal 12 b (partnerWithoutBound n ge b))
 
 unfoldable pub labelVerdict : List ℕ → Verdict

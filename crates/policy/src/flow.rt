@@ -71,7 +71,7 @@ pub fn w_level(s: &[u8], role: usize) -> u8
 }
 
 // Whether role `from` may write card o + 1 and role `to` may read it.
-fn passes(s: &[u8], o: usize, from: usize, to: usize) -> bool
+fn flows_by_card(s: &[u8], o: usize, from: usize, to: usize) -> bool
     requires { ⌜ (28688 ≤ length (now s)) × (o < 512) ⌝ }
     ensures { λ r. ⌜ r ≡ (member (now (s .entry)) (rowOf writersAt (o + 1)) from && member (now (s .entry)) (rowOf readersAt (o + 1)) to) ⌝ }
 {
@@ -91,7 +91,7 @@ pub fn flows(s: &[u8], from: usize, to: usize) -> bool
     let n = cards(s);
     let mut o = 0;
     while o < n {
-        if passes(s, o, from, to) {
+        if flows_by_card(s, o, from, to) {
             return true;
         }
         o += 1;
@@ -137,7 +137,7 @@ fn flow_table(s: &[u8], n: usize) -> [u8; 2048]
 }
 
 // Takes each role out of its own row.
-fn part_from_self(t: &mut [u8])
+fn remove_itself(t: &mut [u8])
     requires { ⌜ 2048 ≤ length (now t) ⌝ }
     ensures { λ _. ⌜ Tabled 0 128 (λ r q. related (now (t .entry)) 0 r q && not (eqb q r)) (now (t .entry)) (now (t .exit)) ⌝ }
 {
@@ -156,7 +156,7 @@ pub fn table(s: &[u8]) -> [u8; 2048]
         return [0u8; 2048];
     }
     let mut t = flow_table(s, cards(s));
-    part_from_self(&mut t);
+    remove_itself(&mut t);
     t
 }
 

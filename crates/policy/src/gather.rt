@@ -6,9 +6,9 @@ ghost use Prim.Native.Nat.{ℕ, _+_, _*_, _-_, _≤_, _<_};
 ghost use lib.ListN.{length};
 ghost use Rattle.search.specs.Search.{Among, some};
 ghost use Rattle.roleset.specs.Row.{member};
-ghost use Rattle.order.specs.Bound.{turned};
+ghost use Rattle.order.specs.Bound.{converse};
 ghost use Rattle.order.specs.Table.{marks, mark};
-ghost use Rattle.policy.specs.Policy.{level, shown};
+ghost use Rattle.policy.specs.Policy.{level, levelNumber};
 ghost use Rattle.policy.specs.Tables.{byteOf, rowOf, cardLabelsAt, gathered, Bytes};
 
 // Joins the row of thing o + 1, of the table at `at`, into the row of its label.
@@ -72,7 +72,7 @@ fn any(s: &[bool; 32], n: usize) -> bool
 // The level of a set of the first n labels: its bound by the rows of t, as it is kept.
 fn level_of(t: &[[bool; 32]; 32], n: usize, s: &[bool; 32]) -> u8
     requires { ⌜ n ≤ 32 ⌝ }
-    ensures { λ r. ⌜ r ≡ shown (level n (turned (mark (now (t .entry)))) (marks (now (s .entry)))) ⌝ }
+    ensures { λ r. ⌜ r ≡ levelNumber (level n (converse (mark (now (t .entry)))) (marks (now (s .entry)))) ⌝ }
 {
     if !any(s, n) {
         return 0;
@@ -94,7 +94,7 @@ pub fn put_levels(
     roles: usize,
 )
     requires { ⌜ (at + roles ≤ length (now s)) × (n ≤ 32) × (roles ≤ 128) ⌝ }
-    ensures { λ _. ⌜ Bytes at roles (λ r. shown (level n (turned (mark (now (t .entry)))) (λ l. member g (rowOf 0 l) r))) (now (s .entry)) (now (s .exit)) ⌝ }
+    ensures { λ _. ⌜ Bytes at roles (λ r. levelNumber (level n (converse (mark (now (t .entry)))) (λ l. member g (rowOf 0 l) r))) (now (s .entry)) (now (s .exit)) ⌝ }
 {
     let mut i = 0;
     while i < roles {

@@ -7,7 +7,7 @@ ghost use lib.ListN.{length};
 ghost use Rattle.search.specs.Search.{among};
 ghost use Rattle.roleset.specs.Row.{member};
 ghost use Rattle.rolefile.specs.Line.{lines};
-ghost use Rattle.policy.specs.Tables.{rowOf, seniorsAt, pairs, granted, Related, Granted};
+ghost use Rattle.policy.specs.Tables.{rowOf, seniorsAt, pairs, grantedByLines, Related, GrantedRows};
 
 // Puts a role into the row of thing x, if it is one of the table's.
 fn relate(s: &mut [u8], at: usize, size: usize, x: usize, role: usize)
@@ -54,7 +54,7 @@ pub fn relate_back(s: &mut [u8], at: usize, size: usize, p: &[u8], m: usize)
 // Joins the seniors of a role into the card's row of the mode's table, if the numbers are such.
 fn grant(s: &mut [u8], role: usize, card: usize, mode: usize)
     requires { ⌜ 28688 ≤ length (now s) ⌝ }
-    ensures { λ _. ⌜ Granted (λ d o r. eqb card o && (eqb mode d && (among 128 role && member (now (s .entry)) (rowOf seniorsAt role) r))) (now (s .entry)) (now (s .exit)) ⌝ }
+    ensures { λ _. ⌜ GrantedRows (λ d o r. eqb card o && (eqb mode d && (among 128 role && member (now (s .entry)) (rowOf seniorsAt role) r))) (now (s .entry)) (now (s .exit)) ⌝ }
 {
     if role < 1 {
         return;
@@ -81,7 +81,7 @@ fn grant(s: &mut [u8], role: usize, card: usize, mode: usize)
 // The first m lines of a part: each lets the seniors of its role read or write its card.
 pub fn grant_lines(s: &mut [u8], p: &[u8], m: usize)
     requires { ⌜ (28688 ≤ length (now s)) × (m ≤ lines (now p)) ⌝ }
-    ensures { λ _. ⌜ Granted (granted (now (s .entry)) (now (p .entry)) m) (now (s .entry)) (now (s .exit)) ⌝ }
+    ensures { λ _. ⌜ GrantedRows (grantedByLines (now (s .entry)) (now (p .entry)) m) (now (s .entry)) (now (s .exit)) ⌝ }
 {
     let mut i = 0;
     while i < m {

@@ -39,13 +39,13 @@ unfoldable pub reason : ℕ → List ℕ
 reason number = cond (leb number 10) (formReason number) (policyReason number)
 
 -- a byte as it is shown: one that is no printed character of ASCII is a question mark, so that no file steers a terminal
-unfoldable pub shown : ℕ → ℕ
-shown b = cond (leb 32 b && leb b 126) b 63
+unfoldable pub printable : ℕ → ℕ
+printable b = cond (leb 32 b && leb b 126) b 63
 
 -- the line of the report on line k, for the numbers whose place is a line
 unfoldable pub lineRow : List ℕ → ℕ → ℕ → List ℕ
 lineRow f number k =
-    cond (leb 2 number && leb number 5) (ascii "line " ++ (columnsOf true k ++ (ascii "  text       " ++ (map shown (textAt f k) ++ ascii "\n")))) []
+    cond (leb 2 number && leb number 5) (ascii "line " ++ (columnsOf true k ++ (ascii "  text       " ++ (map printable (textAt f k) ++ ascii "\n")))) []
 
 -- the lines of the number and its place
 unfoldable pub placeRows : ℕ → ℕ → ℕ → List ℕ

@@ -88,8 +88,8 @@ fn reason(number: u64, out: &mut [u8], at: usize) -> usize
 }
 
 // The byte as it is shown: a question mark for one that is no printed character of ASCII.
-fn shown(b: u8) -> u8
-    ensures { λ r. ⌜ r ≡ refusal.shown b ⌝ }
+fn printable(b: u8) -> u8
+    ensures { λ r. ⌜ r ≡ refusal.printable b ⌝ }
 {
     if b < 32 {
         return 63;
@@ -103,12 +103,12 @@ fn shown(b: u8) -> u8
 // Puts bytes as they are shown, in the same way.
 fn bytes_shown(bytes: &[u8], out: &mut [u8], at: usize) -> usize
     requires { ⌜ at ≤ length (now out) ⌝ }
-    ensures { λ r. ⌜ Puts (map refusal.shown (now (bytes .entry))) at (now (out .entry)) r (now (out .exit)) ⌝ }
+    ensures { λ r. ⌜ Puts (map refusal.printable (now (bytes .entry))) at (now (out .entry)) r (now (out .exit)) ⌝ }
 {
     let mut used = at;
     let mut i = 0;
     while i < bytes.len() {
-        let one = [shown(bytes[i])];
+        let one = [printable(bytes[i])];
         used = text::put(out, used, &one);
         i += 1;
     }

@@ -15,7 +15,7 @@ use Rattle.rolefile.specs.WellFormed.{WellFormed}
 use Rattle.rolefile.proofs.Decimals.{padded-length}
 use Rattle.policy.specs.declared.Level.{Level}
 use Rattle.policy.specs.declared.Level.the-variants.{Free, Label, Undefined}
-use Rattle.policy.specs.Policy.{dominates, mayAt, level, rLevel, wLevel, shown}
+use Rattle.policy.specs.Policy.{dominates, mayAt, level, rLevel, wLevel, levelNumber}
 use Rattle.policy.specs.Flow.{flows, flowCircle}
 use Rattle.policy.specs.Verdict.{verdict}
 use Rattle.policy.proofs.Levels.{Tells, level-tells}
@@ -56,10 +56,10 @@ module _ (flow : Relation) where
 
 -- ---- of a file
 
-level-few : (n : ℕ) (ge : Relation) (s : ℕ → Bool) → n ≤ 32 → shown (level n ge s) < 100000
+level-few : (n : ℕ) (ge : Relation) (s : ℕ → Bool) → n ≤ 32 → levelNumber (level n ge s) < 100000
 level-few n ge s few = go (level n ge s) (level-tells n ge s)
   where
-    go : (l : Level) → Tells n ge s l → shown l < 100000
+    go : (l : Level) → Tells n ge s l → levelNumber l < 100000
     go Free t = omega arith
     go (Label c) (h, b) = omega (arith, b .inside)
     go Undefined t = omega arith
@@ -72,7 +72,7 @@ module _ (f : List ℕ) (form : WellFormed f) where
       rw (length-append, length-append)
       (omega (
         arith,
-        role-lines-most (λ r. shown (rLevel f r)) (λ r. shown (wLevel f r))
+        role-lines-most (λ r. levelNumber (rLevel f r)) (λ r. levelNumber (wLevel f r))
             (λ r. level-few (labels f) (dominates f) (mayAt f 1 r) (counts .labels .1)) (λ r. level-few (labels f) (λ a b. dominates f b a) (mayAt f 2 r) (counts .labels .1))
             (roles f) (counts .roles),
         flow-lines-most (flows f) (roles f) (counts .roles),

@@ -9,7 +9,7 @@ use Rattle.search.proofs.Truth.{among-iff}
 use Rattle.order.specs.Closure.{Relation}
 use Rattle.rolefile.specs.Said.{roles}
 use Rattle.rolefile.specs.WellFormed.{WellFormed}
-use Rattle.policy.specs.Policy.{rLevel, wLevel, shown}
+use Rattle.policy.specs.Policy.{rLevel, wLevel, levelNumber}
 use Rattle.policy.specs.Flow.{flows, flowCircle}
 use Rattle.policy.specs.Tables.{rLevelsAt, wLevelsAt, levelIn, flowsIn, roleCount, circleIn}
 use Rattle.policy.specs.Image.{Describes}
@@ -29,7 +29,7 @@ module _ (f : List ℕ) (form : WellFormed f) (xs : List ℕ) (long : 65536 ≤ 
   pub count-file : roleCount xs ≡ roles f
   count-file = rw (a-state xs long) (roles-file f form xs tables)
 
-  pub levels-file : (r : ℕ) → Among (roles f) r → (levelIn xs rLevelsAt r ≡ shown (rLevel f r)) × (levelIn xs wLevelsAt r ≡ shown (wLevel f r))
+  pub levels-file : (r : ℕ) → Among (roles f) r → (levelIn xs rLevelsAt r ≡ levelNumber (rLevel f r)) × (levelIn xs wLevelsAt r ≡ levelNumber (wLevel f r))
   levels-file r w =
       rw (a-state xs long, among-iff 128 r .1 (role r w)) (tables .levelled .reads r (role r w), tables .levelled .writes r (role r w))
 
@@ -45,7 +45,7 @@ module _ (f : List ℕ) (form : WellFormed f) (xs : List ℕ) (long : 65536 ≤ 
       rw (
         count-file,
         circle-in-file,
-        each-agree (roles f) (λ r. line 82 3 r (levelIn xs rLevelsAt r) (levelIn xs wLevelsAt r)) (λ r. line 82 3 r (shown (rLevel f r)) (shown (wLevel f r)))
+        each-agree (roles f) (λ r. line 82 3 r (levelIn xs rLevelsAt r) (levelIn xs wLevelsAt r)) (λ r. line 82 3 r (levelNumber (rLevel f r)) (levelNumber (wLevel f r)))
             (λ r w. rw (levels-file r w .0, levels-file r w .1)),
         each-agree (roles f) (flowsFrom (flowsIn xs) (roles f)) (flowsFrom (flows f) (roles f))
             (λ r v. each-agree (roles f) (flowLine (flowsIn xs) r) (flowLine (flows f) r) (λ q w. line-agrees (flowsIn xs) (flows f) r q (flow-in-file r q v w))),

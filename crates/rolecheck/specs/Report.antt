@@ -8,7 +8,7 @@ use Rattle.order.specs.Closure.{Relation}
 use Rattle.rolefile.specs.Said.{roles}
 use Rattle.rolefile.specs.Decimal.{blanks, columnsOf}
 use Rattle.text.specs.Text.{each}
-use Rattle.policy.specs.Policy.{rLevel, wLevel, shown}
+use Rattle.policy.specs.Policy.{rLevel, wLevel, levelNumber}
 use Rattle.policy.specs.Verdict.{verdict}
 use Rattle.policy.specs.Flow.{flows, flowCircle}
 use Rattle.policy.specs.Tables.{rLevelsAt, wLevelsAt, roleCount, levelIn, flowsIn, circleIn}
@@ -42,7 +42,7 @@ policyLines n reads writes flow role = roleLines reads writes n ++ (flowLines fl
 -- ---- the report; 86 is the byte of V
 
 abbrev pub fileLines : List ℕ → List ℕ
-fileLines f = policyLines (roles f) (λ r. shown (rLevel f r)) (λ r. shown (wLevel f r)) (flows f) (flowCircle f)
+fileLines f = policyLines (roles f) (λ r. levelNumber (rLevel f r)) (λ r. levelNumber (wLevel f r)) (flows f) (flowCircle f)
 
 unfoldable pub report : List ℕ → List ℕ
 report f =

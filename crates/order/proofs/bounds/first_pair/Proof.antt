@@ -6,37 +6,37 @@ use mathlib.Core.List.{List}
 use native.Mathlib.Omega.{arith}
 use borrow.Author.Needs.{needs}
 use Rattle.search.specs.Search.{Among}
-use Rattle.order.specs.Bound.{turned, FirstApart}
+use Rattle.order.specs.Bound.{converse, FirstWithoutBound}
 use Rattle.order.specs.Table.{mark}
-use Rattle.order.proofs.Bound.{NoneApart, none-apart-yet, none-apart-more, apart-found, none-apart, first-apart-agree}
+use Rattle.order.proofs.Bound.{NoneWithout, none-without-yet, none-without-more, without-found, none-without, first-without-agree}
 use Rattle.order.proofs.bounds.first_pair.Statement.{statement}
 use Rattle.order.proofs.bounds.first_pair.Tie as tie
 
 abbrev Inv-loop : tie.InvT-loop
-Inv-loop n m up i₀ i = (m ≤ 32) × (i ≤ m) × NoneApart m (turned (mark up)) i
+Inv-loop n m up i₀ i = (m ≤ 32) × (i ≤ m) × NoneWithout m (converse (mark up)) i
 
 abbrev μ-loop : tie.MeasureT-loop
 μ-loop n m up i₀ i = m - i
 
 -- what is found in the order turned twice is so in the order
 settled : (m n a b : ℕ) (t up : List (List Bool)) → m ≡ min n 32
-    → ((a b : ℕ) → Among 32 a → Among 32 b → mark up a b ≡ turned (mark t) a b)
-    → FirstApart m (turned (mark up)) a b → FirstApart (min n 32) (mark t) a b
+    → ((a b : ℕ) → Among 32 a → Among 32 b → mark up a b ≡ converse (mark t) a b)
+    → FirstWithoutBound m (converse (mark up)) a b → FirstWithoutBound (min n 32) (mark t) a b
 settled m n a b t up e same h =
-    rw (← e) (first-apart-agree m (turned (mark up)) (mark t) (λ x y v w. same y x (omega arith) (omega arith)) a b h)
+    rw (← e) (first-without-agree m (converse (mark up)) (mark t) (λ x y v w. same y x (omega arith) (omega arith)) a b h)
 
 returns : tie.Need-returns Inv-loop μ-loop
 returns c =
     let turn = c .before .before .before .before .before in
     let a = turn .before .before .args in
     let w = c .before .before .before .before .loop in
-    settled _ (a .n) _ _ (a .t) (turn .turned .result) (turn .before .lesser .ensures) (turn .turned .ensures)
-    (apart-found _ _ (w .i) _ (search needs) (w .inv .2) (c .before .partner .ensures) (c .if1 .taken))
+    settled _ (a .n) _ _ (a .t) (turn .converse .result) (turn .before .lesser .ensures) (turn .converse .ensures)
+    (without-found _ _ (w .i) _ (search needs) (w .inv .2) (c .before .partner .ensures) (c .if1 .taken))
 
 loop-again : tie.Need-loop-again Inv-loop μ-loop
 loop-again c =
     let w = c .before .before .before .before .loop in
-    (search needs, search needs, none-apart-more _ _ (w .i) _ (w .inv .2) (c .before .partner .ensures) (c .if1 .left))
+    (search needs, search needs, none-without-more _ _ (w .i) _ (w .inv .2) (c .before .partner .ensures) (c .if1 .left))
 
 returns-2 : tie.Need-returns-2 Inv-loop μ-loop
 returns-2 c =
@@ -44,7 +44,7 @@ returns-2 c =
     let a = turn .before .before .args in
     let w = c .before .loop in
     let q : w .i ≡ turn .before .lesser .result = omega arith in
-    settled _ (a .n) _ _ (a .t) (turn .turned .result) (turn .before .lesser .ensures) (turn .turned .ensures) (none-apart _ _ (rw q at (w .inv .2)))
+    settled _ (a .n) _ _ (a .t) (turn .converse .result) (turn .before .lesser .ensures) (turn .converse .ensures) (none-without _ _ (rw q at (w .inv .2)))
 
 pub first-pair-spec : {M : Type 1} → statement M
 first-pair-spec =
@@ -54,7 +54,7 @@ first-pair-spec =
     μ-loop
     (λ c κs. search needs)
     (λ c κs. search needs)
-    (λ c. (search needs, search needs, none-apart-yet _ _))
+    (λ c. (search needs, search needs, none-without-yet _ _))
     (λ c κs. search needs)
     (λ c. search needs)
     returns

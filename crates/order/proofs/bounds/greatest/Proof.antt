@@ -8,14 +8,14 @@ use borrow.Author.Needs.{needs}
 use denote.Ref.{now}
 use Rattle.search.specs.Search.{first}
 use Rattle.search.proofs.Found.{first-yet, first-found, first-more}
-use Rattle.order.specs.Bound.{turned, isLeast, least}
+use Rattle.order.specs.Bound.{converse, isLeast, least}
 use Rattle.order.specs.Table.{marks, mark}
 use Rattle.order.proofs.Stored.{place}
 use Rattle.order.proofs.bounds.greatest.Statement.{statement}
 use Rattle.order.proofs.bounds.greatest.Tie as tie
 
 abbrev leader : List (List Bool) → List Bool → ℕ → Bool
-leader t s = isLeast 32 (turned (mark t)) (marks s)
+leader t s = isLeast 32 (converse (mark t)) (marks s)
 
 abbrev Inv-loop : tie.InvT-loop
 Inv-loop t s set i₀ i = (i ≤ 32) × (first i (leader t s) ≡ 0)

@@ -6,7 +6,7 @@ use native.Mathlib.Omega.{arith}
 use borrow.Author.Needs.{needs}
 use borrow.Author.Tests.{le-leb}
 use denote.Ref.{now}
-use Rattle.order.specs.Bound.{turned}
+use Rattle.order.specs.Bound.{converse}
 use Rattle.order.specs.Table.{mark, marks}
 use Rattle.order.proofs.Bound.{least-cut}
 use Rattle.order.proofs.Stored.{place}
@@ -20,7 +20,7 @@ returns c =
     let t = now (a .t) in
     let j : ℕ = a .j in
     c .greatest .ensures
-    ∙ least-cut 32 32 (turned (mark t)) (λ x. marks (a .s) x && mark t (j + 1) x) (marks (common .result)) (omega arith) (λ x w.
+    ∙ least-cut 32 32 (converse (mark t)) (λ x. marks (a .s) x && mark t (j + 1) x) (marks (common .result)) (omega arith) (λ x w.
     common .ensures x w ∙ rw (le-leb x 32 (w .1), place j))
 
 pub greatest-common-spec : {M : Type 1} → statement M

@@ -4,7 +4,7 @@ use mathlib.Core.Path.{_∙_}
 use native.Mathlib.Omega.{arith}
 use borrow.Author.Needs.{needs}
 use denote.Ref.{now}
-use Rattle.order.specs.Bound.{lub, turned, upper}
+use Rattle.order.specs.Bound.{lub, converse, upper}
 use Rattle.order.specs.Table.{mark, marks}
 use Rattle.order.proofs.Bound.{least-cut}
 use Rattle.order.proofs.bounds.greatest_lower.Statement.{statement}
@@ -15,7 +15,7 @@ unfolding lub
 returns c =
     let a = c .before .before .before .args in
     let m = min (a .n) 32 in
-    let order = turned (mark (now (a .t))) in
+    let order = converse (mark (now (a .t))) in
     let bounds = c .before .before .lower-bounds in
     c .greatest .ensures ∙ least-cut m 32 order (upper m order (marks (a .s))) (marks (bounds .result)) (omega arith) (bounds .ensures)
 

@@ -2,7 +2,7 @@
 use borrow.Author.Needs.{needs}
 use borrow.Author.Tests.{ne-eqb}
 use Rattle.policy.specs.Verdict.{orderVerdict}
-use Rattle.policy.proofs.Dominance.{apart-verdict}
+use Rattle.policy.proofs.Dominance.{pair-verdict}
 use Rattle.policy.proofs.build.judge_labels.Statement.{statement}
 use Rattle.policy.proofs.build.judge_labels.Tie as tie
 
@@ -20,7 +20,7 @@ returns-2 c =
     rw (
       ← (d .before .before .lowest-loop .ensures),
       d .before .if1 .left,
-      apart-verdict _ _ (pair .result .lower) (pair .result .higher) (pair .ensures),
+      pair-verdict _ _ (pair .result .lower) (pair .result .higher) (pair .ensures),
       ne-eqb (pair .result .lower) 0 (c .before .if2 .taken),
     ) (c .refused2 .ensures)
 
@@ -32,7 +32,7 @@ returns-3 c =
     rw (
       ← (d .before .before .lowest-loop .ensures),
       d .before .if1 .left,
-      apart-verdict _ _ (pair .result .lower) (pair .result .higher) (pair .ensures),
+      pair-verdict _ _ (pair .result .lower) (pair .result .higher) (pair .ensures),
       c .before .if2 .left,
     ) (c .nothing .ensures)
 

@@ -44,7 +44,7 @@ returns-3 c =
     let a = turn .before .before .before .before .before .args in
     let w = turn .loop in
     found (now (a .s)) (a .from) (a .to) (search needs) _ (turn .before .before .if2 .left)
-    (some-found (passing (now (a .s)) (a .from) (a .to)) (cardsUpTo (now (a .s))) (w .o) (omega arith) (rw (c .before .passes .ensures) at (c .if3 .taken)))
+    (some-found (passing (now (a .s)) (a .from) (a .to)) (cardsUpTo (now (a .s))) (w .o) (omega arith) (rw (c .before .flows-by-card .ensures) at (c .if3 .taken)))
 
 loop-again : tie.Need-loop-again Inv-loop μ-loop
 loop-again c =
@@ -53,7 +53,7 @@ loop-again c =
     let w = turn .loop in (
       w .inv .0,
       search needs,
-      some-more (passing (now (a .s)) (a .from) (a .to)) (w .o) ∙ rw (w .inv .2) (rw (c .before .passes .ensures) at (c .if3 .left)),
+      some-more (passing (now (a .s)) (a .from) (a .to)) (w .o) ∙ rw (w .inv .2) (rw (c .before .flows-by-card .ensures) at (c .if3 .left)),
     )
 
 returns-4 : tie.Need-returns-4 Inv-loop μ-loop

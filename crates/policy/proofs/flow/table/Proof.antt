@@ -25,7 +25,7 @@ returns-2 c r q u v =
     let made = apart .before .before in
     let counted = made .before in
     let xs = now (counted .before .before .before .args .s) in
-    apart .part-from-self .ensures .rows (search needs) .done r q u v
+    apart .remove-itself .ensures .rows (search needs) .done r q u v
     ∙ apart-flows xs (made .flow-table .result) (cardsUpTo xs) (rw (cards-are counted) at (made .flow-table .ensures)) r q u v
     ∙ rw (a-state xs (search needs))
 

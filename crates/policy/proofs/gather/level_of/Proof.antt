@@ -5,7 +5,7 @@ use native.Mathlib.Omega.{arith}
 use borrow.Author.Needs.{needs}
 use denote.Ref.{now}
 use Rattle.search.proofs.Truth.{passed, failed}
-use Rattle.order.specs.Bound.{lub, turned}
+use Rattle.order.specs.Bound.{lub, converse}
 use Rattle.order.specs.Table.{marks, mark}
 use Rattle.order.proofs.Bound.{lub-within}
 use Rattle.policy.proofs.Gathering.{level-empty, level-undefined, level-bound}
@@ -16,7 +16,7 @@ returns : tie.Need-returns
 returns c = level-empty _ _ _ (failed (c .before .any .ensures) (c .if1 .taken))
 
 -- the bound that was found
-found : (c : tie.After-greatest-lower) → let a = c .before .before .before .before .args in c .greatest-lower .result ≡ lub (a .n) (turned (mark (now (a .t)))) (marks (now (a .s)))
+found : (c : tie.After-greatest-lower) → let a = c .before .before .before .before .args in c .greatest-lower .result ≡ lub (a .n) (converse (mark (now (a .t)))) (marks (now (a .s)))
 found c =
     let a = c .before .before .before .before .args in
     let q : min (a .n) 32 ≡ a .n = omega arith in
@@ -30,7 +30,7 @@ returns-2 c =
 cast-result : tie.Need-cast-result
 cast-result c =
     let a = c .before .before .before .before .before .args in
-    omega (arith, found (c .before), lub-within (a .n) (turned (mark (now (a .t)))) (marks (now (a .s))))
+    omega (arith, found (c .before), lub-within (a .n) (converse (mark (now (a .t)))) (marks (now (a .s))))
 
 returns-3 : tie.Need-returns-3
 returns-3 c =

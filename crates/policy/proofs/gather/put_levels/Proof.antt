@@ -6,9 +6,9 @@ use borrow.Author.Needs.{needs}
 use denote.Ref.{now}
 use lib.ListN.{length}
 use Rattle.roleset.specs.Row.{member}
-use Rattle.order.specs.Bound.{turned}
+use Rattle.order.specs.Bound.{converse}
 use Rattle.order.specs.Table.{mark}
-use Rattle.policy.specs.Policy.{level, shown}
+use Rattle.policy.specs.Policy.{level, levelNumber}
 use Rattle.policy.specs.Tables.{rowOf, Bytes}
 use Rattle.policy.proofs.Noted.{store-none, store-more}
 use Rattle.policy.proofs.Gathering.{level-same-set}
@@ -17,7 +17,7 @@ use Rattle.policy.proofs.gather.put_levels.Tie as tie
 
 abbrev Inv-loop : tie.InvT-loop
 Inv-loop s₀ at t n roles g i₀ s i =
-    (i ≤ roles) × (length s ≡ length s₀) × Bytes at i (λ r. shown (level n (turned (mark t)) (λ l. member g (rowOf 0 l) r))) s₀ s
+    (i ≤ roles) × (length s ≡ length s₀) × Bytes at i (λ r. levelNumber (level n (converse (mark t)) (λ l. member g (rowOf 0 l) r))) s₀ s
 
 abbrev μ-loop : tie.MeasureT-loop
 μ-loop s₀ at t n roles g i₀ s i = roles - i
@@ -30,7 +30,7 @@ loop-again c =
       search needs,
       store-more _ _ _ (w .i) _ (w .s) (w .inv .2) (search needs)
           (c .level-of .ensures
-          ∙ ap shown (level-same-set _ (turned (mark (now t))) _ _ (λ l v. c .before .before .labels-of .ensures l (omega arith)))),
+          ∙ ap levelNumber (level-same-set _ (converse (mark (now t))) _ _ (λ l v. c .before .before .labels-of .ensures l (omega arith)))),
     )
 
 returns : tie.Need-returns Inv-loop μ-loop

@@ -5,13 +5,13 @@ use native.Mathlib.Omega.{arith}
 use borrow.Author.Needs.{needs}
 use denote.Ref.{now}
 use lib.ListN.{length}
-use Rattle.policy.specs.Tables.{granted, Granted}
+use Rattle.policy.specs.Tables.{grantedByLines, GrantedRows}
 use Rattle.policy.proofs.Relating.{granted-none, granted-as, granted-more, granted-line, granted-yet}
 use Rattle.policy.proofs.rows.grant_lines.Statement.{statement}
 use Rattle.policy.proofs.rows.grant_lines.Tie as tie
 
 abbrev Inv-loop : tie.InvT-loop
-Inv-loop s₀ p m i₀ s i = (i ≤ m) × (length s ≡ length s₀) × Granted (granted s₀ p i) s₀ s
+Inv-loop s₀ p m i₀ s i = (i ≤ m) × (length s ≡ length s₀) × GrantedRows (grantedByLines s₀ p i) s₀ s
 
 abbrev μ-loop : tie.MeasureT-loop
 μ-loop s₀ p m i₀ s i = m - i

@@ -10,13 +10,13 @@ use lib.ListN.{length, getD, take}
 use lib.Seq.{take-suc, take-all}
 use Rattle.text.specs.Text.{Puts}
 use Rattle.text.proofs.Text.{puts-nothing, puts-then, puts-as}
-use Rattle.report.specs.Refusal.{shown}
+use Rattle.report.specs.Refusal.{printable}
 use Rattle.report.proofs.refusal.bytes_shown.Statement.{statement}
 use Rattle.report.proofs.refusal.bytes_shown.Tie as tie
 
 -- the first i bytes, as they are shown
 abbrev front : List ℕ → ℕ → List ℕ
-front bytes i = map shown (take i bytes)
+front bytes i = map printable (take i bytes)
 
 abbrev Inv-loop : tie.InvT-loop
 Inv-loop bytes out₀ at used₀ i₀ out used i = (i ≤ length bytes) × (length out ≡ length out₀) × Puts (front bytes i) at out₀ used out
@@ -24,7 +24,7 @@ Inv-loop bytes out₀ at used₀ i₀ out used i = (i ≤ length bytes) × (leng
 abbrev μ-loop : tie.MeasureT-loop
 μ-loop bytes out₀ at used₀ i₀ out used i = length bytes - i
 
-more : (bytes : List ℕ) (i b : ℕ) → i < length bytes → b ≡ shown (getD bytes i 0) → front bytes i ++ (b ∷ []) ≡ front bytes (i + 1)
+more : (bytes : List ℕ) (i b : ℕ) → i < length bytes → b ≡ printable (getD bytes i 0) → front bytes i ++ (b ∷ []) ≡ front bytes (i + 1)
 more bytes i b l e = rw (add-one, take-suc bytes i 0 l, map-append, e)
 
 loop-again : tie.Need-loop-again Inv-loop μ-loop
@@ -34,7 +34,7 @@ loop-again c =
     let w = turn .loop in (
       search needs,
       search needs,
-      puts-as (more (now (a .bytes)) (w .i) _ (search needs) (c .before .before .before .before .before .shown .ensures))
+      puts-as (more (now (a .bytes)) (w .i) _ (search needs) (c .before .before .before .before .before .printable .ensures))
           (puts-then (w .inv .2) (c .before .before .put .ensures)),
     )
 
@@ -43,7 +43,7 @@ returns c =
     let w = c .before .loop in
     let bytes = now (c .before .before .before .before .args .bytes) in
     let all : w .i ≡ length bytes = omega arith in
-    puts-as (ap (map shown) (take-all (length bytes) bytes (omega arith))) (rw all at (w .inv .2))
+    puts-as (ap (map printable) (take-all (length bytes) bytes (omega arith))) (rw all at (w .inv .2))
 
 pub bytes-shown-spec : {M : Type 1} → statement M
 bytes-shown-spec =

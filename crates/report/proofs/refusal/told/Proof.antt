@@ -25,12 +25,12 @@ returns-3 c =
 returns-4 : tie.Need-returns-4
 unfolding refusalText
 returns-4 c =
-    let shown = c .before .before in
-    let meant = shown .before .before .before .before in
+    let printable = c .before .before in
+    let meant = printable .before .before .before .before in
     let placed = meant .before .before .before .before in
     let a = placed .before .before .before .before .before .before .before .args in
     rw (lt-ltb (a .number) 100000 (search needs), lt-ltb (a .first) 100000 (search needs), lt-ltb (a .second) 100000 (search needs))
-    (puts-then (placed .place-rows .ensures) (puts-then (meant .reason-row .ensures) (shown .line-row .ensures)))
+    (puts-then (placed .place-rows .ensures) (puts-then (meant .reason-row .ensures) (printable .line-row .ensures)))
 
 pub told-spec : {M : Type 1} → statement M
 told-spec =

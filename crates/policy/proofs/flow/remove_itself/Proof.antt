@@ -8,8 +8,8 @@ use lib.ListN.{length}
 use Rattle.order.specs.Table.{Tabled}
 use Rattle.order.proofs.Seats.{seats-none}
 use Rattle.policy.proofs.Flowing.{apart, row-more, apart-row}
-use Rattle.policy.proofs.flow.part_from_self.Statement.{statement}
-use Rattle.policy.proofs.flow.part_from_self.Tie as tie
+use Rattle.policy.proofs.flow.remove_itself.Statement.{statement}
+use Rattle.policy.proofs.flow.remove_itself.Tie as tie
 
 abbrev Inv-loop : tie.InvT-loop
 Inv-loop t₀ i₀ t i = (i ≤ 128) × (length t ≡ length t₀) × Tabled 0 i (apart t₀) t₀ t
@@ -34,8 +34,8 @@ returns c =
     let all : w .i ≡ 128 = omega arith in
     rw all at (w .inv .2)
 
-pub part-from-self-spec : {M : Type 1} → statement M
-part-from-self-spec =
+pub remove-itself-spec : {M : Type 1} → statement M
+remove-itself-spec =
     tie.close
     (tie.spec
     Inv-loop

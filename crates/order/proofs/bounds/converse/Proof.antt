@@ -4,15 +4,15 @@ use mathlib.Core.Path.{_≡_}
 use native.Mathlib.Omega.{arith}
 use borrow.Author.Needs.{needs}
 use lib.ListN.{length}
-use Rattle.order.specs.Bound.{turned}
+use Rattle.order.specs.Bound.{converse}
 use Rattle.order.specs.Table.{mark, Rows}
 use Rattle.order.proofs.Closure.{rows-none, rows-more}
 use Rattle.order.proofs.Stored.{set-row}
-use Rattle.order.proofs.bounds.turned.Statement.{statement}
-use Rattle.order.proofs.bounds.turned.Tie as tie
+use Rattle.order.proofs.bounds.converse.Statement.{statement}
+use Rattle.order.proofs.bounds.converse.Tie as tie
 
 abbrev Inv-loop : tie.InvT-loop
-Inv-loop t r₀ j₀ r j = (j ≤ 32) × (length r ≡ 32) × Rows 32 j (turned (mark t)) (mark t) (mark r)
+Inv-loop t r₀ j₀ r j = (j ≤ 32) × (length r ≡ 32) × Rows 32 j (converse (mark t)) (mark t) (mark r)
 
 abbrev μ-loop : tie.MeasureT-loop
 μ-loop t r₀ j₀ r j = 32 - j
@@ -25,8 +25,8 @@ loop-again c =
       rows-more 32 _ _ (w .j) _ _ (search needs) (w .inv .2) (set-row _ (w .r) (w .j) (c .column .result) (search needs) (c .column .ensures)),
     )
 
-pub turned-spec : {M : Type 1} → statement M
-turned-spec =
+pub converse-spec : {M : Type 1} → statement M
+converse-spec =
     tie.close
     (tie.spec
     Inv-loop

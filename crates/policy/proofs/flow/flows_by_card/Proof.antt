@@ -3,8 +3,8 @@ use borrow.Author.Needs.{needs}
 use denote.Ref.{now}
 use Rattle.policy.specs.Tables.{readersAt, writersAt}
 use Rattle.policy.proofs.Flowing.{row-tested}
-use Rattle.policy.proofs.flow.passes.Statement.{statement}
-use Rattle.policy.proofs.flow.passes.Tie as tie
+use Rattle.policy.proofs.flow.flows_by_card.Statement.{statement}
+use Rattle.policy.proofs.flow.flows_by_card.Tie as tie
 
 returns : tie.Need-returns
 returns c =
@@ -14,8 +14,8 @@ returns c =
       row-tested (now (a .s)) readersAt (a .o) (a .to) _ (search needs) (c .has2 .ensures),
     )
 
-pub passes-spec : {M : Type 1} → statement M
-passes-spec =
+pub flows-by-card-spec : {M : Type 1} → statement M
+flows-by-card-spec =
     tie.close
     (tie.spec
     (λ c. search needs)
