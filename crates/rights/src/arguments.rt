@@ -32,7 +32,7 @@ fn numeral(t: &[u8]) -> u64
 
 // The user of the state whose number the text is, or 0.
 pub fn user_asked(s: &[u8], t: &[u8]) -> u64
-    ensures { λ r. ⌜ (r ≡ arguments.userAsked (now (s .entry)) (now (t .entry))) × (r < 100000) ⌝ }
+    ensures { λ r. ⌜ r ≡ arguments.userAsked (now (s .entry)) (now (t .entry)) ⌝ }
 {
     let user = numeral(t);
     if monitor::review::users(s) < user {
