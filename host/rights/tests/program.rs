@@ -12,6 +12,7 @@ use std::fs;
 use std::os::unix::ffi::{OsStrExt, OsStringExt};
 use std::os::unix::fs::PermissionsExt;
 use std::path::PathBuf;
+use std::process::Command;
 
 const SEED: u64 = 1;
 const FILES: u64 = 400;
@@ -260,6 +261,23 @@ fn arguments_that_are_no_user() {
 }
 
 /// Arguments longer than any path get one line too, which does not repeat them.
+/// A file whose name is a user's number is not taken for the user.
+#[test]
+fn file_named_as_a_user() {
+    let folder = Temporary::path();
+    fs::create_dir(&folder.path).expect("a folder");
+    fs::write(folder.path.join("1"), EXAMPLE).expect("a file");
+    let printed = Command::new(program())
+        .current_dir(&folder.path)
+        .args(["1", "1"])
+        .output()
+        .expect("a run");
+    fs::remove_dir_all(&folder.path).expect("the folder removed");
+    let wanted = expected(&[example_file().name(), "1".into()]);
+    assert!(printed.stdout == wanted.output && printed.stderr.is_empty());
+    assert!(!printed.stdout.is_empty());
+}
+
 #[test]
 fn arguments_longer_than_a_path() {
     let file = example_file();
