@@ -4,40 +4,28 @@ use mathlib.Core.Path.{_≡_, refl}
 use mathlib.Core.Bool.{Bool, false, cond}
 use mathlib.Core.List.{List, _++_}
 use native.Mathlib.Omega.{arith}
-use native.Mathlib.Decide.{decLt}
 use lib.ListN.{length, length-append}
 use Rattle.order.specs.Closure.{Relation, path}
-use Rattle.rolefile.specs.Decimal.{digits}
 use Rattle.text.specs.Text.{ascii, each}
 use Rattle.text.proofs.Each.{each-most}
-use Rattle.text.proofs.Padded.{digit-count}
 use Rattle.policy.specs.Tables.{flowsIn}
 use Rattle.monitor.specs.Review.{knownLabels, knownRoles}
 use Rattle.monitor.proofs.Known.{few-labels, few-roles}
 use Rattle.graph.specs.declared.Order.the-variants.{Dominating, Seniors, Juniors}
 use Rattle.graph.specs.Graph.{ordered, direct, directFlow, node, arrow, orderLine, flowLine, nodes, orderLines, flowLines, labelsText, rolesText, labelsOf, rolesOf, graphText}
-use Rattle.text.proofs.Lengths.{most, where-most}
-
-three-digits : (n : ℕ) → n ≤ 128 → length (digits n) ≤ 3
-three-digits n l = elim (decLt n 10) [
-  | yes a ↦ omega (arith, digit-count 0 n (λ k. omega arith) (omega arith))
-  | no a ↦ elim (decLt n 100) [
-    | yes b ↦ omega (arith, digit-count 1 n (λ k. omega arith) (omega arith))
-    | no b ↦ omega (arith, digit-count 2 n (λ k. omega arith) (omega arith))
-  ]
-]
+use Rattle.text.proofs.Lengths.{most, where-most, few-digits}
 
 module _ (mark : List ℕ) (one : length mark ≡ 1) where
   node-most : (red : Bool) (a : ℕ) → a ≤ 128 → length (node mark red a) ≤ 35
   unfolding node
   node-most red a l =
-      let d = three-digits a l in
+      let d = few-digits 2 a (omega arith) in
       let e : length (cond red (ascii "\", color=red];\n") (ascii "\"];\n")) ≤ 15 = search most in
       simp length-append (omega arith)
 
   arrow-most : (a b : ℕ) → a ≤ 128 → b ≤ 128 → length (arrow mark a b) ≤ 16
   unfolding arrow
-  arrow-most a b l k = let d = three-digits a l in let e = three-digits b k in simp length-append (omega arith)
+  arrow-most a b l k = let d = few-digits 2 a (omega arith) in let e = few-digits 2 b (omega arith) in simp length-append (omega arith)
 
   module _ (n : ℕ) (few : n ≤ 128) where
     nodes-most : (red : ℕ → Bool) → length (nodes mark n red) ≤ n * 35

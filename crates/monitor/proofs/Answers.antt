@@ -7,7 +7,7 @@ use native.Mathlib.Omega.{arith}
 use borrow.Author.Tests.{leb-true, le-leb}
 use lib.ListN.{length}
 use Rattle.search.specs.Search.{among, Among}
-use Rattle.search.proofs.Truth.{and-iff, among-iff, passed, failed}
+use Rattle.search.proofs.Truth.{and-iff, among-iff, passed, failed, one-of}
 use Rattle.policy.specs.Tables.{isState}
 use Rattle.monitor.specs.Session.{sound, labelsIn, rolesIn, usersIn, cardsIn, inUse}
 use Rattle.monitor.specs.Rights.{canNumber}
@@ -82,9 +82,6 @@ sound-of xs h =
     }
 
 -- ---- what a test that passed tells
-pub one-of : (n x : ℕ) {r : Bool} → r ≡ among n x → not r ≡ false → Among n x
-one-of n x e h = among-iff n x .0 (passed e h)
-
 pub user-known : (xs : List ℕ) {r : Bool} → r ≡ sound xs → not r ≡ false → (x : ℕ) {q : Bool} → q ≡ among (usersIn xs) x → not q ≡ false → Among 256 x
 user-known xs e h x f k = let w = one-of (usersIn xs) x f k in let few = sound-of xs (passed e h) .users in omega arith
 
@@ -196,15 +193,6 @@ part-fits at xs size p o k n h =
     let v = among-iff (cardsIn xs) o .0 (a .0) in
     let w = leb-true (64 * cardsIn xs) size (d .0) in
     record { card = omega arith; inCard = leb-true (k + n) 64 (c .0); inStore = omega arith }
-
--- a report that is done is on a whole state
-pub flows-state : (xs : List ℕ) (q r : ℕ) → flowsNumber xs q r ≡ 0 → isState xs ≡ true
-unfolding flowsNumber
-flows-state xs q r h = le-leb _ _ (sound-of xs (unless-done _ _ _ (omega arith) h .0) .long)
-
-pub circle-state : (xs : List ℕ) → circleNumber xs ≡ 0 → isState xs ≡ true
-unfolding circleNumber
-circle-state xs h = le-leb _ _ (sound-of xs (unless-done _ _ _ (omega arith) h .0) .long)
 
 -- what a question that is done tells of the state and of its numbers
 pub record Asked (xs : List ℕ) (u l o m : ℕ) : Type 0 where

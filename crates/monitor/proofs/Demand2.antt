@@ -13,7 +13,7 @@ use Rattle.search.proofs.Truth.{among-iff}
 use Rattle.rolefile.specs.declared.Verdict.{Verdict}
 use Rattle.rolefile.specs.Said.{roles}
 use Rattle.rolefile.specs.WellFormed.{WellFormed}
-use Rattle.policy.specs.Tables.{readersAt, writersAt, stateSize, flowing, cardsUpTo}
+use Rattle.policy.specs.Tables.{readersAt, writersAt, stateSize, flowsIn}
 use Rattle.policy.specs.Accepted.{Accepted}
 use Rattle.policy.specs.Flow.{flows, flowCircle}
 use Rattle.policy.specs.Image.{loadVerdict, Loaded}
@@ -234,14 +234,14 @@ module _ (f : List ℕ) (accepted : Accepted f) (xs ys : List ℕ) (v : Verdict)
         (e, h .answer ∙ rw (← (h .number)) (by n e))
       where
         by : (n : ℕ) → n ≡ unless (among (roles f) q) 25 (unless (among (roles f) r) 25 0)
-            → _≡_ {A = ℕ} (ifDone n (cond (flowing (left .state) (cardsUpTo (left .state)) q r) 1 0) 0) (ifDone n (cond (flows f q r) 1 0) 0)
+            → _≡_ {A = ℕ} (ifDone n (cond (flowsIn (left .state) q r) 1 0) 0) (ifDone n (cond (flows f q r) 1 0) 0)
         by zero e =
             let (v, rest) = unless-done (among (roles f) q) 25 _ (omega arith) (sym e) in
             let (w, end) = unless-done (among (roles f) r) 25 0 (omega arith) rest in
             let i = among-iff (roles f) q .0 v in
             let j = among-iff (roles f) r .0 w in
             let few = counts-known f form .roles in
-            ap (λ (b : Bool). cond {A = ℕ} b 1 0) (flow-file f form (left .state) (left-runs .stands .tables) q r (omega arith) (omega arith))
+            ap (λ (b : Bool). cond {A = ℕ} b 1 0) (flow-file f form (left .state) (left-runs .stands .tables) (left-runs .stands .long) q r (omega arith) (omega arith))
         by (suc n) e = refl
 
     pub circle-answers : (n figure : ℕ) → Circles (left .state) n figure → (n ≡ 0) × (figure ≡ flowCircle f)
@@ -249,4 +249,4 @@ module _ (f : List ℕ) (accepted : Accepted f) (xs ys : List ℕ) (v : Verdict)
     circle-answers n figure h =
         let w = left-runs in
         let e : circleNumber (left .state) ≡ 0 = test-passed 21 (sound-file f form (sessions f nobody cs) (w .known) (left .state) (w .stands)) in
-        (h .number ∙ e, h .answer ∙ rw e (circle-file f form (left .state) (w .stands .tables)))
+        (h .number ∙ e, h .answer ∙ rw e (circle-file f form (left .state) (w .stands .tables) (w .stands .long)))

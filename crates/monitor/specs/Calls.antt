@@ -10,9 +10,7 @@ use lib.Dec.{leb}
 use lib.ListN.{length, getD, set, take, drop, replicate}
 use Rattle.search.specs.Search.{among}
 use Rattle.roleset.specs.Row.{member}
-use Rattle.order.specs.Closure.{circle}
-use Rattle.policy.specs.Tables as tables
-use Rattle.policy.specs.Tables.{readersAt, writersAt, flowing}
+use Rattle.policy.specs.Tables.{readersAt, writersAt, flowsIn, circleIn}
 use Rattle.monitor.specs.Session.{sound, labelsIn, rolesIn, usersIn, cardsIn, placeAt, heldAt, inUse, userAt, labelAt, cleared, entitled, fitting, gives}
 
 -- the number n unless the test holds; then what the tests after it say
@@ -170,8 +168,8 @@ circleNumber xs = unless (sound xs) 21 0
 -- the figure is 0 on a refusal
 pub record Flows (xs : List ℕ) (q r n figure : ℕ) : Type 0 where
   pub number : n ≡ flowsNumber xs q r
-  pub answer : figure ≡ ifDone (flowsNumber xs q r) (cond (flowing xs (tables.cardsUpTo xs) q r) 1 0) 0
+  pub answer : figure ≡ ifDone (flowsNumber xs q r) (cond (flowsIn xs q r) 1 0) 0
 
 pub record Circles (xs : List ℕ) (n figure : ℕ) : Type 0 where
   pub number : n ≡ circleNumber xs
-  pub answer : figure ≡ ifDone (circleNumber xs) (circle (tables.rolesUpTo xs) (flowing xs (tables.cardsUpTo xs))) 0
+  pub answer : figure ≡ ifDone (circleNumber xs) (circleIn xs) 0

@@ -2,8 +2,7 @@
 use super::state;
 ghost use mathlib.Core.Path.{_≡_};
 ghost use mathlib.Core.Bool.{cond};
-ghost use Rattle.order.specs.Closure.{circle};
-ghost use Rattle.policy.specs.Tables as tables;
+ghost use Rattle.policy.specs.Tables.{flowsIn, circleIn};
 ghost use Rattle.monitor.specs.Calls.{ifDone, flowsNumber, circleNumber};
 
 pub fn flows_number(s: &[u8], from: u64, to: u64) -> u64
@@ -23,7 +22,7 @@ pub fn flows_number(s: &[u8], from: u64, to: u64) -> u64
 
 pub fn flows_figure(s: &[u8], from: u64, to: u64, number: u64) -> u64
     requires { ⌜ number ≡ flowsNumber (now s) from to ⌝ }
-    ensures { λ r. ⌜ r ≡ ifDone (flowsNumber (now (s .entry)) from to) (cond (tables.flowing (now (s .entry)) (tables.cardsUpTo (now (s .entry))) from to) 1 0) 0 ⌝ }
+    ensures { λ r. ⌜ r ≡ ifDone (flowsNumber (now (s .entry)) from to) (cond (flowsIn (now (s .entry)) from to) 1 0) 0 ⌝ }
 {
     if number != 0 {
         return 0;
@@ -45,7 +44,7 @@ pub fn circle_number(s: &[u8]) -> u64
 
 pub fn circle_figure(s: &[u8], number: u64) -> u64
     requires { ⌜ number ≡ circleNumber (now s) ⌝ }
-    ensures { λ r. ⌜ r ≡ ifDone (circleNumber (now (s .entry))) (circle (tables.rolesUpTo (now (s .entry))) (tables.flowing (now (s .entry)) (tables.cardsUpTo (now (s .entry))))) 0 ⌝ }
+    ensures { λ r. ⌜ r ≡ ifDone (circleNumber (now (s .entry))) (circleIn (now (s .entry))) 0 ⌝ }
 {
     if number != 0 {
         return 0;

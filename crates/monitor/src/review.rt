@@ -5,6 +5,7 @@
 use super::rights;
 use super::rules;
 use super::state;
+use policy::tables;
 ghost use mathlib.Core.Path.{_≡_};
 ghost use Prim.Native.Nat.{ℕ, _<_};
 ghost use Rattle.search.specs.Search.{among};
@@ -12,14 +13,13 @@ ghost use Rattle.roleset.specs.Row.{member};
 ghost use Rattle.monitor.specs.Review as review;
 
 // How many things the count at `at` tells of.
-fn counted(s: &[u8], at: u64) -> u64
-    requires { ⌜ at < 65536 ⌝ }
+fn counted(s: &[u8], at: u16) -> u64
     ensures { λ r. ⌜ r ≡ review.counted (now (s .entry)) at ⌝ }
 {
     if !state::sound(s) {
         return 0;
     }
-    state::word(s, at)
+    tables::word(s, at)
 }
 
 // How many labels the state has.
@@ -51,8 +51,7 @@ pub fn cards(s: &[u8]) -> u64
 }
 
 // Whether x is one of the things that the count at `at` tells of.
-fn known(s: &[u8], at: u64, x: u64) -> bool
-    requires { ⌜ at < 65536 ⌝ }
+fn known(s: &[u8], at: u16, x: u64) -> bool
     ensures { λ r. ⌜ r ≡ review.known (now (s .entry)) at x ⌝ }
 {
     if !state::sound(s) {
@@ -81,7 +80,7 @@ pub fn dominates(s: &[u8], a: u64, b: u64) -> bool
     if !known(s, 0, b) {
         return false;
     }
-    state::dominates(s, a, b)
+    tables::dominates(s, a, b)
 }
 
 // Whether role q is a senior of role r, or the same.
@@ -171,7 +170,7 @@ pub fn give(s: &[u8], mode: u64, card: u64, row: [u8; 16]) -> bool
     if !known(s, 6, card) {
         return false;
     }
-    if !state::among(2, mode) {
+    if !search::among(2, mode) {
         return false;
     }
     let at = rights::table_of(mode) + 16 * (card - 1);

@@ -1,6 +1,7 @@
 // What a user could do at a label.
 use super::rules;
 use super::state;
+use policy::tables;
 ghost use mathlib.Core.Path.{_≡_};
 ghost use mathlib.Core.Bool.{cond};
 ghost use Prim.Native.Nat.{_≤_};
@@ -25,7 +26,7 @@ pub fn can_number(s: &[u8], user: u64, label: u64, card: u64, mode: u64) -> u64
     if !state::counted(s, 6, card) {
         return 25;
     }
-    if !state::among(2, mode) {
+    if !search::among(2, mode) {
         return 25;
     }
     if !rules::cleared(s, user, label) {
@@ -53,7 +54,7 @@ fn could(s: &[u8], user: u64, label: u64, card: u64, at: u64) -> bool
     requires { ⌜ (65536 ≤ length (now s)) × (rolesIn (now s) ≤ 128) × (at ≤ 20496) × Among 256 user × Among 512 card ⌝ }
     ensures { λ r. ⌜ r ≡ rights.could (now (s .entry)) user label card at ⌝ }
 {
-    let n = state::word(s, 2);
+    let n = tables::word(s, 2);
     let mut i = 0;
     while i < n {
         if serves(s, user, label, card, at, i + 1) {

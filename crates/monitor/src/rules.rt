@@ -1,5 +1,6 @@
 // What the rules ask of a user, a label, a role and a card.
 use super::state;
+use policy::tables;
 ghost use mathlib.Core.Path.{_≡_};
 ghost use Prim.Native.Nat.{_+_, _*_, _≤_};
 ghost use lib.Dec.{leb};
@@ -14,7 +15,7 @@ pub fn cleared(s: &[u8], user: u64, label: u64) -> bool
     requires { ⌜ Among 256 user ⌝ }
     ensures { λ r. ⌜ r ≡ session.cleared (now (s .entry)) user label ⌝ }
 {
-    state::dominates(s, state::byte_of(s, 1040, user), label)
+    tables::dominates(s, state::byte_of(s, 1040, user), label)
 }
 
 // Whether the user is assigned to the role or to a senior of it.
@@ -34,7 +35,7 @@ fn passes(s: &[u8], level: u64, a: u64, b: u64) -> bool
     if level == 0 {
         return true;
     }
-    state::dominates(s, a, b)
+    tables::dominates(s, a, b)
 }
 
 // Whether the levels of the role allow it at the label.
@@ -98,5 +99,5 @@ pub fn in_card(offset: u64, n: u64) -> bool
 pub fn stored(s: &[u8], size: usize) -> bool
     ensures { λ r. ⌜ r ≡ leb (64 * session.cardsIn (now (s .entry))) size ⌝ }
 {
-    64 * state::word(s, 6) <= size as u64
+    64 * tables::word(s, 6) <= size as u64
 }

@@ -25,7 +25,7 @@ fn open_number(s: &[u8], place: u64, user: u64, label: u64) -> u64
     if !state::sound(s) {
         return 21;
     }
-    if !state::among(64, place) {
+    if !search::among(64, place) {
         return 22;
     }
     if state::in_use(s, place) {
@@ -74,7 +74,7 @@ pub fn session_number(s: &[u8], place: u64) -> u64
     if !state::sound(s) {
         return 21;
     }
-    if !state::among(64, place) {
+    if !search::among(64, place) {
         return 22;
     }
     if !state::in_use(s, place) {

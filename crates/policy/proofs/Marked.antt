@@ -11,15 +11,12 @@ use lib.Dec.{eqb}
 use lib.ListN.{length, getD, set, replicate, getD-replicate}
 use lib.Seq.{getD-set-same, getD-set-other}
 use borrow.Author.Tests.{eqb-true, eq-eqb, ne-eqb}
-use Rattle.search.specs.Search.{Among, among, some}
-use Rattle.search.proofs.Truth.{and-iff, among-iff, untrue}
+use Rattle.search.specs.Search.{Among, some}
+use Rattle.search.proofs.Truth.{and-iff, untrue}
 use Rattle.search.proofs.Found.{last-or, some-more}
 use Rattle.order.specs.Table.{marks, mark}
 use Rattle.rolefile.specs.Section.{one, two}
 use Rattle.policy.specs.Tables.{Kept, dominanceAt, pairs}
-
-pub not-among : (n a : ℕ) → (Among n a → ⊥) → among n a ≡ false
-not-among n a h = untrue (among n a) (λ e. h (among-iff n a .0 e))
 
 -- the table r is t with a mark for a over b
 abbrev pub WithPair : ℕ → ℕ → List (List Bool) → List (List Bool) → Type 0

@@ -6,23 +6,25 @@ use mathlib.Core.List.{List}
 use mathlib.Core.Bool.{Bool, false, not, _&&_}
 use native.Mathlib.Omega.{arith}
 use lib.Dec.{eqb}
+use lib.ListN.{length}
 use borrow.Author.Tests.{eq-eqb}
 use Rattle.search.specs.Search.{Among, some}
 use Rattle.search.proofs.Truth.{untrue, both}
 use Rattle.search.proofs.Found.{some-agree, first-none}
 use Rattle.roleset.specs.Row.{member}
-use Rattle.order.specs.Closure.{path, circle, OnCircle}
+use Rattle.order.specs.Closure.{path, OnCircle}
 use Rattle.order.proofs.Closure.{circle-finds, circle-lowest, circle-agree}
 use Rattle.rolefile.specs.Form.{header}
 use Rattle.rolefile.specs.Said.{labels, roles, cards}
 use Rattle.rolefile.specs.WellFormed.{GoodCounts, WellFormed}
 use Rattle.policy.specs.Policy.{dominates, may}
 use Rattle.policy.specs.Flow.{flows, flowCircle}
-use Rattle.policy.specs.Tables.{readersAt, writersAt, rowOf, marked, flowing, rolesUpTo, cardsUpTo}
+use Rattle.policy.specs.Tables.{readersAt, writersAt, stateSize, rowOf, marked, flowing, rolesUpTo, cardsUpTo, roleCount, flowsIn, circleIn}
 use Rattle.policy.specs.Accepted.{LowestOnCircle}
 use Rattle.policy.specs.Image.{Describes}
 use Rattle.policy.proofs.Inside.{over-between}
 use Rattle.policy.proofs.Assigning.{marked-is}
+use Rattle.policy.proofs.Flowing.{a-state}
 
 module _ (f : List ℕ) (form : WellFormed f) where
   pub counts-known : GoodCounts (header f)
@@ -34,25 +36,33 @@ module _ (f : List ℕ) (form : WellFormed f) where
 
     -- ---- "Role flow"
 
-    pub roles-file : rolesUpTo xs ≡ roles f
+    roles-file : rolesUpTo xs ≡ roles f
     roles-file = let c = counts-known in let e = tables .counted .roles in omega (arith, c .roles)
 
-    pub cards-file : cardsUpTo xs ≡ cards f
+    cards-file : cardsUpTo xs ≡ cards f
     cards-file = let c = counts-known in let e = tables .counted .cards in omega (arith, c .cards)
 
-    pub flow-file : (r q : ℕ) → Among 128 r → Among 128 q → flowing xs (cardsUpTo xs) r q ≡ flows f r q
+    flowing-file : (r q : ℕ) → Among 128 r → Among 128 q → flowing xs (cardsUpTo xs) r q ≡ flows f r q
     unfolding flowing flows
-    flow-file r q v w = rw cards-file (ap (λ (b : Bool). not (eqb r q) && b)
+    flowing-file r q v w = rw cards-file (ap (λ (b : Bool). not (eqb r q) && b)
         (some-agree (λ o. member xs (rowOf writersAt o) r && member xs (rowOf readersAt o) q) (λ o. may f 2 r o && may f 1 q o) (cards f)
         (λ o i.
         let few = counts-known .cards in
         let j : Among 512 o = omega arith in
         rw (tables .permitting .writers o r j v, tables .permitting .readers o q j w))))
 
-    pub circle-file : circle (rolesUpTo xs) (flowing xs (cardsUpTo xs)) ≡ flowCircle f
-    unfolding flowCircle
-    circle-file = rw roles-file (circle-agree (roles f) 128 (flowing xs (cardsUpTo xs)) (flows f) (counts-known .roles)
-        (λ r q v w. let few = counts-known .roles in flow-file r q (omega arith) w))
+    -- as a whole state tells it
+    module _ (long : stateSize ≤ length xs) where
+      pub role-count-file : roleCount xs ≡ roles f
+      role-count-file = rw (a-state xs long) roles-file
+
+      pub flow-file : (r q : ℕ) → Among 128 r → Among 128 q → flowsIn xs r q ≡ flows f r q
+      flow-file r q v w = rw (a-state xs long) (flowing-file r q v w)
+
+      pub circle-file : circleIn xs ≡ flowCircle f
+      unfolding flowCircle
+      circle-file = rw (a-state xs long, roles-file) (circle-agree (roles f) 128 (flowing xs (cardsUpTo xs)) (flows f) (counts-known .roles)
+          (λ r q v w. let few = counts-known .roles in flowing-file r q (omega arith) w))
 
 -- ---- the circle as a property: "the lowest role on a circle of two or more roles, or 0"
 

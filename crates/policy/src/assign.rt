@@ -1,5 +1,5 @@
 // The numbers 14 to 16: each assignment against the levels of its role, by the tables.
-use super::marks;
+use super::tables;
 use rolefile::Verdict;
 use rolefile::check;
 use rolefile::read;
@@ -17,17 +17,17 @@ fn assign(s: &[u8], u: usize, r: usize) -> Verdict
     requires { ⌜ (2064 ≤ length (now s)) × Among 256 u × Among 128 r ⌝ }
     ensures { λ v. ⌜ v ≡ assignByTables (now (s .entry)) u r ⌝ }
 {
-    let clearance = s[1040 + (u - 1)] as usize;
-    let reads = s[1808 + (r - 1)] as usize;
-    let writes = s[1936 + (r - 1)] as usize;
+    let clearance = s[1040 + (u - 1)] as u64;
+    let reads = s[1808 + (r - 1)] as u64;
+    let writes = s[1936 + (r - 1)] as u64;
     if writes == 99 {
         return check::refused(14, u as u64, r as u64);
     }
-    let under = marks::dominates(s, clearance, reads);
+    let under = tables::dominates(s, clearance, reads);
     if !((reads == 0) | under) {
         return check::refused(15, u as u64, r as u64);
     }
-    let over = marks::dominates(s, writes, clearance);
+    let over = tables::dominates(s, writes, clearance);
     if !((writes == 0) | over) {
         return check::refused(16, u as u64, r as u64);
     }

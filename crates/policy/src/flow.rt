@@ -1,6 +1,7 @@
 // Role flow, and what a state holds of its roles, for reports.
 //
 // Every public function takes any slice. One that is too short to be a state has no roles.
+use super::tables;
 ghost use mathlib.Core.Path.{_≡_};
 ghost use mathlib.Core.Bool.{not, _&&_, _||_};
 ghost use Prim.Native.Nat.{ℕ, _+_, _*_, _≤_, _<_};
@@ -9,15 +10,7 @@ ghost use lib.ListN.{length};
 ghost use Rattle.search.specs.Search.{some, Among};
 ghost use Rattle.roleset.specs.Row.{member, Placed};
 ghost use Rattle.order.specs.Table.{related, Tabled};
-ghost use Rattle.policy.specs.Tables.{word, rowOf, rLevelsAt, wLevelsAt, readersAt, writersAt, roleCount, cardCount, levelIn, flowsIn, circleIn};
-
-// The number in two bytes, the lower first.
-fn word(s: &[u8], at: usize) -> usize
-    requires { ⌜ at + 2 ≤ length (now s) ⌝ }
-    ensures { λ r. ⌜ r ≡ word (now (s .entry)) at ⌝ }
-{
-    s[at] as usize + 256 * s[at + 1] as usize
-}
+ghost use Rattle.policy.specs.Tables.{rowOf, rLevelsAt, wLevelsAt, readersAt, writersAt, roleCount, cardCount, levelIn, flowsIn, circleIn};
 
 // How many roles the state holds.
 pub fn roles(s: &[u8]) -> usize
@@ -26,7 +19,7 @@ pub fn roles(s: &[u8]) -> usize
     if s.len() < 65536 {
         return 0;
     }
-    order::marks::lesser(word(s, 2), 128)
+    order::marks::lesser(tables::word(s, 2) as usize, 128)
 }
 
 // How many cards the state holds.
@@ -36,7 +29,7 @@ fn cards(s: &[u8]) -> usize
     if s.len() < 65536 {
         return 0;
     }
-    order::marks::lesser(word(s, 6), 512)
+    order::marks::lesser(tables::word(s, 6) as usize, 512)
 }
 
 // The role's byte of the table of levels at `at`.

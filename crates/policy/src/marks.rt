@@ -8,7 +8,7 @@ ghost use lib.ListN.{length, getD};
 ghost use Rattle.search.specs.Search.{Among};
 ghost use Rattle.order.specs.Table.{marks, mark};
 ghost use Rattle.rolefile.specs.Line.{lines};
-ghost use Rattle.policy.specs.Tables.{pairs, dominanceAt, Kept, marked};
+ghost use Rattle.policy.specs.Tables.{pairs, dominanceAt, Kept};
 
 // The row with a mark at thing b.
 fn with_mark(row: [bool; 32], b: usize) -> [bool; 32]
@@ -88,24 +88,4 @@ pub fn put_table(s: &mut [u8], t: [[bool; 32]; 32])
         put_row(s, 16 + 32 * i, row);
         i += 1;
     }
-}
-
-// Whether label a dominates label b, by the bytes.
-pub fn dominates(s: &[u8], a: usize, b: usize) -> bool
-    requires { ⌜ 1040 ≤ length (now s) ⌝ }
-    ensures { λ r. ⌜ r ≡ marked (now (s .entry)) a b ⌝ }
-{
-    if a < 1 {
-        return false;
-    }
-    if 32 < a {
-        return false;
-    }
-    if b < 1 {
-        return false;
-    }
-    if 32 < b {
-        return false;
-    }
-    s[16 + (32 * (a - 1) + (b - 1))] == 1
 }

@@ -26,7 +26,7 @@ row-most f number k l = where-most (leb 2 number && leb number 5) _ (λ e. simp 
 
 place-most : (number first second : ℕ) → number < 100000 → first < 100000 → second < 100000 → length (placeRows number first second) ≤ 64
 unfolding placeRows
-place-most n a b k l m = simp length-append (omega (arith, few-digits n k, few-digits a l, few-digits b m))
+place-most n a b k l m = simp length-append (omega (arith, few-digits 4 n k, few-digits 4 a l, few-digits 4 b m))
 
 reason-row-most : (n : ℕ) → length (reasonRow n) ≤ 104
 unfolding reasonRow

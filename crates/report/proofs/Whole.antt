@@ -23,7 +23,7 @@ module _ (p : ℕ → Bool) where
   piece-most : (k : ℕ) → k < 100000 → length (piece p k) ≤ 6
   unfolding piece
   piece-most k l =
-      let d = few-digits k l in
+      let d = few-digits 4 k l in
       one-most (p k) _ [] (one-most (p (k - 1)) _ _ (one-most (p (k + 1)) [] (ascii "-" ++ digits k) (omega arith) (simp length-append (omega arith))) (simp length-append (omega arith))) (omega arith)
 
   pieces-most : (n : ℕ) → n ≤ 512 → length (pieces n p) ≤ n * 6
@@ -62,7 +62,7 @@ module _ (xs : List ℕ) where
 
   clearance-most : (u : ℕ) → u < 100000 → clearanceOf xs u < 100000 → length (clearanceLine xs u) ≤ 29
   unfolding clearanceLine head
-  clearance-most u l m = simp length-append (omega (arith, five-columns u l, few-digits (clearanceOf xs u) m))
+  clearance-most u l m = simp length-append (omega (arith, five-columns u l, few-digits 4 (clearanceOf xs u) m))
 
   lines-most : (u : ℕ) → u < 100000 → clearanceOf xs u < 100000 → length (userLines xs u) ≤ 6219
   unfolding userLines

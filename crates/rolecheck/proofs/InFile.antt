@@ -10,11 +10,11 @@ use Rattle.order.specs.Closure.{Relation}
 use Rattle.rolefile.specs.Said.{roles}
 use Rattle.rolefile.specs.WellFormed.{WellFormed}
 use Rattle.policy.specs.Policy.{rLevel, wLevel, levelNumber}
-use Rattle.policy.specs.Flow.{flows, flowCircle}
-use Rattle.policy.specs.Tables.{rLevelsAt, wLevelsAt, levelIn, flowsIn, roleCount, circleIn}
+use Rattle.policy.specs.Flow.{flows}
+use Rattle.policy.specs.Tables.{rLevelsAt, wLevelsAt, levelIn, flowsIn}
 use Rattle.policy.specs.Image.{Describes}
 use Rattle.policy.proofs.Flowing.{a-state}
-use Rattle.policy.proofs.Meaning.{counts-known, roles-file, flow-file, circle-file}
+use Rattle.policy.proofs.Meaning.{counts-known, role-count-file, flow-file, circle-file}
 use Rattle.text.proofs.Each.{each-agree}
 use Rattle.rolecheck.specs.Report.{line, flowLine, flowsFrom, policyLines, fileLines, stateLines}
 
@@ -26,27 +26,18 @@ module _ (f : List ℕ) (form : WellFormed f) (xs : List ℕ) (long : 65536 ≤ 
   role : (r : ℕ) → Among (roles f) r → Among 128 r
   role r w = let few = counts-known f form .roles in omega arith
 
-  pub count-file : roleCount xs ≡ roles f
-  count-file = rw (a-state xs long) (roles-file f form xs tables)
-
   pub levels-file : (r : ℕ) → Among (roles f) r → (levelIn xs rLevelsAt r ≡ levelNumber (rLevel f r)) × (levelIn xs wLevelsAt r ≡ levelNumber (wLevel f r))
   levels-file r w =
       rw (a-state xs long, among-iff 128 r .1 (role r w)) (tables .levelled .reads r (role r w), tables .levelled .writes r (role r w))
-
-  pub flow-in-file : (r q : ℕ) → Among (roles f) r → Among (roles f) q → flowsIn xs r q ≡ flows f r q
-  flow-in-file r q v w = rw (a-state xs long) (flow-file f form xs tables r q (role r v) (role q w))
-
-  pub circle-in-file : circleIn xs ≡ flowCircle f
-  circle-in-file = rw (a-state xs long) (circle-file f form xs tables)
 
   pub lines-file : stateLines xs ≡ fileLines f
   unfolding policyLines
   lines-file =
       rw (
-        count-file,
-        circle-in-file,
+        role-count-file f form xs tables long,
+        circle-file f form xs tables long,
         each-agree (roles f) (λ r. line 82 3 r (levelIn xs rLevelsAt r) (levelIn xs wLevelsAt r)) (λ r. line 82 3 r (levelNumber (rLevel f r)) (levelNumber (wLevel f r)))
             (λ r w. rw (levels-file r w .0, levels-file r w .1)),
         each-agree (roles f) (flowsFrom (flowsIn xs) (roles f)) (flowsFrom (flows f) (roles f))
-            (λ r v. each-agree (roles f) (flowLine (flowsIn xs) r) (flowLine (flows f) r) (λ q w. line-agrees (flowsIn xs) (flows f) r q (flow-in-file r q v w))),
+            (λ r v. each-agree (roles f) (flowLine (flowsIn xs) r) (flowLine (flows f) r) (λ q w. line-agrees (flowsIn xs) (flows f) r q (flow-file f form xs tables long r q (role r v) (role q w)))),
       )

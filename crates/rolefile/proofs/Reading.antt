@@ -1,6 +1,6 @@
 -- Reading a line field by field: a field that does not read as asked ends it, and where none does the line is what the fields say.
 -- Assumes nothing.
-use Prim.Native.Nat.{ℕ, _+_, _≤_, _<_}
+use Prim.Native.Nat.{ℕ, _+_, _*_, _≤_, _<_}
 use mathlib.Core.Path.{_≡_, refl, sym, ap, _∙_}
 use mathlib.Core.Logic.{⊎-elim}
 use mathlib.Core.List.{List, [], _∷_}
@@ -14,7 +14,7 @@ use Rattle.search.proofs.Truth.{and-iff, same}
 use types.Run
 use Rattle.rolefile.specs.declared.Field.{Field}
 use Rattle.rolefile.specs.declared.Field.the-variants.{Blank, Number, Bad}
-use Rattle.rolefile.specs.Field.{four, fieldAt}
+use Rattle.rolefile.specs.Field.{fieldAt}
 use Rattle.rolefile.specs.Line.{letterOf, fields, fits, value, taken, formed, noLine, lineOf, lineFrom}
 use Rattle.rolefile.proofs.Decimals.{field-blank}
 use Rattle.rolefile.proofs.Field as field-type
@@ -24,6 +24,10 @@ unused : (x : Field) → fits false x ≡ true → x ≡ Blank
 unused Blank e = refl
 unused (Number n) e = absurd (false≢true e)
 unused Bad e = absurd (false≢true e)
+
+-- four columns as one number, the first lowest
+abbrev four : List ℕ → ℕ → ℕ
+four f at = getD f at 0 + 256 * getD f (at + 1) 0 + 65536 * getD f (at + 2) 0 + 16777216 * getD f (at + 3) 0
 
 -- five blanks, four of them tested at once
 module _ (f : List ℕ) (at : ℕ) where

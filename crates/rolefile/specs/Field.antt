@@ -30,9 +30,5 @@ columns f (b ∷ bs) = columns (column f b) bs
 abbrev pub five : List ℕ → ℕ → List ℕ
 five f at = getD f at 0 ∷ getD f (at + 1) 0 ∷ getD f (at + 2) 0 ∷ getD f (at + 3) 0 ∷ getD f (at + 4) 0 ∷ []
 
--- four columns as one number, the first the lowest
-abbrev pub four : List ℕ → ℕ → ℕ
-four f at = getD f at 0 + 256 * getD f (at + 1) 0 + (65536 * getD f (at + 2) 0 + 16777216 * getD f (at + 3) 0)
-
 abbrev pub fieldAt : List ℕ → ℕ → Field
 fieldAt f at = columns Blank (five f at)

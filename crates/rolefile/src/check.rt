@@ -5,7 +5,6 @@ use super::read;
 use super::reader;
 ghost use mathlib.Core.Path.{_≡_};
 ghost use Prim.Native.Nat.{_≤_};
-ghost use Rattle.search.specs.Search.{among};
 ghost use Rattle.rolefile.specs.Line.{lines};
 ghost use Rattle.rolefile.specs.Form.{fine, refusal, counted, firstLimit, secondLimit, ranged, before, rises, headVerdict, bodyVerdict, lineVerdict, scan, linesVerdict};
 ghost use Rattle.rolefile.specs.Scan.{seen, goesOn, looked};
@@ -36,14 +35,7 @@ pub fn refused(number: u64, first: u64, second: u64) -> Verdict
 fn counts_fit(h: Line) -> bool
     ensures { λ r. ⌜ r ≡ counted h ⌝ }
 {
-    within(h.a, 32) & ((h.b <= 128) & ((h.c <= 256) & (h.d <= 512)))
-}
-
-// Whether x is one of the numbers 1 to n.
-fn within(x: u64, n: u64) -> bool
-    ensures { λ r. ⌜ r ≡ among n x ⌝ }
-{
-    (1 <= x) & (x <= n)
+    search::among(32, h.a) & ((h.b <= 128) & ((h.c <= 256) & (h.d <= 512)))
 }
 
 // 4: the count that the first field of a letter's lines goes up to, and the second.
@@ -75,9 +67,9 @@ fn numbers_fit(h: Line, l: Line) -> bool
     ensures { λ r. ⌜ r ≡ ranged h l ⌝ }
 {
     let k = l.letter;
-    let one = within(l.a, first_limit(h, k));
-    let two = within(l.b, second_limit(h, k));
-    one & (two & ((k != 6) | within(l.c, 2)))
+    let one = search::among(first_limit(h, k), l.a);
+    let two = search::among(second_limit(h, k), l.b);
+    one & (two & ((k != 6) | search::among(2, l.c)))
 }
 
 // x is less than y, or is y and the rest decides.

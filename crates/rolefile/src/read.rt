@@ -5,7 +5,7 @@ ghost use mathlib.Core.Path.{_≡_};
 ghost use mathlib.Core.Bool.{true, false};
 ghost use Prim.Native.Nat.{_+_, _*_, _-_, _%_, _≤_, _<_};
 ghost use lib.ListN.{length, drop};
-ghost use Rattle.rolefile.specs.Field.{column, four, fieldAt};
+ghost use Rattle.rolefile.specs.Field.{column, fieldAt};
 ghost use Rattle.rolefile.specs.Section.{figure, figureOf, one, two, three, Leads};
 ghost use Rattle.rolefile.specs.Line.{letterOf, fields, fits, taken, noLine, lineOf, lineFrom, lineAt, textAt};
 
@@ -166,21 +166,13 @@ pub fn first_line(f: &[u8]) -> Line
     line_of(letter(f[0]), f[21], p, q, r, s)
 }
 
-// Four columns as one number, so that they are compared at once.
-fn four(s: &[u8], at: usize) -> usize
-    requires { ⌜ at + 4 ≤ length (now s) ⌝ }
-    ensures { λ r. ⌜ r ≡ four (now (s .entry)) at ⌝ }
-{
-    let low = wide(s[at]) + 256 * wide(s[at + 1]);
-    low + (65536 * wide(s[at + 2]) + 16777216 * wide(s[at + 3]))
-}
-
-// Whether the five columns at `at` are blanks.
+// Whether the five columns at `at` are blanks, four of them compared at once as one number.
 fn blank(s: &[u8], at: usize) -> bool
     requires { ⌜ at + 5 ≤ length (now s) ⌝ }
     ensures { λ r. ⌜ r ≡ fits false (fieldAt (now (s .entry)) at) ⌝ }
 {
-    (four(s, at) == 538976288) & (s[at + 4] == 32)
+    let four = number::four(s[at], s[at + 1], s[at + 2], s[at + 3]);
+    (four == 538976288) & (s[at + 4] == 32)
 }
 
 // What a line takes out of the field at `at`, which is read only where it is in use.
@@ -260,10 +252,11 @@ pub fn text(f: &[u8], k: usize) -> &[u8]
     &f[at..end]
 }
 
-fn wide(x: u8) -> usize
-    ensures { λ r. ⌜ (r ≡ x) × (r < 256) ⌝ }
+// What a column counts: a digit its value, and a blank 0.
+fn digit(x: u8) -> usize
+    ensures { λ r. ⌜ (r ≡ x % 16) × (r < 16) ⌝ }
 {
-    x as usize
+    (x % 16) as usize
 }
 
 // What the five columns at `at` come to, where they are known to be a number.
@@ -271,9 +264,9 @@ fn figure(s: &[u8], at: usize) -> usize
     requires { ⌜ at + 5 ≤ length (now s) ⌝ }
     ensures { λ r. ⌜ r ≡ figure (now (s .entry)) at ⌝ }
 {
-    let high = 10000 * (wide(s[at]) % 16) + 1000 * (wide(s[at + 1]) % 16);
-    let low = 10 * (wide(s[at + 3]) % 16) + wide(s[at + 4]) % 16;
-    high + (100 * (wide(s[at + 2]) % 16) + low)
+    let high = 10000 * digit(s[at]) + 1000 * digit(s[at + 1]);
+    let low = 10 * digit(s[at + 3]) + digit(s[at + 4]);
+    high + (100 * digit(s[at + 2]) + low)
 }
 
 // What the five columns from column k on of line i + 1 come to, or 0 where the part has no such line.

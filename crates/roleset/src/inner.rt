@@ -27,10 +27,7 @@ pub fn lies(len: usize, at: usize) -> bool
 pub fn is_role(role: usize) -> bool
     ensures { λ r. ⌜ r ≡ among 128 role ⌝ }
 {
-    if role < 1 {
-        return false;
-    }
-    role <= 128
+    search::among(128, role as u64)
 }
 
 pub fn has(s: &[u8], at: usize, role: usize) -> bool
@@ -100,26 +97,14 @@ pub fn unite_rows(s: &mut [u8], at: usize, n: usize, role: usize, other: [u8; 16
     }
 }
 
-fn wide(x: u8) -> u64
-    ensures { λ r. ⌜ (r ≡ x) × (r < 256) ⌝ }
-{
-    x as u64
-}
-
-// Four bytes as one number, the first lowest, and half a row likewise: the compiler makes one load
-// of a half.
-fn quarter(s: &[u8], at: usize) -> u64
-    requires { ⌜ at + 4 ≤ length (now s) ⌝ }
-    ensures { λ r. ⌜ (r ≡ getD (now (s .entry)) at 0 + 256 * getD (now (s .entry)) (at + 1) 0 + 65536 * getD (now (s .entry)) (at + 2) 0 + 16777216 * getD (now (s .entry)) (at + 3) 0) × (r < 4294967296) ⌝ }
-{
-    wide(s[at]) + 256 * wide(s[at + 1]) + 65536 * wide(s[at + 2]) + 16777216 * wide(s[at + 3])
-}
-
+// Half a row as one number, the first byte lowest: the compiler makes one load of it.
 fn half(s: &[u8], at: usize) -> u64
     requires { ⌜ at + 8 ≤ length (now s) ⌝ }
     ensures { λ r. ⌜ r ≡ littleEndian 8 (λ k. getD (now (s .entry)) (at + k) 0) ⌝ }
 {
-    quarter(s, at) + 4294967296 * quarter(s, at + 4)
+    let low = number::four(s[at], s[at + 1], s[at + 2], s[at + 3]);
+    let high = number::four(s[at + 4], s[at + 5], s[at + 6], s[at + 7]);
+    low + 4294967296 * high
 }
 
 pub fn meet(s: &[u8], a: usize, t: &[u8], b: usize) -> bool

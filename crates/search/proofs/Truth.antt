@@ -46,6 +46,9 @@ passed {t} e h = sym e ∙ not-false t h
 pub failed : {t u : Bool} → t ≡ u → not t ≡ true → u ≡ false
 failed {t} e h = sym e ∙ not-true t h
 
+pub one-of : (n x : ℕ) {t : Bool} → t ≡ among n x → not t ≡ false → Among n x
+one-of n x e h = among-iff n x .0 (passed e h)
+
 -- two tests that are true in the same cases are one
 pub same : (a b : Bool) → (a ≡ true → b ≡ true) → (b ≡ true → a ≡ true) → a ≡ b
 same true b f g = sym (f refl)

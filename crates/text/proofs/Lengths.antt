@@ -1,5 +1,5 @@
 -- How long a text is at most, so that a buffer holds it whole. Assumes nothing.
-use Prim.Native.Nat.{ℕ, _≤_, _<_}
+use Prim.Native.Nat.{ℕ, zero, suc, _^_, _≤_, _<_}
 use mathlib.Core.Path.{_≡_, refl}
 use mathlib.Core.List.{List, []}
 use mathlib.Core.Bool.{Bool, true, false, cond}
@@ -22,23 +22,15 @@ where-most false x l = omega arith
 
 pub ruleset most = (one-most, lit≤)
 
--- a number below 100,000 has at most five digits
-pub few-digits : (n : ℕ) → n < 100000 → length (digits n) ≤ 5
-few-digits n l = elim (decLt n 10) [
-  | yes a ↦ omega (arith, digit-count 0 n (λ k. omega arith) (omega arith))
-  | no a ↦ elim (decLt n 100) [
-    | yes b ↦ omega (arith, digit-count 1 n (λ k. omega arith) (omega arith))
-    | no b ↦ elim (decLt n 1000) [
-      | yes c ↦ omega (arith, digit-count 2 n (λ k. omega arith) (omega arith))
-      | no c ↦ elim (decLt n 10000) [
-        | yes d ↦ omega (arith, digit-count 3 n (λ k. omega arith) (omega arith))
-        | no d ↦ omega (arith, digit-count 4 n (λ k. omega arith) (omega arith))
-      ]
-    ]
-  ]
+-- a number below 10 ^ (k + 1) has at most k + 1 digits
+pub few-digits : (k n : ℕ) → n < 10 ^ suc k → length (digits n) ≤ suc k
+few-digits zero n l = omega (arith, digit-count 0 n (λ one. absurd (omega arith)) l)
+few-digits (suc k) n l = elim (decLt n (10 ^ suc k)) [
+  | yes less ↦ omega (arith, few-digits k n less)
+  | no more ↦ omega (arith, digit-count (suc k) n (λ one. omega arith) l)
 ]
 
--- and fills five columns
+-- one below 100,000 fills five columns
 pub five-columns : (n : ℕ) → n < 100000 → length (padded n) ≡ 5
 unfolding padded
-five-columns n l = let few = few-digits n l in simp (length-append, length-replicate) (omega arith)
+five-columns n l = let few = few-digits 4 n l in simp (length-append, length-replicate) (omega arith)

@@ -1,7 +1,8 @@
 -- Each number goes by the test that gave it and those before it.
 use borrow.Author.Needs.{needs}
 use Rattle.monitor.specs.Calls.{openNumber}
-use Rattle.monitor.proofs.Answers.{row, one-of, user-known}
+use Rattle.search.proofs.Truth.{one-of}
+use Rattle.monitor.proofs.Answers.{row, user-known}
 use Rattle.monitor.proofs.sessions.open_number.Statement.{statement}
 use Rattle.monitor.proofs.sessions.open_number.Tie as tie
 

@@ -1,7 +1,8 @@
 -- Each number goes by the test that gave it and those before it.
 use borrow.Author.Needs.{needs}
 use Rattle.monitor.specs.Calls.{closeNumber}
-use Rattle.monitor.proofs.Answers.{row, one-of}
+use Rattle.search.proofs.Truth.{one-of}
+use Rattle.monitor.proofs.Answers.{row}
 use Rattle.monitor.proofs.sessions.session_number.Statement.{statement}
 use Rattle.monitor.proofs.sessions.session_number.Tie as tie
 

@@ -9,7 +9,7 @@ use Rattle.monitor.proofs.state.in_use.Tie as tie
 
 returns : tie.Need-returns
 unfolding inUse
-returns c = ap (λ (n : ℕ). eqb n 1) (c .byte .ensures .0)
+returns c = ap (λ (n : ℕ). eqb n 1) (c .byte .ensures)
 
 pub in-use-spec : {M : Type 1} → statement M
 in-use-spec =

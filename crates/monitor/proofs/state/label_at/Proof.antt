@@ -6,9 +6,16 @@ use Rattle.monitor.proofs.state.label_at.Tie as tie
 
 returns : tie.Need-returns
 unfolding labelAt
-returns c = c .byte .ensures
+returns c = (c .byte .ensures, search needs)
 
 pub label-at-spec : {M : Type 1} → statement M
 label-at-spec =
     tie.close
-    (tie.spec (λ c. search needs) (λ c. search needs) (λ c. search needs) (λ c. search needs) (λ c κs. search needs) returns)
+    (tie.spec
+    (λ c. search needs)
+    (λ c. search needs)
+    (λ c. search needs)
+    (λ c. search needs)
+    (λ c κs. search needs)
+    (λ c. search needs)
+    returns)

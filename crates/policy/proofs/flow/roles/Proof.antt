@@ -10,7 +10,7 @@ returns c = refused _ (no-state (now (c .before .before .args .s)) (search needs
 
 returns-2 : tie.Need-returns-2
 returns-2 c =
-    answered (a-state (now (c .before .before .before .before .args .s)) (search needs)) (rw (c .before .word .ensures) at (c .lesser .ensures))
+    answered (a-state (now (c .before .before .before .before .args .s)) (search needs)) (rw (c .before .word .ensures .0) at (c .lesser .ensures))
 
 pub roles-spec : {M : Type 1} → statement M
 roles-spec = tie.close (tie.spec returns (λ c κs. search needs) (λ c κs. search needs) returns-2)

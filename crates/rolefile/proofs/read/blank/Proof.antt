@@ -9,9 +9,10 @@ use Rattle.rolefile.proofs.read.blank.Tie as tie
 
 returns : tie.Need-returns
 returns c =
-    let a = c .before .before .before .args in
-    let byte = c .before .before .shared-slice-known .given in
-    rw (c .before .four .ensures)
+    let first = c .before .before .before .before .before .before in
+    let a = first .before .args in
+    let byte = first .shared-slice-known .given in
+    rw (c .before .four .ensures .0)
     (blank-tested (now (a .s)) (a .at)
     (omega (arith, byte (a .at)))
     (omega (arith, byte (a .at + 1)))
@@ -19,4 +20,17 @@ returns c =
     (omega (arith, byte (a .at + 3))))
 
 pub blank-spec : {M : Type 1} → statement M
-blank-spec = tie.close (tie.spec (λ c κs. search needs) (λ c. search needs) (λ c. search needs) returns)
+blank-spec =
+    tie.close
+    (tie.spec
+    (λ c. search needs)
+    (λ c. search needs)
+    (λ c. search needs)
+    (λ c. search needs)
+    (λ c. search needs)
+    (λ c. search needs)
+    (λ c. search needs)
+    (λ c κs. search needs)
+    (λ c. search needs)
+    (λ c. search needs)
+    returns)

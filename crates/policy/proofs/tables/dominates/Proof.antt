@@ -6,10 +6,9 @@ use native.Mathlib.Omega.{arith}
 use lib.Dec.{eqb}
 use borrow.Author.Needs.{needs}
 use Rattle.search.specs.Search.{among, Among}
-use Rattle.search.proofs.Truth.{passed, failed}
-use Rattle.monitor.proofs.Answers.{one-of}
-use Rattle.monitor.proofs.state.dominates.Statement.{statement}
-use Rattle.monitor.proofs.state.dominates.Tie as tie
+use Rattle.search.proofs.Truth.{passed, failed, one-of}
+use Rattle.policy.proofs.tables.dominates.Statement.{statement}
+use Rattle.policy.proofs.tables.dominates.Tie as tie
 
 labels : (c : tie.Else2) → let a = c .before .before .before .before .before .args in Among 32 (a .a) × Among 32 (a .b)
 labels c =
@@ -28,7 +27,7 @@ returns-3 : tie.Need-returns-3
 returns-3 c =
     let t = c .before .before in
     let s = t .before .before in
-    rw (passed (s .among .ensures) (t .before .if1 .left), passed (t .among2 .ensures) (c .before .if2 .left)) (ap (λ (n : ℕ). eqb n 1) (c .byte .ensures .0))
+    rw (passed (s .among .ensures) (t .before .if1 .left), passed (t .among2 .ensures) (c .before .if2 .left)) (ap (λ (n : ℕ). eqb n 1) (c .byte .ensures))
 
 pub dominates-spec : {M : Type 1} → statement M
 dominates-spec =
