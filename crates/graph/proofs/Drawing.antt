@@ -47,18 +47,18 @@ module _ (n : ℕ) where
   unfolding past
   past-agree d e f g h k a b v w = some-agree (λ c. d a c && f c b) (λ c. e a c && g c b) n (λ c u. rw (h a c v u, k c b u w))
 
-  pub nodes-agree : (mark : List ℕ) (p q : ℕ → Bool) → ((a : ℕ) → Among n a → p a ≡ q a) → nodes mark n p ≡ nodes mark n q
-  nodes-agree mark p q h = each-agree n (λ a. node mark (p a) a) (λ a. node mark (q a) a) (λ a w. rw (h a w))
+  pub nodes-agree : (prefix : List ℕ) (p q : ℕ → Bool) → ((a : ℕ) → Among n a → p a ≡ q a) → nodes prefix n p ≡ nodes prefix n q
+  nodes-agree prefix p q h = each-agree n (λ a. node prefix (p a) a) (λ a. node prefix (q a) a) (λ a w. rw (h a w))
 
   module _ (d e : Relation) (h : Agree n n d e) where
-    line-agree : (mark : List ℕ) (a b : ℕ) → Among n a → Among n b → orderLine mark n d a b ≡ orderLine mark n e a b
+    line-agree : (prefix : List ℕ) (a b : ℕ) → Among n a → Among n b → orderLine prefix n d a b ≡ orderLine prefix n e a b
     unfolding orderLine direct
-    line-agree mark a b v w = rw (h a b v w, past-agree d e d e h h a b v w)
+    line-agree prefix a b v w = rw (h a b v w, past-agree d e d e h h a b v w)
 
-    pub order-lines-agree : (mark : List ℕ) → orderLines mark n d ≡ orderLines mark n e
-    order-lines-agree mark =
-        each-agree n (λ a. each n (orderLine mark n d a)) (λ a. each n (orderLine mark n e a))
-        (λ a v. each-agree n (orderLine mark n d a) (orderLine mark n e a) (λ b w. line-agree mark a b v w))
+    pub order-lines-agree : (prefix : List ℕ) → orderLines prefix n d ≡ orderLines prefix n e
+    order-lines-agree prefix =
+        each-agree n (λ a. each n (orderLine prefix n d a)) (λ a. each n (orderLine prefix n e a))
+        (λ a v. each-agree n (orderLine prefix n d a) (orderLine prefix n e a) (λ b w. line-agree prefix a b v w))
 
   -- juniors, seniors, flow and its paths
   module _ (j k s t f g p q : Relation) (hj : Agree n n j k) (hs : Agree n n s t) (hf : Agree n n f g) (hp : Agree n n p q) where

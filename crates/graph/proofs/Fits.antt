@@ -15,30 +15,30 @@ use Rattle.graph.specs.declared.Order.the-variants.{Dominating, Seniors,
 use Rattle.graph.specs.Graph.{ordered, direct, directFlow, node, arrow, orderLine, flowLine, nodes, orderLines, flowLines, labelsText, rolesText, labelsOf, rolesOf, graphText}
 use Rattle.text.proofs.Lengths.{most, where-most, few-digits}
 
-module _ (mark : List ℕ) (one : length mark ≡ 1) where
-  node-most : (red : Bool) (a : ℕ) → a ≤ 128 → length (node mark red a) ≤ 35
+module _ (prefix : List ℕ) (one : length prefix ≡ 1) where
+  node-most : (red : Bool) (a : ℕ) → a ≤ 128 → length (node prefix red a) ≤ 35
   unfolding node
   node-most red a l =
       let d = few-digits 2 a (omega arith) in
       let e : length (cond red (ascii "\", color=red];\n") (ascii "\"];\n")) ≤ 15 = search most in
       simp length-append (omega arith)
 
-  arrow-most : (a b : ℕ) → a ≤ 128 → b ≤ 128 → length (arrow mark a b) ≤ 16
+  arrow-most : (a b : ℕ) → a ≤ 128 → b ≤ 128 → length (arrow prefix a b) ≤ 16
   unfolding arrow
   arrow-most a b l k = let d = few-digits 2 a (omega arith) in let e = few-digits 2 b (omega arith) in simp length-append (omega arith)
 
   module _ (n : ℕ) (few : n ≤ 128) where
-    nodes-most : (red : ℕ → Bool) → length (nodes mark n red) ≤ n * 35
-    nodes-most red = each-most n 35 (λ a. node mark (red a) a) (λ a w. node-most (red a) a (omega arith))
+    nodes-most : (red : ℕ → Bool) → length (nodes prefix n red) ≤ n * 35
+    nodes-most red = each-most n 35 (λ a. node prefix (red a) a) (λ a w. node-most (red a) a (omega arith))
 
-    line-most : (e : Relation) (a b : ℕ) → a ≤ 128 → b ≤ 128 → length (orderLine mark n e a b) ≤ 18
+    line-most : (e : Relation) (a b : ℕ) → a ≤ 128 → b ≤ 128 → length (orderLine prefix n e a b) ≤ 18
     unfolding orderLine
-    line-most e a b l k = where-most (direct n e a b) (arrow mark a b ++ ascii ";\n") (λ t. let m = arrow-most a b l k in simp length-append (omega arith))
+    line-most e a b l k = where-most (direct n e a b) (arrow prefix a b ++ ascii ";\n") (λ t. let m = arrow-most a b l k in simp length-append (omega arith))
 
-    lines-most : (e : Relation) → length (orderLines mark n e) ≤ n * 2304
+    lines-most : (e : Relation) → length (orderLines prefix n e) ≤ n * 2304
     lines-most e =
-        each-most n 2304 (λ a. each n (orderLine mark n e a))
-        (λ a v. let m = each-most n 18 (orderLine mark n e a) (λ b w. line-most e a b (omega arith) (omega arith)) in omega arith)
+        each-most n 2304 (λ a. each n (orderLine prefix n e a))
+        (λ a v. let m = each-most n 18 (orderLine prefix n e a) (λ b w. line-most e a b (omega arith) (omega arith)) in omega arith)
 
 module _ (n : ℕ) (few : n ≤ 128) (juniors seniors flow leads : Relation) where
   flow-most : (r q : ℕ) → r ≤ 128 → q ≤ 128 → length (flowLine n juniors seniors flow leads r q) ≤ 30

@@ -1,5 +1,5 @@
--- The policy as a graph, in the language of Graphviz' dot: labels with the lines of direct dominance, roles with those of direct seniority, and the flows that are not
--- inherited. What lies on a circle of flow is red.
+-- The policy as a graph, in the language of Graphviz' dot: labels with the lines of direct dominance, roles with those of direct seniority, and the flows that
+-- follow from no other. What lies on a circle of flow is red.
 --
 --     digraph policy {
 --       rankdir=BT; ranksep=0.8; nodesep=0.15;
@@ -52,7 +52,7 @@ past n e f a b = some n (λ c. e a c && f c b)
 unfoldable pub direct : ℕ → Relation → Relation
 direct n e a b = e a b && not (past n e e a b)
 
--- a flow that is not inherited: no junior of r flows to q, and r flows to no junior of q
+-- a flow that follows from no other: no junior of r flows to q, and r flows to no junior of q
 unfoldable pub directFlow : ℕ → Relation → Relation → Relation → Relation
 directFlow n juniors seniors flow r q = flow r q && (not (past n juniors flow r q) && not (past n flow seniors r q))
 
@@ -62,17 +62,17 @@ RoleTables juniors seniors flow leads = (2048 ≤ length juniors) × (2048 ≤ l
 
 -- ---- the lines of the text
 
--- a thing: `mark` before its number is its name
+-- a thing: `prefix` before its number is its name
 unfoldable pub node : List ℕ → Bool → ℕ → List ℕ
-node mark red a =
-    ascii "    " ++ (mark ++ (digits a ++ (ascii " [label=\"" ++ (digits a ++ cond red (ascii "\", color=red];\n") (ascii "\"];\n")))))
+node prefix red a =
+    ascii "    " ++ (prefix ++ (digits a ++ (ascii " [label=\"" ++ (digits a ++ cond red (ascii "\", color=red];\n") (ascii "\"];\n")))))
 
 unfoldable pub arrow : List ℕ → ℕ → ℕ → List ℕ
-arrow mark a b = ascii "    " ++ (mark ++ (digits a ++ (ascii " -> " ++ (mark ++ digits b))))
+arrow prefix a b = ascii "    " ++ (prefix ++ (digits a ++ (ascii " -> " ++ (prefix ++ digits b))))
 
 -- a line from a up to b
 unfoldable pub orderLine : List ℕ → ℕ → Relation → ℕ → ℕ → List ℕ
-orderLine mark n e a b = cond (direct n e a b) (arrow mark a b ++ ascii ";\n") []
+orderLine prefix n e a b = cond (direct n e a b) (arrow prefix a b ++ ascii ";\n") []
 
 -- a line from role r to role q, red where q leads back to r
 unfoldable pub flowLine : ℕ → Relation → Relation → Relation → Relation → ℕ → ℕ → List ℕ
@@ -80,10 +80,10 @@ flowLine n juniors seniors flow leads r q =
     cond (directFlow n juniors seniors flow r q) (arrow (ascii "r") r q ++ cond (leads q r) (ascii " [color=red];\n") (ascii ";\n")) []
 
 abbrev pub nodes : List ℕ → ℕ → (ℕ → Bool) → List ℕ
-nodes mark n red = each n (λ a. node mark (red a) a)
+nodes prefix n red = each n (λ a. node prefix (red a) a)
 
 abbrev pub orderLines : List ℕ → ℕ → Relation → List ℕ
-orderLines mark n e = each n (λ a. each n (orderLine mark n e a))
+orderLines prefix n e = each n (λ a. each n (orderLine prefix n e a))
 
 abbrev pub flowLines : ℕ → Relation → Relation → Relation → Relation → List ℕ
 flowLines n juniors seniors flow leads = each n (λ r. each n (flowLine n juniors seniors flow leads r))

@@ -110,12 +110,12 @@ fn direct_flow(juniors: &[u8], seniors: &[u8], flow: &[u8], n: usize, r: usize, 
 }
 
 // Puts a thing into `out` after its first `at` bytes, and answers how many are then in use.
-fn node(mark: &[u8], red: bool, a: u64, out: &mut [u8], at: usize) -> usize
+fn node(prefix: &[u8], red: bool, a: u64, out: &mut [u8], at: usize) -> usize
     requires { ⌜ a < 100000 ⌝ }
-    ensures { λ r. ⌜ Puts (graph.node (now (mark .entry)) red a) at (now (out .entry)) r (now (out .exit)) ⌝ }
+    ensures { λ r. ⌜ Puts (graph.node (now (prefix .entry)) red a) at (now (out .entry)) r (now (out .exit)) ⌝ }
 {
     let mut used = text::put(out, at, b"    ");
-    used = text::put(out, used, mark);
+    used = text::put(out, used, prefix);
     used = text::number(out, used, a);
     used = text::put(out, used, b" [label=\"");
     used = text::number(out, used, a);
@@ -126,36 +126,36 @@ fn node(mark: &[u8], red: bool, a: u64, out: &mut [u8], at: usize) -> usize
 }
 
 // Puts the first n things, red where the table relates one to itself.
-fn nodes(mark: &[u8], t: &[u8], n: usize, out: &mut [u8], at: usize) -> usize
+fn nodes(prefix: &[u8], t: &[u8], n: usize, out: &mut [u8], at: usize) -> usize
     requires { ⌜ (2048 ≤ length (now t)) × (n ≤ 128) × (at ≤ length (now out)) ⌝ }
-    ensures { λ r. ⌜ Puts (graph.nodes (now (mark .entry)) n (λ a. related (now (t .entry)) 0 a a)) at (now (out .entry)) r (now (out .exit)) ⌝ }
+    ensures { λ r. ⌜ Puts (graph.nodes (now (prefix .entry)) n (λ a. related (now (t .entry)) 0 a a)) at (now (out .entry)) r (now (out .exit)) ⌝ }
 {
     let mut used = at;
     let mut i = 0;
     while i < n {
         let red = relates(t, i + 1, i + 1);
-        used = node(mark, red, i as u64 + 1, out, used);
+        used = node(prefix, red, i as u64 + 1, out, used);
         i += 1;
     }
     used
 }
 
 // Puts an arrow from a to b.
-fn arrow(mark: &[u8], a: u64, b: u64, out: &mut [u8], at: usize) -> usize
+fn arrow(prefix: &[u8], a: u64, b: u64, out: &mut [u8], at: usize) -> usize
     requires { ⌜ (a < 100000) × (b < 100000) ⌝ }
-    ensures { λ r. ⌜ Puts (graph.arrow (now (mark .entry)) a b) at (now (out .entry)) r (now (out .exit)) ⌝ }
+    ensures { λ r. ⌜ Puts (graph.arrow (now (prefix .entry)) a b) at (now (out .entry)) r (now (out .exit)) ⌝ }
 {
     let mut used = text::put(out, at, b"    ");
-    used = text::put(out, used, mark);
+    used = text::put(out, used, prefix);
     used = text::number(out, used, a);
     used = text::put(out, used, b" -> ");
-    used = text::put(out, used, mark);
+    used = text::put(out, used, prefix);
     text::number(out, used, b)
 }
 
 // Puts the line from a up to b, where there is one.
 fn order_line(
-    mark: &[u8],
+    prefix: &[u8],
     t: &[u8],
     n: usize,
     a: usize,
@@ -164,38 +164,38 @@ fn order_line(
     at: usize,
 ) -> usize
     requires { ⌜ (2048 ≤ length (now t)) × (n ≤ 128) × Among 128 a × (b ≤ 128) × (at ≤ length (now out)) ⌝ }
-    ensures { λ r. ⌜ Puts (graph.orderLine (now (mark .entry)) n (related (now (t .entry)) 0) a b) at (now (out .entry)) r (now (out .exit)) ⌝ }
+    ensures { λ r. ⌜ Puts (graph.orderLine (now (prefix .entry)) n (related (now (t .entry)) 0) a b) at (now (out .entry)) r (now (out .exit)) ⌝ }
 {
     if !direct(t, n, a, b) {
         return at;
     }
-    let used = arrow(mark, a as u64, b as u64, out, at);
+    let used = arrow(prefix, a as u64, b as u64, out, at);
     text::put(out, used, b";\n")
 }
 
 // Puts the lines from a.
-fn order_lines_from(mark: &[u8], t: &[u8], n: usize, a: usize, out: &mut [u8], at: usize) -> usize
+fn order_lines_from(prefix: &[u8], t: &[u8], n: usize, a: usize, out: &mut [u8], at: usize) -> usize
     requires { ⌜ (2048 ≤ length (now t)) × (n ≤ 128) × Among 128 a × (at ≤ length (now out)) ⌝ }
-    ensures { λ r. ⌜ Puts (each n (graph.orderLine (now (mark .entry)) n (related (now (t .entry)) 0) a)) at (now (out .entry)) r (now (out .exit)) ⌝ }
+    ensures { λ r. ⌜ Puts (each n (graph.orderLine (now (prefix .entry)) n (related (now (t .entry)) 0) a)) at (now (out .entry)) r (now (out .exit)) ⌝ }
 {
     let mut used = at;
     let mut i = 0;
     while i < n {
-        used = order_line(mark, t, n, a, i + 1, out, used);
+        used = order_line(prefix, t, n, a, i + 1, out, used);
         i += 1;
     }
     used
 }
 
 // Puts all lines of the table's relation.
-fn order_lines(mark: &[u8], t: &[u8], n: usize, out: &mut [u8], at: usize) -> usize
+fn order_lines(prefix: &[u8], t: &[u8], n: usize, out: &mut [u8], at: usize) -> usize
     requires { ⌜ (2048 ≤ length (now t)) × (n ≤ 128) × (at ≤ length (now out)) ⌝ }
-    ensures { λ r. ⌜ Puts (graph.orderLines (now (mark .entry)) n (related (now (t .entry)) 0)) at (now (out .entry)) r (now (out .exit)) ⌝ }
+    ensures { λ r. ⌜ Puts (graph.orderLines (now (prefix .entry)) n (related (now (t .entry)) 0)) at (now (out .entry)) r (now (out .exit)) ⌝ }
 {
     let mut used = at;
     let mut i = 0;
     while i < n {
-        used = order_lines_from(mark, t, n, i + 1, out, used);
+        used = order_lines_from(prefix, t, n, i + 1, out, used);
         i += 1;
     }
     used

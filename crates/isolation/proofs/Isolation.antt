@@ -14,7 +14,7 @@ use Rattle.policy.specs.Accepted.{Accepted}
 use Rattle.policy.specs.Tables.{writersAt}
 use Rattle.monitor.specs.Calls.{ifDone, written, partAt, readNumber, writeNumber}
 use Rattle.monitor.specs.Runs.{Call, opens, closes, takes, drops, reads, writes, Memory, number, part, storeAfter, after, run}
-use Rattle.monitor.specs.Rules.{Sessions, nobody, rule, next}
+use Rattle.monitor.specs.Rules.{Sessions, noSessions, rule, next}
 use Rattle.monitor.proofs.Answers.{part-fits}
 use Rattle.monitor.proofs.Frames.{written-out}
 use Rattle.monitor.proofs.Orderly.{part-done}
@@ -183,8 +183,8 @@ isolation f accepted a b L label s₁ s₂ long same cs₁ cs₂ same-shared =
     let m₁ : Memory = record { state = a .state; store = s₁ } in
     let m₂ : Memory = record { state = b .state; store = s₂ } in
     let r₁ = loaded-runs f accepted (a .before) (a .state) (a .verdict) (a .enough) (a .load) s₁ in
-    let r₂ : Runs f nobody (length s₁) m₂ = rw (← long) at (loaded-runs f accepted (b .before) (b .state) (b .verdict) (b .enough) (b .load) s₂) in
-    let itself : Pair f accepted L label (length s₁) noneOpen nobody nobody m₁ m₁ = record {
+    let r₂ : Runs f noSessions (length s₁) m₂ = rw (← long) at (loaded-runs f accepted (b .before) (b .state) (b .verdict) (b .enough) (b .load) s₂) in
+    let itself : Pair f accepted L label (length s₁) noneOpen noSessions noSessions m₁ m₁ = record {
       runs₁ = r₁;
       runs₂ = r₁;
       fits₁ = none-fits;
@@ -192,7 +192,7 @@ isolation f accepted a b L label s₁ s₂ long same cs₁ cs₂ same-shared =
       sessions = λ p k. refl;
       cards = λ o i w d l. refl;
     } in
-    let other : Pair f accepted L label (length s₁) noneOpen nobody nobody m₂ m₁ = record {
+    let other : Pair f accepted L label (length s₁) noneOpen noSessions noSessions m₂ m₁ = record {
       runs₁ = r₂;
       runs₂ = r₁;
       fits₁ = none-fits;
@@ -200,8 +200,8 @@ isolation f accepted a b L label s₁ s₂ long same cs₁ cs₂ same-shared =
       sessions = λ p k. refl;
       cards = λ o i w d l. sym (same o i w d l);
     } in
-    let (x, end₁) = like-shared f accepted L label (length s₁) cs₁ noneOpen nobody nobody m₁ m₁ itself in
-    let (y, end₂) = rw (sym same-shared) at (like-shared f accepted L label (length s₁) cs₂ noneOpen nobody nobody m₂ m₁ other) in
+    let (x, end₁) = like-shared f accepted L label (length s₁) cs₁ noneOpen noSessions noSessions m₁ m₁ itself in
+    let (y, end₂) = rw (sym same-shared) at (like-shared f accepted L label (length s₁) cs₂ noneOpen noSessions noSessions m₂ m₁ other) in
     record {
       answers = alike-both f L (shown f L noneOpen m₁ cs₁) (shown f L noneOpen m₂ cs₂) (shown f L noneOpen m₁ (sharedCalls f L noneOpen cs₁)) x y;
       cards = λ o i w d l. end₁ o i w d l ∙ sym (end₂ o i w d l);

@@ -19,7 +19,7 @@ use Rattle.policy.specs.Accepted.{Accepted}
 use Rattle.monitor.specs.Calls.{ifDone, written, partAt, writeNumber}
 use Rattle.monitor.specs.Runs.{Call, opens, closes, takes, drops, reads, writes, Memory, number, storeAfter}
 use Rattle.monitor.specs.Places.{isFree, put}
-use Rattle.monitor.specs.Rules.{Session, Sessions, seated, fittingByFile, givesByFile, openRule, closeRule, takeRule, dropRule, partRule, rule, sessionOf, holding, without, next}
+use Rattle.monitor.specs.Rules.{Session, Sessions, sessionRule, fittingByFile, givesByFile, openRule, closeRule, takeRule, dropRule, partRule, rule, sessionOf, holding, without, next}
 use Rattle.monitor.proofs.Answers.{part-fits}
 use Rattle.monitor.proofs.Frames.{written-in, written-out}
 use Rattle.monitor.proofs.Orderly.{Admitted, Orderly, part-done}
@@ -30,9 +30,9 @@ use Rattle.isolation.proofs.Tracking.{labelOf, Fits, label-free, placeO
 
 -- ---- numbers
 
-seated-const : (o : Option Session) → seated o (λ s. 0) ≡ cond (isFree o) 24 0
-seated-const none = refl
-seated-const (some s) = refl
+session-const : (o : Option Session) → sessionRule o (λ s. 0) ≡ cond (isFree o) 24 0
+session-const none = refl
+session-const (some s) = refl
 
 -- the session at each place under L is the same
 abbrev pub SameSessions : List ℕ → ℕ → Open → Sessions → Sessions → Type 0
@@ -45,7 +45,7 @@ module _ (f : List ℕ) (L : ℕ) (t : Open) (s₁ s₂ : Sessions) (fits₁ : F
   pub same-number : (size : ℕ) (c : Call) → shared f L t c ≡ true → rule f size s₁ c ≡ rule f size s₂ c
   unfolding rule shared openRule closeRule takeRule dropRule partRule
   same-number size (opens p u l) h = rw (free-same p)
-  same-number size (closes p) h = rw (seated-const (s₁ p), seated-const (s₂ p), free-same p)
+  same-number size (closes p) h = rw (session-const (s₁ p), session-const (s₂ p), free-same p)
   same-number size (takes p r) h = rw (same p h)
   same-number size (drops p r) h = rw (same p h)
   same-number size (reads p o k n) h = rw (same p h)
@@ -147,10 +147,10 @@ module _ (f : List ℕ) (accepted : Accepted f) (L : ℕ) (label : Among (labels
   use-of mode size p o k n z =
       let u = part-done f mode s size p o k n z in
       let x = u .session in
-      let adm : Admitted f p x = rw (u .sits) at (known p) in
+      let adm : Admitted f p x = rw (u .found) at (known p) in
       let (r, w, e) = some-iff (λ r. x .held r && may f mode r o) (roles f) .0 (u .used) in
       let (holds, gives) = and-iff (x .held r) (may f mode r o) .0 e in
-      record { card = u .card; level = x .label; inside = adm .label; tracked = fits p ∙ ap labelOf (u .sits); role = (r, gives, adm .roles r holds .1) }
+      record { card = u .card; level = x .label; inside = adm .label; tracked = fits p ∙ ap labelOf (u .found); role = (r, gives, adm .roles r holds .1) }
 
   pub read-under : (size p o k n : ℕ) → partRule f 1 s size p o k n ≡ 0 → under f L (t p) ≡ true → dominates f L (cardLabel f o) ≡ true
   read-under size p o k n z h =

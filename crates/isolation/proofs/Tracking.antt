@@ -15,7 +15,7 @@ use Rattle.policy.specs.Policy.{dominates}
 use Rattle.monitor.specs.Calls.{unless, ifDone}
 use Rattle.monitor.specs.Runs.{Call, opens, closes, takes, drops, reads, writes}
 use Rattle.monitor.specs.Places.{isFree, put}
-use Rattle.monitor.specs.Rules.{Session, Sessions, nobody, openRule, closeRule, takeRule, dropRule, sessionOf, holding, without, next}
+use Rattle.monitor.specs.Rules.{Session, Sessions, noSessions, openRule, closeRule, takeRule, dropRule, sessionOf, holding, without, next}
 use Rattle.monitor.proofs.Orderly.{Orderly, opening, either-way}
 use Rattle.monitor.proofs.Places.{put-other}
 use Rattle.monitor.proofs.History.{close-done}
@@ -27,7 +27,7 @@ labelOf o = Option·map (λ s. s .label) o
 abbrev pub Fits : Open → Sessions → Type 0
 Fits t s = (p : ℕ) → t p ≡ labelOf (s p)
 
-pub none-fits : Fits noneOpen nobody
+pub none-fits : Fits noneOpen noSessions
 none-fits p = refl
 
 pub label-free : (o : Option Session) → isFree (labelOf o) ≡ isFree o
@@ -108,7 +108,7 @@ module _ (f : List ℕ) (t : Open) (s : Sessions) (known : Orderly f s) (fits : 
     | no n ↦ rw (ne-eqb q p n) (fits q)
   ]
 
-  -- a closing that is refused is of a place where nobody sits
+  -- a closing that is refused is of a place that has no session
   refused-free : (p : ℕ) → (closeRule s p ≡ 0 → ⊥) → s p ≡ none
   refused-free p h = by (s p) refl
     where

@@ -21,16 +21,16 @@ use Rattle.policy.specs.Accepted.{Accepted}
 use Rattle.policy.proofs.Outcomes.{accepted-fine}
 use Rattle.monitor.specs.Calls.{unless, ifDone}
 use Rattle.monitor.specs.Runs.{Call}
-use Rattle.monitor.specs.Rules.{nobody, entitledByFile, fittingByFile, givesByFile, openRule, closeRule, takeRule, dropRule, partRule, rule, next}
+use Rattle.monitor.specs.Rules.{noSessions, entitledByFile, fittingByFile, givesByFile, openRule, closeRule, takeRule, dropRule, partRule, rule, next}
 use Rattle.monitor.specs.Cases.{line, bytes}
 use Rattle.monitor.proofs.Demand2.{loaded-runs}
 use Rattle.isolation.specs.TwoRuns.{Answer, noneOpen, grants, track, shared, sharedCalls, shown, SameCards, Start}
-use Rattle.isolation.specs.Worked.{file, firstStore, secondStore, firstDay, secondDay, low, highFirst, highSecond}
+use Rattle.isolation.specs.Worked.{file, firstStore, secondStore, firstRun, secondRun, low, highFirst, highSecond}
 use Rattle.isolation.proofs.Begins.{start}
 use Rattle.isolation.proofs.ByFile.{partBy, storeBy, shownBy, shown-by}
 
 abbrev answersBy : ℕ → List ℕ → List Call → List Answer
-answersBy L store cs = map (λ x. x .answer) (shownBy file L 192 noneOpen nobody store cs)
+answersBy L store cs = map (λ x. x .answer) (shownBy file L 192 noneOpen noSessions store cs)
 
 accepted-file : verdict file ≡ fine
 unfolding file line bytes
@@ -44,9 +44,9 @@ pub accepted : Accepted file
 accepted = accepted-fine file .0 accepted-file
 
 -- the four lists, computed
-computed : (answersBy 2 firstStore firstDay ≡ low) × (answersBy 2 secondStore secondDay ≡ low)
-    × (answersBy 4 firstStore firstDay ≡ highFirst) × (answersBy 4 secondStore secondDay ≡ highSecond)
-unfolding file line bytes firstStore secondStore firstDay secondDay low highFirst highSecond
+computed : (answersBy 2 firstStore firstRun ≡ low) × (answersBy 2 secondStore secondRun ≡ low)
+    × (answersBy 4 firstStore firstRun ≡ highFirst) × (answersBy 4 secondStore secondRun ≡ highSecond)
+unfolding file line bytes firstStore secondStore firstRun secondRun low highFirst highSecond
     column columns letterOf fields formed lineOf lineAt says last labelBy some every first via upper isLeast least lub
     dominates senior may mayAt level rLevel wLevel
     unless ifDone entitledByFile fittingByFile givesByFile openRule closeRule takeRule dropRule partRule rule next
@@ -55,8 +55,8 @@ computed = (refl, refl, refl, refl)
 
 -- ---- the pair falls under demand 3 for label 2
 
-one-list : sharedCalls file 2 noneOpen firstDay ≡ sharedCalls file 2 noneOpen secondDay
-unfolding file line bytes firstDay secondDay column columns letterOf fields formed lineOf lineAt says last labelBy some via dominates grants track shared sharedCalls
+one-list : sharedCalls file 2 noneOpen firstRun ≡ sharedCalls file 2 noneOpen secondRun
+unfolding file line bytes firstRun secondRun column columns letterOf fields formed lineOf lineAt says last labelBy some via dominates grants track shared sharedCalls
 one-list = refl
 
 one-length : (length firstStore ≡ 192) × (length secondStore ≡ 192)
@@ -87,15 +87,15 @@ answersOf a L store cs = map (λ x. x .answer) (shown file L noneOpen (record { 
 shows : (a : Start file) (L : ℕ) (store : List ℕ) (cs : List Call) → length store ≡ 192 → answersOf a L store cs ≡ answersBy L store cs
 shows a L store cs long =
     ap (map (λ x. x .answer))
-    (shown-by file (accepted .ordered .form) 192 L cs noneOpen nobody (record { state = a .state; store = store })
+    (shown-by file (accepted .ordered .form) 192 L cs noneOpen noSessions (record { state = a .state; store = store })
     (rw long at (loaded-runs file accepted (a .before) (a .state) (a .verdict) (a .enough) (a .load) store)))
 
 -- label 2 is shown the same, and not refusals alone; label 4, one step higher, is shown more, and not the same
 pub record Separated (a b : Start file) : Type 0 where
-  pub sharedCalls : sharedCalls file 2 noneOpen firstDay ≡ sharedCalls file 2 noneOpen secondDay
+  pub sharedCalls : sharedCalls file 2 noneOpen firstRun ≡ sharedCalls file 2 noneOpen secondRun
   pub stores : (length firstStore ≡ length secondStore) × SameCards file 2 firstStore secondStore
-  pub low : (answersOf a 2 firstStore firstDay ≡ low) × (answersOf b 2 secondStore secondDay ≡ low)
-  pub high : (answersOf a 4 firstStore firstDay ≡ highFirst) × (answersOf b 4 secondStore secondDay ≡ highSecond)
+  pub low : (answersOf a 2 firstStore firstRun ≡ low) × (answersOf b 2 secondStore secondRun ≡ low)
+  pub high : (answersOf a 4 firstStore firstRun ≡ highFirst) × (answersOf b 4 secondStore secondRun ≡ highSecond)
   pub differ : highFirst ≡ highSecond → ⊥
 
 -- the first byte that the seventh call shown handed back
@@ -107,8 +107,8 @@ unfolding highFirst highSecond
 separated a b = record {
   sharedCalls = one-list;
   stores = (one-length .0 ∙ sym (one-length .1), same-cards);
-  low = (shows a 2 firstStore firstDay (one-length .0) ∙ computed .0, shows b 2 secondStore secondDay (one-length .1) ∙ computed .1);
-  high = (shows a 4 firstStore firstDay (one-length .0) ∙ computed .2, shows b 4 secondStore secondDay (one-length .1) ∙ computed .3);
+  low = (shows a 2 firstStore firstRun (one-length .0) ∙ computed .0, shows b 2 secondStore secondRun (one-length .1) ∙ computed .1);
+  high = (shows a 4 firstStore firstRun (one-length .0) ∙ computed .2, shows b 4 secondStore secondRun (one-length .1) ∙ computed .3);
   differ = λ e. let z : _≡_ {A = ℕ} 66 67 = ap seventh e in omega arith;
 }
 

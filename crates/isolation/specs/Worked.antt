@@ -40,8 +40,8 @@ unfoldable pub secondStore : List ℕ
 secondStore = replicate 128 46 ++ replicate 64 47
 
 -- user 1 sits at place 1, for the first maker; user 2 at place 2, for the second, and writes one wording the first day and another the second
-unfoldable pub firstDay : List Call
-firstDay =
+unfoldable pub firstRun : List Call
+firstRun =
     opens 1 1 2
     ∷ opens 2 2 3
     ∷ takes 2 3
@@ -55,8 +55,8 @@ firstDay =
     ∷ closes 2
     ∷ []
 
-unfoldable pub secondDay : List Call
-secondDay =
+unfoldable pub secondRun : List Call
+secondRun =
     opens 1 1 2
     ∷ opens 2 2 3
     ∷ takes 1 2

@@ -25,8 +25,8 @@ use Rattle.policy.proofs.Meaning.{counts-known}
 use Rattle.monitor.specs.Session.{labelsIn, usersIn, cardsIn, cleared, entitled, fitting}
 use Rattle.monitor.specs.Calls.{unless, ifDone}
 use Rattle.monitor.specs.Runs.{Call, opens, takes, Memory, after, run}
-use Rattle.monitor.specs.Rules.{Session, Sessions, nobody, entitledByFile, fittingByFile, givesByFile, openRule, takeRule, partRule, rule, sessionOf, holding, next, sessions}
-use Rattle.monitor.specs.Rights.{canNumber, tableOf, serves, could, Cans, canRule, couldByFile, useOf, Granting}
+use Rattle.monitor.specs.Rules.{Session, Sessions, noSessions, entitledByFile, fittingByFile, givesByFile, openRule, takeRule, partRule, rule, sessionOf, holding, next, sessions}
+use Rattle.monitor.specs.Rights.{canNumber, tableOf, roleCould, could, Cans, canRule, couldByFile, useOf, Granting}
 use Rattle.monitor.proofs.Answers.{unless-done}
 use Rattle.monitor.proofs.Orderly.{Orderly, opening, taking, part-done}
 use Rattle.monitor.proofs.Stands.{Stands}
@@ -49,14 +49,14 @@ module _ (f : List ℕ) (form : WellFormed f) (t : Sessions) (known : Orderly f 
       (cleared-file f form t known xs stands u l (among-iff (users f) u .0 user) (among-iff (labels f) l .0 label)) (λ dominated. refl)))))
 
   -- the table of a mode says who may
-  table-says : (m : ℕ) → Among 2 m → (o r : ℕ) → Among 512 o → Among 128 r → member xs (rowOf (tableOf m) o) r ≡ may f m r o
+  pub table-says : (m : ℕ) → Among 2 m → (o r : ℕ) → Among 512 o → Among 128 r → member xs (rowOf (tableOf m) o) r ≡ may f m r o
   table-says zero w o r i j = absurd (omega arith)
   table-says (suc zero) w o r i j = stands .tables .permitting .readers o r i j
   table-says (suc (suc zero)) w o r i j = stands .tables .permitting .writers o r i j
   table-says (suc (suc (suc m))) w o r i j = absurd (omega arith)
 
   pub could-by : (u l o m : ℕ) → Among (users f) u → Among (labels f) l → Among (cards f) o → Among 2 m → could xs u l o (tableOf m) ≡ couldByFile f u l o m
-  unfolding could couldByFile serves
+  unfolding could couldByFile roleCould
   could-by u l o m user label card mode =
       rw (stands .tables .counted .roles)
       (some-agree (λ r. entitled xs u r && (fitting xs l r && member xs (rowOf (tableOf m) o) r)) (λ r. entitledByFile f u r && (fittingByFile f l r && may f m r o)) (roles f)
@@ -104,20 +104,20 @@ able-done f u l o m a =
 
 module _ (f : List ℕ) (size p u l : ℕ) (place : Among 64 p) (enough : 64 * cards f ≤ size) where
   abbrev one : Sessions
-  one = next f nobody (opens p u l)
+  one = next f noSessions (opens p u l)
 
   abbrev two : ℕ → Sessions
   two r = next f one (takes p r)
 
-  -- who sits at the place after the opening, and after the taking
-  module _ (opened : openRule f nobody p u l ≡ 0) where
-    sits-one : one p ≡ some (sessionOf u l)
+  -- the session at the place after the opening, and after the taking
+  module _ (opened : openRule f noSessions p u l ≡ 0) where
+    session-one : one p ≡ some (sessionOf u l)
     unfolding next ifDone
-    sits-one = rw opened (put-at nobody p (some (sessionOf u l)) p refl)
+    session-one = rw opened (put-at noSessions p (some (sessionOf u l)) p refl)
 
-    sits-two : (r : ℕ) → takeRule f one p r ≡ 0 → two r p ≡ some (holding r (sessionOf u l))
+    session-two : (r : ℕ) → takeRule f one p r ≡ 0 → two r p ≡ some (holding r (sessionOf u l))
     unfolding next ifDone
-    sits-two r taken = rw taken (put-at one p _ p refl ∙ rw sits-one)
+    session-two r taken = rw taken (put-at one p _ p refl ∙ rw session-one)
 
   -- the use of a card
   use-rule : (m o : ℕ) (t : Sessions) → Among 2 m → rule f size t (useOf m p o) ≡ partRule f m t size p o 0 0
@@ -142,7 +142,7 @@ module _ (f : List ℕ) (size p u l : ℕ) (place : Among 64 p) (enough : 64 * c
 
   -- the three calls let through, by the rules
   pub record Let (o m r : ℕ) : Type 0 where
-    pub opened : openRule f nobody p u l ≡ 0
+    pub opened : openRule f noSessions p u l ≡ 0
     pub taken : takeRule f one p r ≡ 0
     pub used : partRule f m (two r) size p o 0 0 ≡ 0
 
@@ -152,24 +152,24 @@ module _ (f : List ℕ) (size p u l : ℕ) (place : Among 64 p) (enough : 64 * c
       let (r, w, e) = some-iff (λ r. entitledByFile f u r && (fittingByFile f l r && may f m r o)) (roles f) .0 h in
       let (b, x) = and-iff (entitledByFile f u r) (fittingByFile f l r && may f m r o) .0 e in
       let (s, g) = and-iff (fittingByFile f l r) (may f m r o) .0 x in
-      let opened : openRule f nobody p u l ≡ 0 = rw (among-iff 64 p .1 place, among-iff (users f) u .1 (a .user), among-iff (labels f) l .1 (a .label), a .cleared) in
-      let taken : takeRule f one p r ≡ 0 = rw (among-iff 64 p .1 place, sits-one opened, among-iff (roles f) r .1 w, b, s) in (
+      let opened : openRule f noSessions p u l ≡ 0 = rw (among-iff 64 p .1 place, among-iff (users f) u .1 (a .user), among-iff (labels f) l .1 (a .label), a .cleared) in
+      let taken : takeRule f one p r ≡ 0 = rw (among-iff 64 p .1 place, session-one opened, among-iff (roles f) r .1 w, b, s) in (
         r,
         record {
           opened = opened;
           taken = taken;
-          used = rw (among-iff 64 p .1 place, sits-two opened r taken, among-iff (cards f) o .1 (a .card), holds-use m o r w g, le-leb (64 * cards f) size enough);
+          used = rw (among-iff 64 p .1 place, session-two opened r taken, among-iff (cards f) o .1 (a .card), holds-use m o r w g, le-leb (64 * cards f) size enough);
         },
       )
 
   came : (o m r : ℕ) → Among 2 m → Let o m r → Able f u l o m × (couldByFile f u l o m ≡ true)
   unfolding couldByFile takeRule
   came o m r mode x =
-      let op = opening f nobody p u l (x .opened) in
-      let (w, b, s) = taking f r (sessionOf u l) (unless-done (among 64 p) 22 _ (omega arith) (rw (sits-one (x .opened)) at (x .taken)) .1) in
+      let op = opening f noSessions p u l (x .opened) in
+      let (w, b, s) = taking f r (sessionOf u l) (unless-done (among 64 p) 22 _ (omega arith) (rw (session-one (x .opened)) at (x .taken)) .1) in
       let part = part-done f m (two r) size p o 0 0 (x .used) in
       let who : part .session ≡ holding r (sessionOf u l) =
-      Option·some-injective (part .session) (holding r (sessionOf u l)) (sym (part .sits) ∙ sits-two (x .opened) r (x .taken)) in
+      Option·some-injective (part .session) (holding r (sessionOf u l)) (sym (part .found) ∙ session-two (x .opened) r (x .taken)) in
       let same : givesByFile f m (holding r (sessionOf u l)) o ≡ true = ap (λ (s : Session). givesByFile f m s o) (sym who) ∙ part .used in (
         record { user = op .user; label = op .label; card = part .card; mode = mode; cleared = op .cleared },
         some-iff (λ r. entitledByFile f u r && (fittingByFile f l r && may f m r o)) (roles f) .1
@@ -192,19 +192,19 @@ module _ (f : List ℕ) (accepted : Accepted f) (xs ys : List ℕ) (v : Verdict)
   abbrev start : Memory
   start = record { state = ys; store = store }
 
-  runs : Runs f nobody (length store) start
+  runs : Runs f noSessions (length store) start
   runs = loaded-runs f accepted xs ys v long load store
 
-  runs-one : Runs f (next f nobody (opens p u l)) (length store) (after start (opens p u l))
-  runs-one = runs-next f form nobody (length store) start runs (opens p u l)
+  runs-one : Runs f (next f noSessions (opens p u l)) (length store) (after start (opens p u l))
+  runs-one = runs-next f form noSessions (length store) start runs (opens p u l)
 
-  runs-two : (r : ℕ) → Runs f (next f (next f nobody (opens p u l)) (takes p r)) (length store) (after (after start (opens p u l)) (takes p r))
-  runs-two r = runs-next f form (next f nobody (opens p u l)) (length store) (after start (opens p u l)) runs-one (takes p r)
+  runs-two : (r : ℕ) → Runs f (next f (next f noSessions (opens p u l)) (takes p r)) (length store) (after (after start (opens p u l)) (takes p r))
+  runs-two r = runs-next f form (next f noSessions (opens p u l)) (length store) (after start (opens p u l)) runs-one (takes p r)
 
   granting : (r : ℕ) → Let f (length store) p u l place enough o m r ↔ Granting start p u l o m r
   unfolding rule
   granting r =
-      let a = runs-number f form nobody (length store) start runs (opens p u l) in
+      let a = runs-number f form noSessions (length store) start runs (opens p u l) in
       let b = runs-number f form _ (length store) _ runs-one (takes p r) in
       let c = runs-number f form _ (length store) _ (runs-two r) (useOf m p o) ∙ use-rule f (length store) p u l place enough m o _ mode in (
         λ x. record { opened = a ∙ x .opened; taken = b ∙ x .taken; used = c ∙ x .used },
@@ -212,11 +212,11 @@ module _ (f : List ℕ) (accepted : Accepted f) (xs ys : List ℕ) (v : Verdict)
       )
 
   same : Able f u l o m → could ys u l o (tableOf m) ≡ couldByFile f u l o m
-  same a = could-by f form nobody (runs .known) ys (runs .stands) u l o m (a .user) (a .label) (a .card) (a .mode)
+  same a = could-by f form noSessions (runs .known) ys (runs .stands) u l o m (a .user) (a .label) (a .card) (a .mode)
 
   pub can-iff : (n figure : ℕ) → Cans ys u l o m n figure → (figure ≡ 1) ↔ ((r : ℕ) × Granting start p u l o m r)
   can-iff n figure h =
-      let by = number-by f form nobody (runs .known) ys (runs .stands) u l o m in
+      let by = number-by f form noSessions (runs .known) ys (runs .stands) u l o m in
       let one = figure-one (canNumber ys u l o m) (could ys u l o (tableOf m)) in (
         λ e.
             let (z, held) = one .0 (sym (h .answer) ∙ e) in
@@ -243,9 +243,9 @@ module _ (f : List ℕ) (accepted : Accepted f) (xs ys : List ℕ) (v : Verdict)
       good = accepted .ordered .form
 
       t : Sessions
-      t = sessions f nobody cs
+      t = sessions f noSessions cs
 
-      ran : Runs f (sessions f nobody cs) (length store) (run (record { state = ys; store = store }) cs)
+      ran : Runs f (sessions f noSessions cs) (length store) (run (record { state = ys; store = store }) cs)
       ran = left-runs f accepted xs ys v long load store cs
 
       by : (n : ℕ) → n ≡ canRule f u l o m → _≡_ {A = ℕ} (ifDone n (cond (could end u l o (tableOf m)) 1 0) 0) (ifDone n (cond (couldByFile f u l o m) 1 0) 0)

@@ -23,11 +23,11 @@ use Rattle.monitor.specs.Calls.{unless, ifDone, written, partAt, opened,
 use Rattle.monitor.specs.Calls.{flowsNumber, circleNumber, Flows, Circles}
 use Rattle.monitor.specs.Runs.{Call, opens, closes, takes, drops, reads, writes, Memory, number, stateAfter, storeAfter, after, run}
 use Rattle.monitor.specs.Places.{put}
-use Rattle.monitor.specs.Rules.{Session, Sessions, nobody, seated, seatedAt, openRule, closeRule, takeRule, dropRule, partRule, rule, sessionOf, holding, without, next, sessions}
+use Rattle.monitor.specs.Rules.{Session, Sessions, noSessions, sessionRule, atSessionByFile, openRule, closeRule, takeRule, dropRule, partRule, rule, sessionOf, holding, without, next, sessions}
 use Rattle.monitor.proofs.Answers.{part-fits, unless-done}
 use Rattle.monitor.proofs.Frames.{length-written}
-use Rattle.monitor.proofs.Orderly.{Orderly, nobody-orderly, opening, seated-done, taking, either-way, orderly-next, dropping}
-use Rattle.monitor.proofs.Stands.{SessionAt, Stands, image-stands, stands-put, opened-touched, opened-seat, closed-touched, closed-seat, taken-touched, taken-seat, dropped-touched, dropped-seat}
+use Rattle.monitor.proofs.Orderly.{Orderly, no-sessions-orderly, opening, session-done, taking, either-way, orderly-next, dropping}
+use Rattle.monitor.proofs.Stands.{SessionAt, Stands, image-stands, stands-put, opened-touched, opened-place, closed-touched, closed-place, taken-touched, taken-place, dropped-touched, dropped-place}
 use Rattle.monitor.proofs.InFile.{test-passed, sound-file, open-file, close-file, take-file, drop-file, part-file}
 
 -- two outcomes of one number
@@ -70,7 +70,7 @@ module _ (f : List ℕ) (form : WellFormed f) (t : Sessions) (known : Orderly f 
   role-small r w = let few = counts-known f form .roles in omega arith
 
   session-there : (p : ℕ) (s : Session) → Among 64 p → t p ≡ some s → SessionAt xs p s
-  session-there p s w e = rw e at (stands .seats p w)
+  session-there p s w e = rw e at (stands .places p w)
 
   pub stands-after : (c : Call) → Stands f (next f t c) (stateAfter m c)
   unfolding stateAfter next closeRule takeRule dropRule
@@ -80,34 +80,34 @@ module _ (f : List ℕ) (form : WellFormed f) (t : Sessions) (known : Orderly f 
       (λ h.
       let o = opening f t p u l h in
       stands-put f t xs (opened xs p u l) p stands (o .place) (opened-touched xs p (stands .long) (o .place) u l)
-      (some (sessionOf u l)) (opened-seat xs p (stands .long) (o .place) u l (o .user .0)))
+      (some (sessionOf u l)) (opened-place xs p (stands .long) (o .place) u l (o .user .0)))
       stands)
   stands-after (closes p) =
       rw (close-file f form t known xs stands p)
       (both-ways (Stands f) (closeRule t p) (put t p none) t (closed xs p) xs
       (λ h.
-      let w = seated-done t p (λ s. 0) h .place in
-      stands-put f t xs (closed xs p) p stands w (closed-touched xs p (stands .long) w) none (closed-seat xs p (stands .long) w))
+      let w = session-done t p (λ s. 0) h .place in
+      stands-put f t xs (closed xs p) p stands w (closed-touched xs p (stands .long) w) none (closed-place xs p (stands .long) w))
       stands)
   stands-after (takes p r) =
       rw (take-file f form t known xs stands p r)
       (both-ways (Stands f) (takeRule f t p r) (put t p (Option·map (holding r) (t p))) t (taken xs p r) xs
       (λ h.
-      let a = seated-done t p _ h in
+      let a = session-done t p _ h in
       let s = a .session in
       let w = role-small r (taking f r s (a .done) .0) in
       stands-put f t xs (taken xs p r) p stands (a .place) (taken-touched xs p (stands .long) (a .place) r w)
-      (Option·map (holding r) (t p)) (rw (a .sits) (taken-seat xs p (stands .long) (a .place) r w s (session-there p s (a .place) (a .sits)))))
+      (Option·map (holding r) (t p)) (rw (a .found) (taken-place xs p (stands .long) (a .place) r w s (session-there p s (a .place) (a .found)))))
       stands)
   stands-after (drops p r) =
       rw (drop-file f form t known xs stands p r)
       (both-ways (Stands f) (dropRule f t p r) (put t p (Option·map (without r) (t p))) t (dropped xs p r) xs
       (λ h.
-      let a = seated-done t p _ h in
+      let a = session-done t p _ h in
       let s = a .session in
       let w = role-small r (dropping f r (a .done)) in
       stands-put f t xs (dropped xs p r) p stands (a .place) (dropped-touched xs p (stands .long) (a .place) r w)
-      (Option·map (without r) (t p)) (rw (a .sits) (dropped-seat xs p (stands .long) (a .place) r w s (session-there p s (a .place) (a .sits)))))
+      (Option·map (without r) (t p)) (rw (a .found) (dropped-place xs p (stands .long) (a .place) r w s (session-there p s (a .place) (a .found)))))
       stands)
   stands-after (reads p o k n) = stands
   stands-after (writes p o k bytes) = stands
@@ -146,17 +146,17 @@ module _ (b : Bool) (n rest : ℕ) where
       by true = k
       by false = h
 
-seated-not-21 : (t : Sessions) (p : ℕ) (rule : Session → ℕ) → ((s : Session) → rule s ≡ 21 → ⊥) → seatedAt t p rule ≡ 21 → ⊥
-seated-not-21 t p rule h = other-than-21 (among 64 p) 22 (seated (t p) rule) (λ e. omega arith) (by (t p))
+session-not-21 : (t : Sessions) (p : ℕ) (rule : Session → ℕ) → ((s : Session) → rule s ≡ 21 → ⊥) → atSessionByFile t p rule ≡ 21 → ⊥
+session-not-21 t p rule h = other-than-21 (among 64 p) 22 (sessionRule (t p) rule) (λ e. omega arith) (by (t p))
   where
-    by : (s : Option Session) → seated s rule ≡ 21 → ⊥
+    by : (s : Option Session) → sessionRule s rule ≡ 21 → ⊥
     by none e = omega arith
     by (some s) e = h s e
 
 part-not-21 : (f : List ℕ) (m size : ℕ) (t : Sessions) (p o k n : ℕ) → partRule f m t size p o k n ≡ 21 → ⊥
 unfolding partRule
 part-not-21 f m size t p o k n =
-    seated-not-21 t p _ (λ s. other-than-21 _ 25 _ (λ e. omega arith)
+    session-not-21 t p _ (λ s. other-than-21 _ 25 _ (λ e. omega arith)
     (other-than-21 _ 29 _ (λ e. omega arith) (other-than-21 _ 30 _ (λ e. omega arith) (other-than-21 _ 31 _ (λ e. omega arith) (λ e. omega arith)))))
 
 pub rule-not-21 : (f : List ℕ) (size : ℕ) (t : Sessions) (c : Call) → rule f size t c ≡ 21 → ⊥
@@ -164,11 +164,11 @@ unfolding rule openRule closeRule takeRule dropRule partRule
 rule-not-21 f size t (opens p u l) =
     other-than-21 _ 22 _ (λ e. omega arith) (other-than-21 _ 23 _ (λ e. omega arith) (other-than-21 _ 25 _ (λ e. omega arith)
     (other-than-21 _ 25 _ (λ e. omega arith) (other-than-21 _ 26 _ (λ e. omega arith) (λ e. omega arith)))))
-rule-not-21 f size t (closes p) = seated-not-21 t p _ (λ s e. omega arith)
+rule-not-21 f size t (closes p) = session-not-21 t p _ (λ s e. omega arith)
 rule-not-21 f size t (takes p r) =
-    seated-not-21 t p _ (λ s. other-than-21 _ 25 _ (λ e. omega arith)
+    session-not-21 t p _ (λ s. other-than-21 _ 25 _ (λ e. omega arith)
     (other-than-21 _ 27 _ (λ e. omega arith) (other-than-21 _ 28 _ (λ e. omega arith) (λ e. omega arith))))
-rule-not-21 f size t (drops p r) = seated-not-21 t p _ (λ s. other-than-21 _ 25 _ (λ e. omega arith) (λ e. omega arith))
+rule-not-21 f size t (drops p r) = session-not-21 t p _ (λ s. other-than-21 _ 25 _ (λ e. omega arith) (λ e. omega arith))
 rule-not-21 f size t (reads p o k n) = part-not-21 f 1 size t p o k n
 rule-not-21 f size t (writes p o k bytes) = part-not-21 f 2 size t p o k (length bytes)
 
@@ -201,26 +201,26 @@ module _ (f : List ℕ) (accepted : Accepted f) (xs ys : List ℕ) (v : Verdict)
   unfolding loadVerdict
   load-done = ap (λ (w : Verdict). w .number) (load .answer) ∙ rw (le-leb stateSize (length xs) enough) (accepted-iff f .1 accepted)
 
-  loaded-stands : Stands f nobody ys
+  loaded-stands : Stands f noSessions ys
   loaded-stands = image-stands f ys (rw (load .long) enough) (load .done load-done)
 
-  pub loaded-runs : (store : List ℕ) → Runs f nobody (length store) (record { state = ys; store = store })
-  loaded-runs store = record { known = nobody-orderly f; stands = loaded-stands; stored = refl }
+  pub loaded-runs : (store : List ℕ) → Runs f noSessions (length store) (record { state = ys; store = store })
+  loaded-runs store = record { known = no-sessions-orderly f; stands = loaded-stands; stored = refl }
 
   module _ (store : List ℕ) (cs : List Call) where
     abbrev pub left : Memory
     left = run (record { state = ys; store = store }) cs
 
-    pub left-runs : Runs f (sessions f nobody cs) (length store) left
-    left-runs = runs-after f form cs nobody (length store) (record { state = ys; store = store }) (loaded-runs store)
+    pub left-runs : Runs f (sessions f noSessions cs) (length store) left
+    left-runs = runs-after f form cs noSessions (length store) (record { state = ys; store = store }) (loaded-runs store)
 
     -- what each call is answered, whatever store it is lent, by the file and the calls so far
-    pub answers : (lent : List ℕ) (c : Call) → number (record { state = left .state; store = lent }) c ≡ rule f (length lent) (sessions f nobody cs) c
-    answers lent c = let r = left-runs in number-file f form (sessions f nobody cs) (r .known) (record { state = left .state; store = lent }) (r .stands) c
+    pub answers : (lent : List ℕ) (c : Call) → number (record { state = left .state; store = lent }) c ≡ rule f (length lent) (sessions f noSessions cs) c
+    answers lent c = let r = left-runs in number-file f form (sessions f noSessions cs) (r .known) (record { state = left .state; store = lent }) (r .stands) c
 
     -- "never for a state that a load and calls left"
     pub never-21 : (lent : List ℕ) (c : Call) → number (record { state = left .state; store = lent }) c ≡ 21 → ⊥
-    never-21 lent c e = rule-not-21 f (length lent) (sessions f nobody cs) c (sym (answers lent c) ∙ e)
+    never-21 lent c e = rule-not-21 f (length lent) (sessions f noSessions cs) c (sym (answers lent c) ∙ e)
 
     -- the flow report
     pub flows-answers : (q r n figure : ℕ) → Flows (left .state) q r n figure
@@ -230,7 +230,7 @@ module _ (f : List ℕ) (accepted : Accepted f) (xs ys : List ℕ) (v : Verdict)
         let w = left-runs in
         let tables = w .stands .tables in
         let e : n ≡ unless (among (roles f) q) 25 (unless (among (roles f) r) 25 0) =
-        h .number ∙ test-passed 21 (sound-file f form (sessions f nobody cs) (w .known) (left .state) (w .stands)) ∙ rw (tables .counted .roles) in
+        h .number ∙ test-passed 21 (sound-file f form (sessions f noSessions cs) (w .known) (left .state) (w .stands)) ∙ rw (tables .counted .roles) in
         (e, h .answer ∙ rw (← (h .number)) (by n e))
       where
         by : (n : ℕ) → n ≡ unless (among (roles f) q) 25 (unless (among (roles f) r) 25 0)
@@ -248,5 +248,5 @@ module _ (f : List ℕ) (accepted : Accepted f) (xs ys : List ℕ) (v : Verdict)
     unfolding circleNumber ifDone
     circle-answers n figure h =
         let w = left-runs in
-        let e : circleNumber (left .state) ≡ 0 = test-passed 21 (sound-file f form (sessions f nobody cs) (w .known) (left .state) (w .stands)) in
+        let e : circleNumber (left .state) ≡ 0 = test-passed 21 (sound-file f form (sessions f noSessions cs) (w .known) (left .state) (w .stands)) in
         (h .number ∙ e, h .answer ∙ rw e (circle-file f form (left .state) (w .stands .tables) (w .stands .long)))

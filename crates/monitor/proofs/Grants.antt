@@ -22,43 +22,43 @@ use Rattle.policy.proofs.Levels.{converse-order, passes-iff}
 use Rattle.monitor.specs.Calls.{unless}
 use Rattle.monitor.specs.Runs.{Call, opens, closes, takes, drops, reads, writes, number, run}
 use Rattle.monitor.specs.Places.{isFree}
-use Rattle.monitor.specs.Rules.{Session, Sessions, nobody, seatedAt, entitledByFile, fittingByFile, givesByFile, openRule, closeRule, takeRule, dropRule, partRule, rule, sessions}
-use Rattle.monitor.specs.Granted.{Sits, Holds, MayOpen, Seated, MayTake, MayDrop, MayUse, Granted}
-use Rattle.monitor.proofs.Orderly.{Admitted, Orderly, nobody-orderly, opening, seated-done, taking, dropping, part-done}
-use Rattle.monitor.proofs.History.{orderly-sessions, sat-some, Opened, sits-iff, holds-iff}
+use Rattle.monitor.specs.Rules.{Session, Sessions, noSessions, atSessionByFile, entitledByFile, fittingByFile, givesByFile, openRule, closeRule, takeRule, dropRule, partRule, rule, sessions}
+use Rattle.monitor.specs.Granted.{OpenFor, Holds, MayOpen, OpenPlace, MayTake, MayDrop, MayUse, Granted}
+use Rattle.monitor.proofs.Orderly.{Admitted, Orderly, no-sessions-orderly, opening, session-done, taking, dropping, part-done}
+use Rattle.monitor.proofs.History.{orderly-sessions, session-with, Opened, open-for-iff, holds-iff}
 use Rattle.monitor.proofs.Demand2.{answers}
 
 module _ (f : List ℕ) (cs : List Call) where
   abbrev now : Sessions
-  now = sessions f nobody cs
+  now = sessions f noSessions cs
 
   known : Orderly f now
-  known = orderly-sessions f cs nobody (nobody-orderly f)
+  known = orderly-sessions f cs noSessions (no-sessions-orderly f)
 
-  -- ---- a session sits there
+  -- ---- a place has a session
 
-  abbrev there : (p : ℕ) (s : Session) → now p ≡ some s → Seated f cs p
-  there p s e = record { user = s .user; label = s .label; sits = sits-iff f cs p (s .user) (s .label) .0 (rw e (refl, refl)) }
+  abbrev there : (p : ℕ) (s : Session) → now p ≡ some s → OpenPlace f cs p
+  there p s e = record { user = s .user; label = s .label; since = open-for-iff f cs p (s .user) (s .label) .0 (rw e (refl, refl)) }
 
-  session-of : (p : ℕ) (h : Seated f cs p) → (s : Session) × (now p ≡ some s) × ((s .user ≡ h .user) × (s .label ≡ h .label))
-  session-of p h = sat-some (Opened f cs p (h .user) (h .label)) (now p) (sits-iff f cs p (h .user) (h .label) .1 (h .sits))
+  session-of : (p : ℕ) (h : OpenPlace f cs p) → (s : Session) × (now p ≡ some s) × ((s .user ≡ h .user) × (s .label ≡ h .label))
+  session-of p h = session-with (Opened f cs p (h .user) (h .label)) (now p) (open-for-iff f cs p (h .user) (h .label) .1 (h .since))
 
   -- the rule of a call at a place, done
-  seated-of : (p : ℕ) (s : Session) (rule : Session → ℕ) → now p ≡ some s → rule s ≡ 0 → seatedAt now p rule ≡ 0
+  session-granted : (p : ℕ) (s : Session) (rule : Session → ℕ) → now p ≡ some s → rule s ≡ 0 → atSessionByFile now p rule ≡ 0
   unfolding unless
-  seated-of p s rule e h = let a : Admitted f p s = rw e at (known p) in rw (among-iff 64 p .1 (a .place), e) h
+  session-granted p s rule e h = let a : Admitted f p s = rw e at (known p) in rw (among-iff 64 p .1 (a .place), e) h
 
   -- ---- open
 
-  free-iff : (p : ℕ) → (isFree (now p) ≡ true) ↔ ((u l : ℕ) → Sits f cs p u l → ⊥)
+  free-iff : (p : ℕ) → (isFree (now p) ≡ true) ↔ ((u l : ℕ) → OpenFor f cs p u l → ⊥)
   free-iff p = (
-    λ free u l h. let (s, e, g) = sat-some (Opened f cs p u l) (now p) (sits-iff f cs p u l .1 h) in false≢true (rw e at free),
+    λ free u l h. let (s, e, g) = session-with (Opened f cs p u l) (now p) (open-for-iff f cs p u l .1 h) in false≢true (rw e at free),
     λ free. by (now p) refl free,
   )
     where
-      by : (o : Option Session) → now p ≡ o → ((u l : ℕ) → Sits f cs p u l → ⊥) → isFree o ≡ true
+      by : (o : Option Session) → now p ≡ o → ((u l : ℕ) → OpenFor f cs p u l → ⊥) → isFree o ≡ true
       by none e free = refl
-      by (some s) e free = absurd (free (s .user) (s .label) (there p s e .sits))
+      by (some s) e free = absurd (free (s .user) (s .label) (there p s e .since))
 
   open-iff : (p u l : ℕ) → (openRule f now p u l ≡ 0) ↔ MayOpen f cs p u l
   unfolding openRule unless
@@ -76,11 +76,11 @@ module _ (f : List ℕ) (cs : List Call) where
         ),
   )
 
-  close-iff : (p : ℕ) → (closeRule now p ≡ 0) ↔ Seated f cs p
+  close-iff : (p : ℕ) → (closeRule now p ≡ 0) ↔ OpenPlace f cs p
   unfolding closeRule
   close-iff p = (
-    λ h. let a = seated-done now p (λ s. 0) h in there p (a .session) (a .sits),
-    λ g. let (s, e, k) = session-of p g in seated-of p s (λ s. 0) e refl,
+    λ h. let a = session-done now p (λ s. 0) h in there p (a .session) (a .found),
+    λ g. let (s, e, k) = session-of p g in session-granted p s (λ s. 0) e refl,
   )
 
   -- ---- take and drop
@@ -89,11 +89,11 @@ module _ (f : List ℕ) (cs : List Call) where
   unfolding dropRule unless
   drop-iff p r = (
     λ h.
-        let a = seated-done now p _ h in
-        record { session = there p (a .session) (a .sits); role = dropping f r (a .done) },
+        let a = session-done now p _ h in
+        record { session = there p (a .session) (a .found); role = dropping f r (a .done) },
     λ g.
         let (s, e, k) = session-of p (g .session) in
-        seated-of p s (λ s. unless (among (roles f) r) 25 0) e (rw (among-iff (roles f) r .1 (g .role))),
+        session-granted p s (λ s. unless (among (roles f) r) 25 0) e (rw (among-iff (roles f) r .1 (g .role))),
   )
 
   entitled-by-file-iff : (u r : ℕ) → (entitledByFile f u r ≡ true) ↔ ((q : ℕ) × Among (roles f) q × (assigned f u q ≡ true) × (senior f q r ≡ true))
@@ -121,16 +121,16 @@ module _ (f : List ℕ) (cs : List Call) where
     unfolding takeRule unless
     take-iff p r = (
       λ h.
-          let a = seated-done now p rest h in
+          let a = session-done now p rest h in
           let s = a .session in
           let (w, b, c) = taking f r s (a .done) in
           let (i, j) = fitting-by-file-iff (s .label) r .0 c in
-          record { session = there p s (a .sits); role = w; member = entitled-by-file-iff (s .user) r .0 b; reads = i; writes = j },
+          record { session = there p s (a .found); role = w; member = entitled-by-file-iff (s .user) r .0 b; reads = i; writes = j },
       λ g.
           let (s, e, (u, l)) = session-of p (g .session) in
           let b = entitled-by-file-iff (g .session .user) r .1 (g .member) in
           let c = fitting-by-file-iff (g .session .label) r .1 (g .reads, g .writes) in
-          seated-of p s rest e (rw (among-iff (roles f) r .1 (g .role), u, l, b, c)),
+          session-granted p s rest e (rw (among-iff (roles f) r .1 (g .role), u, l, b, c)),
     )
       where
         rest : Session → ℕ
@@ -160,15 +160,15 @@ module _ (f : List ℕ) (cs : List Call) where
     λ h.
         let a = part-done f m now size p o k n h in
         record {
-          session = there p (a .session) (a .sits);
+          session = there p (a .session) (a .found);
           card = a .card;
-          role = gives-by-file-iff m p o (a .session) (a .sits) .0 (a .used);
+          role = gives-by-file-iff m p o (a .session) (a .found) .0 (a .used);
           inCard = a .inCard;
           inStore = a .inStore;
         },
     λ g.
         let (s, e, same) = session-of p (g .session) in
-        seated-of p s rest e
+        session-granted p s rest e
         (rw (
           among-iff (cards f) o .1 (g .card),
           gives-by-file-iff m p o s e .1 (g .role),
@@ -182,7 +182,7 @@ module _ (f : List ℕ) (cs : List Call) where
 
 -- ---- demand 2
 
-pub rule-iff : (f : List ℕ) → Accepted f → (size : ℕ) (cs : List Call) (c : Call) → (rule f size (sessions f nobody cs) c ≡ 0) ↔ Granted f size cs c
+pub rule-iff : (f : List ℕ) → Accepted f → (size : ℕ) (cs : List Call) (c : Call) → (rule f size (sessions f noSessions cs) c ≡ 0) ↔ Granted f size cs c
 unfolding rule
 rule-iff f a size cs (opens p u l) = open-iff f cs p u l
 rule-iff f a size cs (closes p) = close-iff f cs p

@@ -1,4 +1,4 @@
--- Who sits where and what is held, by the calls: a session sits at a place exactly since an opening that was done, and holds a role exactly since a taking that was done. Each
+-- Which places are open and what is held, by the calls: a session is at a place exactly since an opening that was done, and holds a role exactly since a taking that was done. Each
 -- call begins such a thing, ends it or leaves it, and the rest is induction along the list. Assumes nothing.
 use Prim.Native.Nat.{ℕ, zero, suc}
 use mathlib.Core.Path.{_≡_, refl, sym, ap}
@@ -16,10 +16,10 @@ use Rattle.rolefile.specs.Said.{roles}
 use Rattle.monitor.specs.Calls.{unless, ifDone}
 use Rattle.monitor.specs.Runs.{Call, opens, closes, takes, drops, reads, writes}
 use Rattle.monitor.specs.Places.{isFree, put}
-use Rattle.monitor.specs.Rules.{Session, Sessions, nobody, openRule, closeRule, takeRule, dropRule, rule, sessionOf, holding, without, next, sessions}
-use Rattle.monitor.specs.Granted.{ends, NoneEnds, Since, Sits, Holds}
+use Rattle.monitor.specs.Rules.{Session, Sessions, noSessions, openRule, closeRule, takeRule, dropRule, rule, sessionOf, holding, without, next, sessions}
+use Rattle.monitor.specs.Granted.{ends, NoneEnds, Since, OpenFor, Holds}
 use Rattle.monitor.proofs.Places.{put-at, put-other}
-use Rattle.monitor.proofs.Orderly.{Admitted, Orderly, nobody-orderly, opening, seated-done, either-way, orderly-next}
+use Rattle.monitor.proofs.Orderly.{Admitted, Orderly, no-sessions-orderly, opening, session-done, either-way, orderly-next}
 
 -- ---- lists of calls
 
@@ -35,14 +35,14 @@ orderly-sessions f (c ∷ cs) t k = orderly-sessions f cs (next f t c) (orderly-
 
 -- ---- one place
 
--- what is true of the session that sits there
-abbrev pub Sat : (Session → Type 0) → Option Session → Type 0
-Sat Good none = ⊥
-Sat Good (some s) = Good s
+-- what is true of the session that is there
+abbrev pub SessionWith : (Session → Type 0) → Option Session → Type 0
+SessionWith Good none = ⊥
+SessionWith Good (some s) = Good s
 
-pub sat-some : (Good : Session → Type 0) (o : Option Session) → Sat Good o → (s : Session) × (o ≡ some s) × Good s
-sat-some Good none h = absurd h
-sat-some Good (some s) h = (s, refl, h)
+pub session-with : (Good : Session → Type 0) (o : Option Session) → SessionWith Good o → (s : Session) × (o ≡ some s) × Good s
+session-with Good none h = absurd h
+session-with Good (some s) h = (s, refl, h)
 
 -- which way a call went
 which-way : {A : Type 0} (P : A → Type 0) (n : ℕ) (new old : A) → P (ifDone n new old) → ((n ≡ 0) × P new) ⊎ ((n ≡ 0 → ⊥) × P old)
@@ -50,18 +50,18 @@ unfolding ifDone
 which-way P zero new old h = inl (refl, h)
 which-way P (suc n) new old h = inr (λ e. omega arith, h)
 
--- a closing of a place where a session sits is done, and so is a dropping of a role of the file
-module _ (f : List ℕ) (t : Sessions) (known : Orderly f t) (p : ℕ) (s : Session) (sits : t p ≡ some s) where
+-- a closing of a place that has a session is done, and so is a dropping of a role of the file
+module _ (f : List ℕ) (t : Sessions) (known : Orderly f t) (p : ℕ) (s : Session) (found : t p ≡ some s) where
   admitted : Admitted f p s
-  admitted = rw sits at (known p)
+  admitted = rw found at (known p)
 
   pub close-done : closeRule t p ≡ 0
   unfolding closeRule unless
-  close-done = rw (among-iff 64 p .1 (admitted .place), sits)
+  close-done = rw (among-iff 64 p .1 (admitted .place), found)
 
   drop-done : (r : ℕ) → Among (roles f) r → dropRule f t p r ≡ 0
   unfolding dropRule unless
-  drop-done r w = rw (among-iff 64 p .1 (admitted .place), sits, among-iff (roles f) r .1 w)
+  drop-done r w = rw (among-iff 64 p .1 (admitted .place), found, among-iff (roles f) r .1 w)
 
 -- ---- what begins with a call at place p and ends with a closing, or with a dropping of a role of the set
 pub record Kind (p : ℕ) (set : ℕ → Bool) (call : Call) (Good : Session → Type 0) : Type 0 where
@@ -75,9 +75,9 @@ pub record Kind (p : ℕ) (set : ℕ → Bool) (call : Call) (Good : Session →
 module _ (f : List ℕ) (p : ℕ) (set : ℕ → Bool) (call : Call) (Good : Session → Type 0) (kind : Kind p set call Good) (t : Sessions) (known : Orderly f t) where
   -- what is so at place p
   abbrev So : Sessions → Type 0
-  So u = Sat Good (u p)
+  So u = SessionWith Good (u p)
 
-  changed : (change : Session → Session) → ((s : Session) → Good s → Good (change s)) → (o : Option Session) → Sat Good o → Sat Good (Option·map change o)
+  changed : (change : Session → Session) → ((s : Session) → Good s → Good (change s)) → (o : Option Session) → SessionWith Good o → SessionWith Good (Option·map change o)
   changed change h none e = e
   changed change h (some s) e = h s e
 
@@ -93,9 +93,9 @@ module _ (f : List ℕ) (p : ℕ) (set : ℕ → Bool) (call : Call) (Good : Ses
   lasts-next (opens q u l) h e = either-way So (openRule f t q u l) (put t q (some (sessionOf u l))) t
       (λ z. elim (ℕ-discrete q p) [
         | yes i ↦
-            let (s, sits, g) = sat-some Good (t p) h in
+            let (s, found, g) = session-with Good (t p) h in
             let free : isFree (t p) ≡ true = rw i at (opening f t q u l z .free) in
-            absurd (false≢true (rw sits at free))
+            absurd (false≢true (rw found at free))
         | no n ↦ elsewhere q (some (sessionOf u l)) n h
       ])
       h
@@ -122,11 +122,11 @@ module _ (f : List ℕ) (p : ℕ) (set : ℕ → Bool) (call : Call) (Good : Ses
   abbrev Came : Call → Type 0
   Came c = (So t × (ends p set c ≡ false)) ⊎ ((c ≡ call) × (rule f 0 t c ≡ 0))
 
-  back-taken : (r : ℕ) (o : Option Session) → Sat Good (Option·map (holding r) o) → Sat Good o ⊎ (takes p r ≡ call)
+  back-taken : (r : ℕ) (o : Option Session) → SessionWith Good (Option·map (holding r) o) → SessionWith Good o ⊎ (takes p r ≡ call)
   back-taken r none h = inl h
   back-taken r (some s) h = kind .taken r s h
 
-  back-dropped : (r : ℕ) (o : Option Session) → Sat Good (Option·map (without r) o) → Sat Good o × (set r ≡ false)
+  back-dropped : (r : ℕ) (o : Option Session) → SessionWith Good (Option·map (without r) o) → SessionWith Good o × (set r ≡ false)
   back-dropped r none h = absurd h
   back-dropped r (some s) h = kind .dropped r s h
 
@@ -147,8 +147,8 @@ module _ (f : List ℕ) (p : ℕ) (set : ℕ → Bool) (call : Call) (Good : Ses
         | no n ↦ inl (back-elsewhere q none n g, ne-eqb q p n)
       ])
       (λ (z, g).
-      let (s, sits, good) = sat-some Good (t p) g in
-      inl (g, ne-eqb q p (λ i. z (rw i (close-done f t known p s sits)))))
+      let (s, found, good) = session-with Good (t p) g in
+      inl (g, ne-eqb q p (λ i. z (rw i (close-done f t known p s found)))))
       (which-way So (closeRule t q) (put t q none) t h)
   back-next (takes q r) h =
       ⊎-elim
@@ -169,12 +169,12 @@ module _ (f : List ℕ) (p : ℕ) (set : ℕ → Bool) (call : Call) (Good : Ses
         | no n ↦ inl (back-elsewhere q (Option·map (without r) (t q)) n g, rw (ne-eqb q p n))
       ])
       (λ (z, g).
-      let (s, sits, good) = sat-some Good (t p) g in
+      let (s, found, good) = session-with Good (t p) g in
       inl (
         g,
         untrue (eqb q p && set r) (λ e.
             let (i, j) = and-iff (eqb q p) (set r) .0 e in
-            z (rw (eqb-true q p i) (drop-done f t known p s sits r (kind .role f s (rw sits at (known p)) good r j)))),
+            z (rw (eqb-true q p i) (drop-done f t known p s found r (kind .role f s (rw found at (known p)) good r j)))),
       ))
       (which-way So (dropRule f t q r) (put t q (Option·map (without r) (t q))) t h)
   back-next (reads q o k n) h = inl (h, refl)
@@ -183,13 +183,13 @@ module _ (f : List ℕ) (p : ℕ) (set : ℕ → Bool) (call : Call) (Good : Ses
 -- ---- along a list
 
 module _ (f : List ℕ) (p : ℕ) (set : ℕ → Bool) (call : Call) (Good : Session → Type 0) (kind : Kind p set call Good)
-    (begins : (t : Sessions) → rule f 0 t call ≡ 0 → Sat Good (next f t call p)) where
-  lasts-on : (cs : List Call) (t : Sessions) → Orderly f t → Sat Good (t p) → NoneEnds p set cs → Sat Good (sessions f t cs p)
+    (begins : (t : Sessions) → rule f 0 t call ≡ 0 → SessionWith Good (next f t call p)) where
+  lasts-on : (cs : List Call) (t : Sessions) → Orderly f t → SessionWith Good (t p) → NoneEnds p set cs → SessionWith Good (sessions f t cs p)
   unfolding sessions
   lasts-on [] t k h lasting = h
   lasts-on (c ∷ cs) t k h (e, lasting) = lasts-on cs (next f t c) (orderly-next f t k c) (lasts-next f p set call Good kind t k c h e) lasting
 
-  came : (cs : List Call) (t : Sessions) → Orderly f t → Sat Good (sessions f t cs p) → (Sat Good (t p) × NoneEnds p set cs) ⊎ Since f t p set call cs
+  came : (cs : List Call) (t : Sessions) → Orderly f t → SessionWith Good (sessions f t cs p) → (SessionWith Good (t p) × NoneEnds p set cs) ⊎ Since f t p set call cs
   unfolding sessions
   came [] t k h = inl (h, tt)
   came (c ∷ cs) t k h =
@@ -203,25 +203,25 @@ module _ (f : List ℕ) (p : ℕ) (set : ℕ → Bool) (call : Call) (Good : Ses
       inr (record { earlier = c ∷ s .earlier; later = s .later; split = ap (λ (ds : List Call). c ∷ ds) (s .split); done = s .done; lasts = s .lasts }))
       (came cs (next f t c) (orderly-next f t k c) h)
 
-  pub since-iff : (cs : List Call) → Sat Good (sessions f nobody cs p) ↔ Since f nobody p set call cs
+  pub since-iff : (cs : List Call) → SessionWith Good (sessions f noSessions cs p) ↔ Since f noSessions p set call cs
   unfolding sessions
   since-iff cs = (
-    λ h. ⊎-elim (λ (so, lasting). absurd so) (λ s. s) (came cs nobody (nobody-orderly f) h),
+    λ h. ⊎-elim (λ (so, lasting). absurd so) (λ s. s) (came cs noSessions (no-sessions-orderly f) h),
     λ s.
-        let t = sessions f nobody (s .earlier) in
-        let k = orderly-sessions f (s .earlier) nobody (nobody-orderly f) in
-        rw (s .split, sessions-append f (s .earlier) (call ∷ s .later) nobody)
+        let t = sessions f noSessions (s .earlier) in
+        let k = orderly-sessions f (s .earlier) noSessions (no-sessions-orderly f) in
+        rw (s .split, sessions-append f (s .earlier) (call ∷ s .later) noSessions)
         (lasts-on (s .later) (next f t call) (orderly-next f t k call) (begins t (s .done)) (s .lasts)),
   )
 
--- ---- who sits there, and what is held
+-- ---- for whom a place is open, and what is held
 
 module _ (f : List ℕ) (cs : List Call) (p : ℕ) where
   abbrev pub Opened : ℕ → ℕ → Session → Type 0
   Opened u l s = (s .user ≡ u) × (s .label ≡ l)
 
-  sits-kind : (u l : ℕ) → Kind p (λ r. false) (opens p u l) (Opened u l)
-  sits-kind u l = record {
+  open-kind : (u l : ℕ) → Kind p (λ r. false) (opens p u l) (Opened u l)
+  open-kind u l = record {
     opened = λ v m (e, g). rw (e, g);
     taken = λ r s g. inl g;
     keeps = λ r s g. g;
@@ -230,9 +230,9 @@ module _ (f : List ℕ) (cs : List Call) (p : ℕ) where
     role = λ f s a g r e. absurd (false≢true e);
   }
 
-  pub sits-iff : (u l : ℕ) → Sat (Opened u l) (sessions f nobody cs p) ↔ Sits f cs p u l
+  pub open-for-iff : (u l : ℕ) → SessionWith (Opened u l) (sessions f noSessions cs p) ↔ OpenFor f cs p u l
   unfolding rule next ifDone
-  sits-iff u l = since-iff f p (λ r. false) (opens p u l) (Opened u l) (sits-kind u l) (λ t z. rw (z, eq-eqb p p refl) (refl, refl)) cs
+  open-for-iff u l = since-iff f p (λ r. false) (opens p u l) (Opened u l) (open-kind u l) (λ t z. rw (z, eq-eqb p p refl) (refl, refl)) cs
 
   abbrev pub Held : ℕ → Session → Type 0
   Held r s = s .held r ≡ true
@@ -249,11 +249,11 @@ module _ (f : List ℕ) (cs : List Call) (p : ℕ) where
     role = λ f s a g q e. rw (eqb-true q r e) (a .roles r g .0);
   }
 
-  pub holds-iff : (r : ℕ) → Sat (Held r) (sessions f nobody cs p) ↔ Holds f cs p r
+  pub holds-iff : (r : ℕ) → SessionWith (Held r) (sessions f noSessions cs p) ↔ Holds f cs p r
   unfolding rule next ifDone takeRule
   holds-iff r = since-iff f p (λ q. eqb q r) (takes p r) (Held r) (holds-kind r) begun cs
     where
-      begun : (t : Sessions) → takeRule f t p r ≡ 0 → Sat (Held r) (next f t (takes p r) p)
+      begun : (t : Sessions) → takeRule f t p r ≡ 0 → SessionWith (Held r) (next f t (takes p r) p)
       begun t z =
-          let a = seated-done t p _ z in
-          rw (z, eq-eqb p p refl, a .sits) (or-iff (a .session .held r) (eqb r r) .1 (inr (eq-eqb r r refl)))
+          let a = session-done t p _ z in
+          rw (z, eq-eqb p p refl, a .found) (or-iff (a .session .held r) (eqb r r) .1 (inr (eq-eqb r r refl)))

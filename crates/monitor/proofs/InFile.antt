@@ -26,9 +26,9 @@ use Rattle.policy.proofs.Meaning.{counts-known, marked-file}
 use Rattle.monitor.specs.Session.{sound, labelsIn, rolesIn, usersIn, cardsIn, placeAt, heldAt, inUse, userAt, labelAt, cleared, entitled, fitting, gives}
 use Rattle.monitor.specs.Calls.{unless, atSession, openNumber, closeNumber, takeNumber, dropNumber, partNumber}
 use Rattle.monitor.specs.Places.{isFree}
-use Rattle.monitor.specs.Rules.{Session, Sessions, seated, seatedAt, entitledByFile, fittingByFile, givesByFile, openRule, closeRule, takeRule, dropRule, partRule}
+use Rattle.monitor.specs.Rules.{Session, Sessions, sessionRule, atSessionByFile, entitledByFile, fittingByFile, givesByFile, openRule, closeRule, takeRule, dropRule, partRule}
 use Rattle.monitor.proofs.Orderly.{Admitted, Known, Orderly}
-use Rattle.monitor.proofs.Stands.{SessionAt, Seat, Stands}
+use Rattle.monitor.proofs.Stands.{SessionAt, PlaceIs, Stands}
 
 -- ---- rows of tests
 
@@ -64,20 +64,20 @@ module _ (f : List ℕ) (form : WellFormed f) (t : Sessions) (known : Orderly f 
 
   free-file : (p : ℕ) → Among 64 p → not (inUse xs p) ≡ isFree (t p)
   unfolding inUse
-  free-file p w = by (t p) (stands .seats p w)
+  free-file p w = by (t p) (stands .places p w)
     where
-      by : (s : Option Session) → Seat xs p s → not (eqb (getD xs (placeAt p) 0) 1) ≡ isFree s
+      by : (s : Option Session) → PlaceIs xs p s → not (eqb (getD xs (placeAt p) 0) 1) ≡ isFree s
       by none e = rw e
       by (some s) a = rw (a .used)
 
-  -- a session sits there, or 21, 22 or 24
-  seated-file : (p : ℕ) {x : ℕ} (rule : Session → ℕ) → ((s : Session) → SessionAt xs p s → Admitted f p s → x ≡ rule s) → atSession xs p x ≡ seatedAt t p rule
+  -- the place has a session, or 21, 22 or 24
+  session-file : (p : ℕ) {x : ℕ} (rule : Session → ℕ) → ((s : Session) → SessionAt xs p s → Admitted f p s → x ≡ rule s) → atSession xs p x ≡ atSessionByFile t p rule
   unfolding inUse unless
-  seated-file p {x} rule h =
+  session-file p {x} rule h =
       test-passed 21 sound-file
-      ∙ test-same (among 64 p) (among 64 p) 22 refl (λ place. by (t p) (stands .seats p (among-iff 64 p .0 place)) (known p))
+      ∙ test-same (among 64 p) (among 64 p) 22 refl (λ place. by (t p) (stands .places p (among-iff 64 p .0 place)) (known p))
     where
-      by : (s : Option Session) → Seat xs p s → Known f p s → unless (eqb (getD xs (placeAt p) 0) 1) 24 x ≡ seated s rule
+      by : (s : Option Session) → PlaceIs xs p s → Known f p s → unless (eqb (getD xs (placeAt p) 0) 1) 24 x ≡ sessionRule s rule
       by none e k = rw e
       by (some s) a k = rw (a .used) (h s a k)
 
@@ -143,7 +143,7 @@ module _ (f : List ℕ) (form : WellFormed f) (t : Sessions) (known : Orderly f 
     pub part-file : (size p o k n : ℕ) → partNumber at xs size p o k n ≡ partRule f m t size p o k n
     unfolding partNumber partRule
     part-file size p o k n =
-        seated-file p _ (λ s a adm.
+        session-file p _ (λ s a adm.
         test-same (among (cardsIn xs) o) (among (cards f) o) 25 (rw (stands .tables .counted .cards)) (λ card.
         test-same (gives xs at p o) (givesByFile f m s o) 29 (gives-file p o s a adm (among-iff (cards f) o .0 card)) (λ used.
         test-same (leb (k + n) 64) (leb (k + n) 64) 30 refl (λ fits.
@@ -164,7 +164,7 @@ module _ (f : List ℕ) (form : WellFormed f) (t : Sessions) (known : Orderly f 
 
   pub close-file : (p : ℕ) → closeNumber xs p ≡ closeRule t p
   unfolding closeNumber closeRule
-  close-file p = seated-file p (λ s. 0) (λ s a adm. refl)
+  close-file p = session-file p (λ s. 0) (λ s a adm. refl)
 
   user-is : (p : ℕ) (s : Session) → SessionAt xs p s → userAt xs p ≡ s .user
   unfolding userAt
@@ -177,7 +177,7 @@ module _ (f : List ℕ) (form : WellFormed f) (t : Sessions) (known : Orderly f 
   pub take-file : (p r : ℕ) → takeNumber xs p r ≡ takeRule f t p r
   unfolding takeNumber takeRule
   take-file p r =
-      seated-file p _ (λ s a adm.
+      session-file p _ (λ s a adm.
       test-same (among (rolesIn xs) r) (among (roles f) r) 25 (rw (stands .tables .counted .roles)) (λ role.
       let w = among-iff (roles f) r .0 role in
       test-same (entitled xs (userAt xs p) r) (entitledByFile f (s .user) r) 27
@@ -188,5 +188,5 @@ module _ (f : List ℕ) (form : WellFormed f) (t : Sessions) (known : Orderly f 
   pub drop-file : (p r : ℕ) → dropNumber xs p r ≡ dropRule f t p r
   unfolding dropNumber dropRule
   drop-file p r =
-      seated-file p _ (λ s a adm.
+      session-file p _ (λ s a adm.
       test-same (among (rolesIn xs) r) (among (roles f) r) 25 (rw (stands .tables .counted .roles)) (λ role. refl))

@@ -1,4 +1,4 @@
--- What the rules have seen to wherever a session sits: its place, user, label and roles are the file's, and each role held fits its label. Assumes nothing.
+-- What the rules have seen to of every session: its place, user, label and roles are the file's, and each role held fits its label. Assumes nothing.
 use Prim.Native.Nat.{ℕ, zero, suc, _+_, _*_, _≤_}
 use mathlib.Core.Path.{_≡_, refl}
 use mathlib.Core.Logic.{⊎-elim}
@@ -16,7 +16,7 @@ use Rattle.policy.specs.Policy.{dominates}
 use Rattle.monitor.specs.Calls.{unless, ifDone}
 use Rattle.monitor.specs.Runs.{Call, opens, closes, takes, drops, reads, writes}
 use Rattle.monitor.specs.Places.{isFree, put}
-use Rattle.monitor.specs.Rules.{Session, Sessions, nobody, seated, seatedAt, entitledByFile, fittingByFile, givesByFile, openRule, closeRule, takeRule, dropRule, partRule, sessionOf, holding, without, next}
+use Rattle.monitor.specs.Rules.{Session, Sessions, noSessions, sessionRule, atSessionByFile, entitledByFile, fittingByFile, givesByFile, openRule, closeRule, takeRule, dropRule, partRule, sessionOf, holding, without, next}
 use Rattle.monitor.proofs.Answers.{unless-done}
 
 pub record Admitted (f : List ℕ) (p : ℕ) (s : Session) : Type 0 where
@@ -32,8 +32,8 @@ Known f p (some s) = Admitted f p s
 abbrev pub Orderly : List ℕ → Sessions → Type 0
 Orderly f t = (p : ℕ) → Known f p (t p)
 
-pub nobody-orderly : (f : List ℕ) → Orderly f nobody
-nobody-orderly f p = tt
+pub no-sessions-orderly : (f : List ℕ) → Orderly f noSessions
+no-sessions-orderly f p = tt
 
 pub orderly-put : (f : List ℕ) (t : Sessions) (p : ℕ) (s : Option Session) → Orderly f t → Known f p s → Orderly f (put t p s)
 orderly-put f t p s known new q = elim (ℕ-discrete q p) [
@@ -66,21 +66,21 @@ opening f t p u l h =
       cleared = e .0;
     }
 
--- a session sits there
+-- the place has a session
 pub record At (t : Sessions) (p : ℕ) (rule : Session → ℕ) : Type 0 where
   pub place : Among 64 p
   pub session : Session
-  pub sits : t p ≡ some session
+  pub found : t p ≡ some session
   pub done : rule session ≡ 0
 
-pub seated-done : (t : Sessions) (p : ℕ) (rule : Session → ℕ) → seatedAt t p rule ≡ 0 → At t p rule
-seated-done t p rule h =
-    let a = unless-done (among 64 p) 22 (seated (t p) rule) (omega arith) h in
+pub session-done : (t : Sessions) (p : ℕ) (rule : Session → ℕ) → atSessionByFile t p rule ≡ 0 → At t p rule
+session-done t p rule h =
+    let a = unless-done (among 64 p) 22 (sessionRule (t p) rule) (omega arith) h in
     there (among-iff 64 p .0 (a .0)) (t p) refl (a .1)
   where
-    there : Among 64 p → (s : Option Session) → t p ≡ s → seated s rule ≡ 0 → At t p rule
+    there : Among 64 p → (s : Option Session) → t p ≡ s → sessionRule s rule ≡ 0 → At t p rule
     there w none e d = absurd (omega arith)
-    there w (some s) e d = record { place = w; session = s; sits = e; done = d }
+    there w (some s) e d = record { place = w; session = s; found = e; done = d }
 
 pub taking : (f : List ℕ) (r : ℕ) (s : Session) → unless (among (roles f) r) 25 (unless (entitledByFile f (s .user) r) 27 (unless (fittingByFile f (s .label) r) 28 0)) ≡ 0
     → Among (roles f) r × (entitledByFile f (s .user) r ≡ true) × (fittingByFile f (s .label) r ≡ true)
@@ -97,7 +97,7 @@ dropping f r h = among-iff (roles f) r .0 (unless-done (among (roles f) r) 25 0 
 pub record Using (f : List ℕ) (m : ℕ) (t : Sessions) (size p o k n : ℕ) : Type 0 where
   pub place : Among 64 p
   pub session : Session
-  pub sits : t p ≡ some session
+  pub found : t p ≡ some session
   pub card : Among (cards f) o
   pub used : givesByFile f m session o ≡ true
   pub inCard : k + n ≤ 64
@@ -106,7 +106,7 @@ pub record Using (f : List ℕ) (m : ℕ) (t : Sessions) (size p o k n : ℕ) : 
 pub part-done : (f : List ℕ) (m : ℕ) (t : Sessions) (size p o k n : ℕ) → partRule f m t size p o k n ≡ 0 → Using f m t size p o k n
 unfolding partRule
 part-done f m t size p o k n h =
-    let a = seated-done t p (λ s. unless (among (cards f) o) 25 (unless (givesByFile f m s o) 29 (unless (leb (k + n) 64) 30 (unless (leb (64 * cards f) size) 31 0)))) h in
+    let a = session-done t p (λ s. unless (among (cards f) o) 25 (unless (givesByFile f m s o) 29 (unless (leb (k + n) 64) 30 (unless (leb (64 * cards f) size) 31 0)))) h in
     let (i, b) = unless-done (among (cards f) o) 25 _ (omega arith) (a .done) in
     let (j, c) = unless-done (givesByFile f m (a .session) o) 29 _ (omega arith) b in
     let (x, d) = unless-done (leb (k + n) 64) 30 _ (omega arith) c in
@@ -114,7 +114,7 @@ part-done f m t size p o k n h =
     record {
       place = a .place;
       session = a .session;
-      sits = a .sits;
+      found = a .found;
       card = among-iff (cards f) o .0 i;
       used = j;
       inCard = leb-true (k + n) 64 x;
@@ -143,12 +143,12 @@ module _ (f : List ℕ) (t : Sessions) (known : Orderly f t) where
   orderly-next (closes p) = either-way (Orderly f) (closeRule t p) (put t p none) t (λ h. orderly-put f t p none known tt) known
   orderly-next (takes p r) = either-way (Orderly f) (takeRule f t p r) (put t p (Option·map (holding r) (t p))) t
       (λ h.
-      let a = seated-done t p _ h in
+      let a = session-done t p _ h in
       let s = a .session in
       let (w, b, c) = taking f r s (a .done) in
-      let m = admitted p s (a .sits) in
+      let m = admitted p s (a .found) in
       orderly-put f t p (Option·map (holding r) (t p)) known
-      (rw (a .sits) (record {
+      (rw (a .found) (record {
         place = a .place;
         user = m .user;
         label = m .label;
@@ -157,11 +157,11 @@ module _ (f : List ℕ) (t : Sessions) (known : Orderly f t) where
       known
   orderly-next (drops p r) = either-way (Orderly f) (dropRule f t p r) (put t p (Option·map (without r) (t p))) t
       (λ h.
-      let a = seated-done t p _ h in
+      let a = session-done t p _ h in
       let s = a .session in
-      let m = admitted p s (a .sits) in
+      let m = admitted p s (a .found) in
       orderly-put f t p (Option·map (without r) (t p)) known
-      (rw (a .sits) (record {
+      (rw (a .found) (record {
         place = a .place;
         user = m .user;
         label = m .label;

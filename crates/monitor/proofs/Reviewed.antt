@@ -14,18 +14,18 @@ use Rattle.search.proofs.Found.{some-iff, some-of}
 use Rattle.roleset.specs.Row.{member}
 use Rattle.rolefile.specs.Said.{labels, roles, users, cards, clearance, assigned}
 use Rattle.rolefile.specs.WellFormed.{WellFormed}
-use Rattle.policy.specs.Policy.{dominates, senior}
+use Rattle.policy.specs.Policy.{dominates, senior, may}
 use Rattle.policy.specs.Tables.{rowOf}
 use Rattle.policy.proofs.Meaning.{counts-known, marked-file}
 use Rattle.monitor.specs.Session.{sound, entitled, fitting}
 use Rattle.monitor.specs.Rules.{Sessions, entitledByFile, fittingByFile}
-use Rattle.monitor.specs.Rights.{tableOf, serves, could, couldByFile}
+use Rattle.monitor.specs.Rights.{tableOf, roleCould, could, couldByFile}
 use Rattle.monitor.specs.Review.{counted, isLabel, isRole, isUser, isCard, clearanceOf, dominatesIn, seniorTo, assignedTo, entitledTo, mayOpen, mayTake, giveCard}
 use Rattle.monitor.proofs.Orderly.{Orderly}
 use Rattle.monitor.proofs.Stands.{Stands}
 use Rattle.monitor.proofs.InFile.{sound-file, cleared-file, entitled-file, fitting-file}
-use Rattle.monitor.proofs.Known.{may-known}
-use Rattle.monitor.proofs.Able.{could-by}
+use Rattle.monitor.proofs.Known.{may-role, may-known}
+use Rattle.monitor.proofs.Able.{table-says, could-by}
 
 module _ (f : List ℕ) (form : WellFormed f) (t : Sessions) (orderly : Orderly f t) (xs : List ℕ) (stands : Stands f t xs) where
   whole : sound xs ≡ true
@@ -93,20 +93,44 @@ module _ (f : List ℕ) (form : WellFormed f) (t : Sessions) (orderly : Orderly 
   unfolding mayTake
   review-takes u l r v w i = rw (review-opens u l v w, review-entitled u r v i, fitting-file f form t orderly xs stands l r w i)
 
-  -- ---- what the roles that may be taken give
+  -- ---- what a set of the file's roles gives
+
+  few : roles f ≤ 128
+  few = counts-known f form .roles
+
+  module _ (o m : ℕ) (held : ℕ → Bool) (i : Among (cards f) o) (j : Among 2 m) (known : (r : ℕ) → held r ≡ true → Among (roles f) r) where
+    abbrev gives : ℕ → Bool
+    gives r = member xs (rowOf (tableOf m) o) r && held r
+
+    -- it is enough to look at the file's roles
+    gives-by : (p : ℕ → Bool) → ((r : ℕ) → Among (roles f) r → gives r ≡ p r) → giveCard xs m o held ≡ search.some (roles f) p
+    unfolding giveCard
+    gives-by p agree =
+        rw (card o i, among-iff 2 m .1 j)
+        (same (search.some 128 gives) (search.some (roles f) p)
+        (λ h.
+        let (r, k, e) = some-iff gives 128 .0 h in
+        let one = known r (and-iff (member xs (rowOf (tableOf m) o) r) (held r) .0 e .1) in
+        some-of p (roles f) r one (sym (agree r one) ∙ e))
+        (λ h.
+        let (r, k, e) = some-iff p (roles f) .0 h in
+        some-of gives 128 r (omega (arith, few)) (agree r k ∙ e)))
+
+    pub review-gives : giveCard xs m o held ≡ search.some (roles f) (λ r. may f m r o && held r)
+    review-gives =
+        let few-cards = counts-known f form .cards in
+        gives-by (λ r. may f m r o && held r) (λ r k. rw (table-says f form t orderly xs stands m j o r (omega arith) (omega (arith, few))))
+
+  -- ---- what the roles that a user may take at a label give
 
   module _ (u l o m : ℕ) (v : Among (users f) u) (w : Among (labels f) l) (i : Among (cards f) o) (j : Among 2 m) (cleared : dominates f (clearance f u) l ≡ true) where
-    abbrev gives : ℕ → Bool
-    gives r = member xs (rowOf (tableOf m) o) r && mayTake xs u l r
-
-    -- a role of the file that may be taken and gives the card is one that serves
     takes-as : (r : ℕ) → Among (roles f) r → mayTake xs u l r ≡ (entitled xs u r && fitting xs l r)
     unfolding mayTake entitledTo
     takes-as r k = rw (review-opens u l v w, cleared, user u v, role r k)
 
-    serves-as : (r : ℕ) → Among (roles f) r → gives r ≡ serves xs u l o (tableOf m) r
-    unfolding serves
-    serves-as r k =
+    role-could-as : (r : ℕ) → Among (roles f) r → (member xs (rowOf (tableOf m) o) r && mayTake xs u l r) ≡ roleCould xs u l o (tableOf m) r
+    unfolding roleCould
+    role-could-as r k =
         rw (takes-as r k)
         (turn (member xs (rowOf (tableOf m) o) r) (entitled xs u r) (fitting xs l r))
       where
@@ -118,23 +142,12 @@ module _ (f : List ℕ) (form : WellFormed f) (t : Sessions) (orderly : Orderly 
         turn false true false = refl
         turn false false c = refl
 
-    few : roles f ≤ 128
-    few = counts-known f form .roles
+    taken-known : (r : ℕ) → mayTake xs u l r ≡ true → Among (roles f) r
+    taken-known r h = let most = rw review-roles at (may-known xs u l r h) in let one = may-role xs u l r h in omega arith
 
     pub review-can : giveCard xs m o (mayTake xs u l) ≡ could xs u l o (tableOf m)
-    unfolding giveCard could
-    review-can =
-        rw (card o i, among-iff 2 m .1 j, stands .tables .counted .roles)
-        (same (search.some 128 gives) (search.some (roles f) (serves xs u l o (tableOf m)))
-        (λ h.
-        let (r, k, e) = some-iff gives 128 .0 h in
-        let may = and-iff (member xs (rowOf (tableOf m) o) r) (mayTake xs u l r) .0 e .1 in
-        let most = rw review-roles at (may-known xs u l r may) in
-        let one : Among (roles f) r = omega arith in
-        some-of (serves xs u l o (tableOf m)) (roles f) r one (sym (serves-as r one) ∙ e))
-        (λ h.
-        let (r, k, e) = some-iff (serves xs u l o (tableOf m)) (roles f) .0 h in
-        some-of gives 128 r (omega (arith, few)) (serves-as r k ∙ e)))
+    unfolding could
+    review-can = rw (stands .tables .counted .roles) (gives-by o m (mayTake xs u l) i j taken-known (roleCould xs u l o (tableOf m)) role-could-as)
 
-    pub review-gives : giveCard xs m o (mayTake xs u l) ≡ couldByFile f u l o m
-    review-gives = review-can ∙ could-by f form t orderly xs stands u l o m v w i j
+    pub review-could : giveCard xs m o (mayTake xs u l) ≡ couldByFile f u l o m
+    review-could = review-can ∙ could-by f form t orderly xs stands u l o m v w i j

@@ -1,4 +1,4 @@
--- A state stands for the sessions that the calls left: its tables describe the file, and each place holds the session that sits there. A call that writes one place and no
+-- A state stands for the sessions that the calls left: its tables describe the file, and each place's bytes are its session's. A call that writes one place and no
 -- more keeps it so. Assumes nothing.
 use Prim.Native.Nat.{ℕ, suc, _+_, _-_, _≤_, _<_}
 use mathlib.Core.Path.{_≡_, refl, ap, _∙_}
@@ -20,7 +20,7 @@ use Rattle.policy.proofs.Builds.{describes-stays}
 use Rattle.monitor.specs.Session.{placeAt, heldAt}
 use Rattle.monitor.specs.Calls.{written, opened, closed, taken, dropped}
 use Rattle.monitor.specs.Places.{put}
-use Rattle.monitor.specs.Rules.{Session, Sessions, nobody, sessionOf, holding, without}
+use Rattle.monitor.specs.Rules.{Session, Sessions, noSessions, sessionOf, holding, without}
 use Rattle.monitor.proofs.Frames.{length-written, written-in, written-out}
 use Rattle.monitor.proofs.Holding.{added-placed, removed-placed, length-less}
 
@@ -30,20 +30,20 @@ pub record SessionAt (xs : List ℕ) (p : ℕ) (s : Session) : Type 0 where
   pub label : getD xs (placeAt p + 2) 0 ≡ s .label
   pub held : (r : ℕ) → member xs (heldAt p) r ≡ s .held r
 
-abbrev pub Seat : List ℕ → ℕ → Option Session → Type 0
-Seat xs p none = getD xs (placeAt p) 0 ≡ 0
-Seat xs p (some s) = SessionAt xs p s
+abbrev pub PlaceIs : List ℕ → ℕ → Option Session → Type 0
+PlaceIs xs p none = getD xs (placeAt p) 0 ≡ 0
+PlaceIs xs p (some s) = SessionAt xs p s
 
 pub record Stands (f : List ℕ) (t : Sessions) (xs : List ℕ) : Type 0 where
   pub long : 65536 ≤ length xs
   pub tables : Describes f xs
-  pub seats : (p : ℕ) → Among 64 p → Seat xs p (t p)
+  pub places : (p : ℕ) → Among 64 p → PlaceIs xs p (t p)
 
-pub image-stands : (f xs : List ℕ) → 65536 ≤ length xs → Image f xs → Stands f nobody xs
+pub image-stands : (f xs : List ℕ) → 65536 ≤ length xs → Image f xs → Stands f noSessions xs
 image-stands f xs long image = record {
   long = long;
   tables = image .tables;
-  seats = λ p w. image .unused (placeAt p) (omega arith, λ l. omega arith, λ l. omega arith) (omega arith);
+  places = λ p w. image .unused (placeAt p) (omega arith, λ l. omega arith, λ l. omega arith) (omega arith);
 }
 
 -- ---- one place is written
@@ -59,9 +59,9 @@ module _ (f : List ℕ) (t : Sessions) (xs ys : List ℕ) (p : ℕ) (stands : St
   elsewhere q v n k l =
       touched .rest (placeAt q + k) (λ m. elim (decLt q p) [ yes i ↦ absurd (omega arith) | no i ↦ elim (decLt p q) [ yes j ↦ omega arith | no j ↦ absurd (n (omega arith)) ] ])
 
-  seat-elsewhere : (q : ℕ) → Among 64 q → (q ≡ p → ⊥) → (s : Option Session) → Seat xs q s → Seat ys q s
-  seat-elsewhere q v n none e = rw add-zero at (elsewhere q v n 0 (omega arith)) ∙ e
-  seat-elsewhere q v n (some s) a = record {
+  place-elsewhere : (q : ℕ) → Among 64 q → (q ≡ p → ⊥) → (s : Option Session) → PlaceIs xs q s → PlaceIs ys q s
+  place-elsewhere q v n none e = rw add-zero at (elsewhere q v n 0 (omega arith)) ∙ e
+  place-elsewhere q v n (some s) a = record {
     used = rw add-zero at (elsewhere q v n 0 (omega arith)) ∙ a .used;
     user = rw (elsewhere q v n 1 (omega arith)) (a .user);
     label = elsewhere q v n 2 (omega arith) ∙ a .label;
@@ -70,13 +70,13 @@ module _ (f : List ℕ) (t : Sessions) (xs ys : List ℕ) (p : ℕ) (stands : St
         ∙ a .held r;
   }
 
-  pub stands-put : (s : Option Session) → Seat ys p s → Stands f (put t p s) ys
+  pub stands-put : (s : Option Session) → PlaceIs ys p s → Stands f (put t p s) ys
   stands-put s new = record {
     long = rw (touched .same) (stands .long);
     tables = describes-stays f xs ys (λ i l m. touched .rest i (λ n. absurd (omega arith))) (stands .tables);
-    seats = λ q v. elim (ℕ-discrete q p) [
+    places = λ q v. elim (ℕ-discrete q p) [
       | yes e ↦ rw (e, eq-eqb p p refl) new
-      | no n ↦ rw (ne-eqb q p n) (seat-elsewhere q v n (t q) (stands .seats q v))
+      | no n ↦ rw (ne-eqb q p n) (place-elsewhere q v n (t q) (stands .places q v))
     ];
   }
 
@@ -90,16 +90,16 @@ module _ (xs : List ℕ) (p : ℕ) (long : 65536 ≤ length xs) (w : Among 64 p)
     rest = λ i out. written-out xs (placeAt p) bytes (omega arith) i (λ l. omega (arith, out l));
   }
 
-  abbrev seat : ℕ → ℕ → List ℕ
-  seat u l = 1 ∷ (u - 1) ∷ l ∷ replicate 17 0
+  abbrev session : ℕ → ℕ → List ℕ
+  session u l = 1 ∷ (u - 1) ∷ l ∷ replicate 17 0
 
   pub opened-touched : (u l : ℕ) → Touched p xs (opened xs p u l)
   unfolding opened
-  opened-touched u l = whole-touched (seat u l) refl
+  opened-touched u l = whole-touched (session u l) refl
 
-  pub opened-seat : (u l : ℕ) → 1 ≤ u → Seat (opened xs p u l) p (some (sessionOf u l))
+  pub opened-place : (u l : ℕ) → 1 ≤ u → PlaceIs (opened xs p u l) p (some (sessionOf u l))
   unfolding opened
-  opened-seat u l i = record {
+  opened-place u l i = record {
     used = rw add-zero at (byte 0 (omega arith));
     user = rw (byte 1 (omega arith)) (omega arith);
     label = byte 2 (omega arith);
@@ -107,33 +107,33 @@ module _ (xs : List ℕ) (p : ℕ) (long : 65536 ≤ length xs) (w : Among 64 p)
   }
     where
       ys : List ℕ
-      ys = written xs (placeAt p) (seat u l)
+      ys = written xs (placeAt p) (session u l)
 
-      byte : (k : ℕ) → k < 20 → getD ys (placeAt p + k) 0 ≡ getD (seat u l) k 0
-      byte k m = written-in xs (placeAt p) (seat u l) (omega arith) k m
+      byte : (k : ℕ) → k < 20 → getD ys (placeAt p + k) 0 ≡ getD (session u l) k 0
+      byte k m = written-in xs (placeAt p) (session u l) (omega arith) k m
 
       no-role : (k : ℕ) → k < 16 → getD ys (heldAt p + k) 0 ≡ 0
       no-role k m =
           let z : heldAt p + k ≡ placeAt p + (4 + k) = omega arith in
           let n : 4 + k ≡ suc (suc (suc (suc k))) = omega arith in
-          ap (λ (i : ℕ). getD ys i 0) z ∙ byte (4 + k) (omega arith) ∙ ap (λ (i : ℕ). getD (seat u l) i 0) n ∙ getD-replicate 17 (suc k) 0 0 (omega arith)
+          ap (λ (i : ℕ). getD ys i 0) z ∙ byte (4 + k) (omega arith) ∙ ap (λ (i : ℕ). getD (session u l) i 0) n ∙ getD-replicate 17 (suc k) 0 0 (omega arith)
 
   pub closed-touched : Touched p xs (closed xs p)
   unfolding closed
   closed-touched = whole-touched (replicate 20 0) refl
 
-  pub closed-seat : Seat (closed xs p) p none
+  pub closed-place : PlaceIs (closed xs p) p none
   unfolding closed
-  closed-seat = rw add-zero at (written-in xs (placeAt p) (replicate 20 0) (omega arith) 0 (omega arith))
+  closed-place = rw add-zero at (written-in xs (placeAt p) (replicate 20 0) (omega arith) 0 (omega arith))
 
   -- the row of held roles written
   module _ (held : ℕ → Bool) (ys : List ℕ) (same : length ys ≡ length xs) (placed : Placed (heldAt p) held xs ys) where
     row-touched : Touched p xs ys
     row-touched = record { same = same; rest = λ i out. placed .rest i (λ l. omega (arith, out (omega arith))) }
 
-    row-seat : (s : Session) → SessionAt xs p s → (next : ℕ → Bool) → ((r : ℕ) → held r ≡ next r)
+    row-place : (s : Session) → SessionAt xs p s → (next : ℕ → Bool) → ((r : ℕ) → held r ≡ next r)
         → SessionAt ys p (record { user = s .user; label = s .label; held = next })
-    row-seat s a next agree = record {
+    row-place s a next agree = record {
       used = placed .rest (placeAt p) (λ l. absurd (omega arith)) ∙ a .used;
       user = rw (placed .rest (placeAt p + 1) (λ l. absurd (omega arith))) (a .user);
       label = placed .rest (placeAt p + 2) (λ l. absurd (omega arith)) ∙ a .label;
@@ -145,10 +145,10 @@ module _ (xs : List ℕ) (p : ℕ) (long : 65536 ≤ length xs) (w : Among 64 p)
     unfolding taken
     taken-touched = row-touched (added xs (heldAt p) r) (taken xs p r) (length-set xs _ _) (added-placed xs (heldAt p) r (omega arith) v)
 
-    pub taken-seat : (s : Session) → SessionAt xs p s → Seat (taken xs p r) p (some (holding r s))
+    pub taken-place : (s : Session) → SessionAt xs p s → PlaceIs (taken xs p r) p (some (holding r s))
     unfolding taken
-    taken-seat s a =
-        row-seat (added xs (heldAt p) r) (taken xs p r) (length-set xs _ _) (added-placed xs (heldAt p) r (omega arith) v) s a (holding r s .held)
+    taken-place s a =
+        row-place (added xs (heldAt p) r) (taken xs p r) (length-set xs _ _) (added-placed xs (heldAt p) r (omega arith) v) s a (holding r s .held)
         (λ q. rw (among-iff 128 r .1 v, a .held q))
 
     pub dropped-touched : Touched p xs (dropped xs p r)
@@ -157,9 +157,9 @@ module _ (xs : List ℕ) (p : ℕ) (long : 65536 ≤ length xs) (w : Among 64 p)
         row-touched (removed xs (heldAt p) r) (dropped xs p r)
         (length-less xs (heldAt p) r (omega arith) v (member xs (heldAt p) r)) (removed-placed xs (heldAt p) r (omega arith) v)
 
-    pub dropped-seat : (s : Session) → SessionAt xs p s → Seat (dropped xs p r) p (some (without r s))
+    pub dropped-place : (s : Session) → SessionAt xs p s → PlaceIs (dropped xs p r) p (some (without r s))
     unfolding dropped
-    dropped-seat s a =
-        row-seat (removed xs (heldAt p) r) (dropped xs p r)
+    dropped-place s a =
+        row-place (removed xs (heldAt p) r) (dropped xs p r)
         (length-less xs (heldAt p) r (omega arith) v (member xs (heldAt p) r)) (removed-placed xs (heldAt p) r (omega arith) v) s a (without r s .held)
         (λ q. rw (a .held q))

@@ -13,11 +13,11 @@ use Rattle.roleset.specs.Row.{member}
 use Rattle.policy.specs.Tables.{readersAt, writersAt, flowsIn, circleIn}
 use Rattle.monitor.specs.Session.{sound, labelsIn, rolesIn, usersIn, cardsIn, placeAt, heldAt, inUse, userAt, labelAt, cleared, entitled, fitting, gives}
 
--- the number n unless the test holds; then what the tests after it say
+-- the number n unless the test holds; then what the tests after it say. Form has the same of verdicts; this one stays shut, so that a row of tests stays a row
 unfoldable pub unless : Bool → ℕ → ℕ → ℕ
 unless test n rest = cond test rest n
 
--- the new where the number is 0, which is done; "every refusal leaves state, store and any other lent buffer unchanged"
+-- the new where the number is 0, which document 01 calls done; "every refusal leaves state, store and any other lent buffer unchanged"
 unfoldable pub ifDone : {A : Type 0} → ℕ → A → A → A
 ifDone zero new old = new
 ifDone (suc n) new old = old
@@ -26,7 +26,7 @@ ifDone (suc n) new old = old
 abbrev pub written : List ℕ → ℕ → List ℕ → List ℕ
 written xs at bs = take at xs ++ bs ++ drop (at + length bs) xs
 
--- what a call at a place asks first, that a session sits there, and then the rest
+-- what a call at a place asks first, that it has a session, and then the rest
 abbrev pub atSession : List ℕ → ℕ → ℕ → ℕ
 atSession xs p rest =
     unless (sound xs) 21
@@ -156,19 +156,19 @@ pub record Writes (xs old : List ℕ) (p o k : ℕ) (bytes : List ℕ) (n : ℕ)
 -- ---- the flow report: "whether the first flows to the second (never to itself), and gives the lowest role on a circle of two or more roles, or 0"
 
 unfoldable pub flowsNumber : List ℕ → ℕ → ℕ → ℕ
-flowsNumber xs q r =
+flowsNumber xs r q =
     unless (sound xs) 21
-    (unless (among (rolesIn xs) q) 25
     (unless (among (rolesIn xs) r) 25
+    (unless (among (rolesIn xs) q) 25
     0))
 
 unfoldable pub circleNumber : List ℕ → ℕ
 circleNumber xs = unless (sound xs) 21 0
 
 -- the figure is 0 on a refusal
-pub record Flows (xs : List ℕ) (q r n figure : ℕ) : Type 0 where
-  pub number : n ≡ flowsNumber xs q r
-  pub answer : figure ≡ ifDone (flowsNumber xs q r) (cond (flowsIn xs q r) 1 0) 0
+pub record Flows (xs : List ℕ) (r q n figure : ℕ) : Type 0 where
+  pub number : n ≡ flowsNumber xs r q
+  pub answer : figure ≡ ifDone (flowsNumber xs r q) (cond (flowsIn xs r q) 1 0) 0
 
 pub record Circles (xs : List ℕ) (n figure : ℕ) : Type 0 where
   pub number : n ≡ circleNumber xs

@@ -13,7 +13,7 @@ use Rattle.policy.specs.Verdict.{verdict}
 use Rattle.policy.specs.Flow.{flows, flowCircle}
 use Rattle.rolefile.specs.Said.{cards}
 use Rattle.monitor.specs.Runs.{Call, opens, takes, reads, writes}
-use Rattle.monitor.specs.Rules.{Sessions, nobody, rule, next}
+use Rattle.monitor.specs.Rules.{Sessions, noSessions, rule, next}
 
 -- a line's text and byte 10, and then the rest of the file
 unfoldable pub line : String → List ℕ → List ℕ
@@ -59,7 +59,7 @@ findings f a = record {
   rows = map (λ x. row f (x .0)) (a .rows);
   circle = Option·map (λ r. flowCircle f) (a .circle);
   flows = map (λ x. (x .0, x .1, flows f (x .0) (x .1))) (a .flows);
-  calls = numbered f nobody (a .calls);
+  calls = numbered f noSessions (a .calls);
 }
 
 pub record Case : Type 0 where

@@ -12,7 +12,7 @@ use Rattle.rolefile.specs.Said.{labels, roles, users, cards, clearance, assigne
 use Rattle.policy.specs.Policy.{dominates, senior, may, mayAt}
 use Rattle.policy.specs.Accepted.{Passing}
 use Rattle.monitor.specs.Runs.{Call, opens, closes, takes, drops, reads, writes}
-use Rattle.monitor.specs.Rules.{Sessions, nobody, rule, sessions}
+use Rattle.monitor.specs.Rules.{Sessions, noSessions, rule, sessions}
 
 -- ---- what stands since a call
 
@@ -39,42 +39,42 @@ pub record Since (f : List ℕ) (t : Sessions) (p : ℕ) (set : ℕ → Bool) (c
   pub lasts : NoneEnds p set later
 
 -- place p was opened for user u at label l, and not closed since
-abbrev pub Sits : List ℕ → List Call → ℕ → ℕ → ℕ → Type 0
-Sits f cs p u l = Since f nobody p (λ r. false) (opens p u l) cs
+abbrev pub OpenFor : List ℕ → List Call → ℕ → ℕ → ℕ → Type 0
+OpenFor f cs p u l = Since f noSessions p (λ r. false) (opens p u l) cs
 
 -- role r was taken at place p, and neither dropped nor the place closed since
 abbrev pub Holds : List ℕ → List Call → ℕ → ℕ → Type 0
-Holds f cs p r = Since f nobody p (λ q. eqb q r) (takes p r) cs
+Holds f cs p r = Since f noSessions p (λ q. eqb q r) (takes p r) cs
 
 -- ---- when each call is done
 
 pub record MayOpen (f : List ℕ) (cs : List Call) (p u l : ℕ) : Type 0 where
   pub place : Among 64 p
-  pub free : (v m : ℕ) → Sits f cs p v m → ⊥
+  pub free : (v m : ℕ) → OpenFor f cs p v m → ⊥
   pub user : Among (users f) u
   pub label : Among (labels f) l
   pub cleared : dominates f (clearance f u) l ≡ true
 
--- a session sits at the place
-pub record Seated (f : List ℕ) (cs : List Call) (p : ℕ) : Type 0 where
+-- the place has a session
+pub record OpenPlace (f : List ℕ) (cs : List Call) (p : ℕ) : Type 0 where
   pub user : ℕ
   pub label : ℕ
-  pub sits : Sits f cs p user label
+  pub since : OpenFor f cs p user label
 
 pub record MayTake (f : List ℕ) (cs : List Call) (p r : ℕ) : Type 0 where
-  pub session : Seated f cs p
+  pub session : OpenPlace f cs p
   pub role : Among (roles f) r
   pub member : (q : ℕ) × Among (roles f) q × (assigned f (session .user) q ≡ true) × (senior f q r ≡ true)
   pub reads : Passing (labels f) (dominates f) (mayAt f 1 r) (dominates f (session .label))
   pub writes : Passing (labels f) (converse (dominates f)) (mayAt f 2 r) (λ a. dominates f a (session .label))
 
 pub record MayDrop (f : List ℕ) (cs : List Call) (p r : ℕ) : Type 0 where
-  pub session : Seated f cs p
+  pub session : OpenPlace f cs p
   pub role : Among (roles f) r
 
 -- a read (m = 1) or a write (m = 2) of n bytes from offset k on of card o, in a store of `size` bytes
 pub record MayUse (f : List ℕ) (cs : List Call) (m size p o k n : ℕ) : Type 0 where
-  pub session : Seated f cs p
+  pub session : OpenPlace f cs p
   pub card : Among (cards f) o
   pub role : (r : ℕ) × Holds f cs p r × (may f m r o ≡ true)
   pub inCard : k + n ≤ 64
@@ -82,7 +82,7 @@ pub record MayUse (f : List ℕ) (cs : List Call) (m size p o k n : ℕ) : Type 
 
 abbrev pub Granted : List ℕ → ℕ → List Call → Call → Type 0
 Granted f size cs (opens p u l) = MayOpen f cs p u l
-Granted f size cs (closes p) = Seated f cs p
+Granted f size cs (closes p) = OpenPlace f cs p
 Granted f size cs (takes p r) = MayTake f cs p r
 Granted f size cs (drops p r) = MayDrop f cs p r
 Granted f size cs (reads p o k n) = MayUse f cs 1 size p o k n

@@ -1,4 +1,4 @@
--- What sits at each of the places, as the calls so far tell: a session, or its label. Assumes nothing.
+-- What each of the places has, as the calls so far tell: a session, or its label. Assumes nothing.
 use Prim.Native.Nat.{ℕ}
 use mathlib.Core.Bool.{Bool, true, false, cond}
 use mathlib.Core.Option.{Option, none, some}

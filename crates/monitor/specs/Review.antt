@@ -69,6 +69,6 @@ mayOpen xs u l = isUser xs u && (isLabel xs l && cleared xs u l)
 unfoldable pub mayTake : List ℕ → ℕ → ℕ → ℕ → Bool
 mayTake xs u l r = mayOpen xs u l && (entitledTo xs u r && fitting xs l r)
 
--- one of the roles gives the read (m = 1) or the write (m = 2) of the card
+-- one of the roles, of which 128 are looked at whatever the state counts, gives the read (m = 1) or the write (m = 2) of the card
 unfoldable pub giveCard : List ℕ → ℕ → ℕ → (ℕ → Bool) → Bool
 giveCard xs m o held = isCard xs o && (among 2 m && some 128 (λ r. member xs (rowOf (tableOf m) o) r && held r))

@@ -32,12 +32,12 @@ abbrev pub tableOf : ℕ → ℕ
 tableOf m = cond (eqb m 1) readersAt writersAt
 
 -- the user may take role r at the label, and it gives the card by the table at `at`
-unfoldable pub serves : List ℕ → ℕ → ℕ → ℕ → ℕ → ℕ → Bool
-serves xs u l o at r = entitled xs u r && (fitting xs l r && member xs (rowOf at o) r)
+unfoldable pub roleCould : List ℕ → ℕ → ℕ → ℕ → ℕ → ℕ → Bool
+roleCould xs u l o at r = entitled xs u r && (fitting xs l r && member xs (rowOf at o) r)
 
--- a role of the state serves so: the user may take it at the label, and it gives the card
+-- one of the state's roles could
 unfoldable pub could : List ℕ → ℕ → ℕ → ℕ → ℕ → Bool
-could xs u l o at = some (rolesIn xs) (serves xs u l o at)
+could xs u l o at = some (rolesIn xs) (roleCould xs u l o at)
 
 -- the answer of `monitor_can`: its number, and the figure 1 where the user could, else 0; 0 on a refusal
 pub record Cans (xs : List ℕ) (u l o m n figure : ℕ) : Type 0 where

@@ -14,7 +14,7 @@ use Rattle.monitor.specs.Calls.{unless, ifDone}
 use Rattle.monitor.specs.Runs.{Call, opens, closes, takes, drops, reads, writes}
 use Rattle.monitor.specs.Places.{Places, isFree, put}
 
--- ---- who sits where, by the calls so far
+-- ---- the session at each place, by the calls so far
 
 -- the user and the label of its opening, and the roles taken and not dropped since
 pub record Session : Type 0 where
@@ -26,17 +26,17 @@ pub record Session : Type 0 where
 abbrev pub Sessions : Type 0
 Sessions = Places Session
 
-abbrev pub nobody : Sessions
-nobody p = none
+abbrev pub noSessions : Sessions
+noSessions p = none
 
--- 24 where no session sits at the place; else what the rule says of the session
-abbrev pub seated : Option Session → (Session → ℕ) → ℕ
-seated none rule = 24
-seated (some s) rule = rule s
+-- 24 where the place has no session; else what the rule says of the session
+abbrev pub sessionRule : Option Session → (Session → ℕ) → ℕ
+sessionRule none rule = 24
+sessionRule (some s) rule = rule s
 
--- what a call at a place asks first, that a session sits there
-abbrev pub seatedAt : Sessions → ℕ → (Session → ℕ) → ℕ
-seatedAt t p rule = unless (among 64 p) 22 (seated (t p) rule)
+-- what a call at a place asks first, that it has a session
+abbrev pub atSessionByFile : Sessions → ℕ → (Session → ℕ) → ℕ
+atSessionByFile t p rule = unless (among 64 p) 22 (sessionRule (t p) rule)
 
 -- ---- the rules, which `entitled`, `fitting` and `gives` of Session ask by the state's bytes
 
@@ -64,23 +64,23 @@ openRule f t p u l =
     0))))
 
 unfoldable pub closeRule : Sessions → ℕ → ℕ
-closeRule t p = seatedAt t p (λ s. 0)
+closeRule t p = atSessionByFile t p (λ s. 0)
 
 unfoldable pub takeRule : List ℕ → Sessions → ℕ → ℕ → ℕ
 takeRule f t p r =
-    seatedAt t p (λ s.
+    atSessionByFile t p (λ s.
     unless (among (roles f) r) 25
     (unless (entitledByFile f (s .user) r) 27
     (unless (fittingByFile f (s .label) r) 28
     0)))
 
 unfoldable pub dropRule : List ℕ → Sessions → ℕ → ℕ → ℕ
-dropRule f t p r = seatedAt t p (λ s. unless (among (roles f) r) 25 0)
+dropRule f t p r = atSessionByFile t p (λ s. unless (among (roles f) r) 25 0)
 
 -- n bytes from offset k on of card o of a store of `size` bytes, to be read or written
 unfoldable pub partRule : List ℕ → ℕ → Sessions → ℕ → ℕ → ℕ → ℕ → ℕ → ℕ
 partRule f m t size p o k n =
-    seatedAt t p (λ s.
+    atSessionByFile t p (λ s.
     unless (among (cards f) o) 25
     (unless (givesByFile f m s o) 29
     (unless (leb (k + n) 64) 30
@@ -95,7 +95,7 @@ rule f size t (drops p r) = dropRule f t p r
 rule f size t (reads p o k n) = partRule f 1 t size p o k n
 rule f size t (writes p o k bytes) = partRule f 2 t size p o k (length bytes)
 
--- ---- who sits where after a call
+-- ---- the session at each place after a call
 
 abbrev pub sessionOf : ℕ → ℕ → Session
 sessionOf u l = record { user = u; label = l; held = λ r. false }

@@ -2,10 +2,10 @@
 use Prim.Native.Nat.{ℕ, _+_, _*_, _-_}
 use mathlib.Core.List.{List}
 use mathlib.Core.Bool.{Bool, _&&_}
-use lib.Dec.{leb, eqb}
+use lib.Dec.{eqb}
 use lib.ListN.{getD}
-use Rattle.search.specs.Search.{among}
 use Rattle.roleset.specs.Row.{common}
+use Rattle.rolefile.specs.Form.{withinLimits}
 use Rattle.policy.specs.Tables.{word, byteOf, rowOf, marked, isState, passesIn, clearancesAt, rLevelsAt, wLevelsAt, seniorsAt, assignedAt}
 
 -- ---- counts
@@ -22,9 +22,9 @@ usersIn xs = word xs 4
 abbrev pub cardsIn : List ℕ → ℕ
 cardsIn xs = word xs 6
 
--- what 21 tests: 65,536 bytes, and the counts within "labels 1 to 32, roles 0 to 128, users 0 to 256, cards 0 to 512"
+-- what 21 tests: 65,536 bytes, and the counts as in 3
 unfoldable pub sound : List ℕ → Bool
-sound xs = isState xs && (among 32 (labelsIn xs) && (leb (rolesIn xs) 128 && (leb (usersIn xs) 256 && leb (cardsIn xs) 512)))
+sound xs = isState xs && withinLimits (labelsIn xs) (rolesIn xs) (usersIn xs) (cardsIn xs)
 
 -- ---- places, document 01's word for the 64 numbered entries that hold a session each: 20 bytes, 1 where in use, the user less 1, the label, 0, and the row of held roles
 
@@ -60,6 +60,6 @@ fitting xs l r =
     let writes = byteOf xs wLevelsAt r in
     passesIn xs reads l reads && passesIn xs writes writes l
 
--- a role that place p holds gives the read, or the write, of card o
+-- a role that place p holds gives the read, or the write, of card o: `at` is the table of its readers, or of its writers
 unfoldable pub gives : List ℕ → ℕ → ℕ → ℕ → Bool
 gives xs at p o = common xs (heldAt p) (rowOf at o)

@@ -36,9 +36,9 @@ pub fn can_number(s: &[u8], user: u64, label: u64, card: u64, mode: u64) -> u64
 }
 
 // Whether the user may take the role at the label, and the role has the card by the table at `at`.
-fn serves(s: &[u8], user: u64, label: u64, card: u64, at: u64, role: u64) -> bool
+fn role_could(s: &[u8], user: u64, label: u64, card: u64, at: u64, role: u64) -> bool
     requires { ⌜ (65536 ≤ length (now s)) × (at ≤ 20496) × Among 256 user × Among 512 card × Among 128 role ⌝ }
-    ensures { λ r. ⌜ r ≡ rights.serves (now (s .entry)) user label card at role ⌝ }
+    ensures { λ r. ⌜ r ≡ rights.roleCould (now (s .entry)) user label card at role ⌝ }
 {
     if !rules::entitled(s, user, role) {
         return false;
@@ -49,7 +49,7 @@ fn serves(s: &[u8], user: u64, label: u64, card: u64, at: u64, role: u64) -> boo
     rules::in_row(s, at, card, role)
 }
 
-// Whether one of the state's roles serves.
+// Whether one of the state's roles could.
 fn could(s: &[u8], user: u64, label: u64, card: u64, at: u64) -> bool
     requires { ⌜ (65536 ≤ length (now s)) × (rolesIn (now s) ≤ 128) × (at ≤ 20496) × Among 256 user × Among 512 card ⌝ }
     ensures { λ r. ⌜ r ≡ rights.could (now (s .entry)) user label card at ⌝ }
@@ -57,7 +57,7 @@ fn could(s: &[u8], user: u64, label: u64, card: u64, at: u64) -> bool
     let n = tables::word(s, 2);
     let mut i = 0;
     while i < n {
-        if serves(s, user, label, card, at, i + 1) {
+        if role_could(s, user, label, card, at, i + 1) {
             return true;
         }
         i += 1;

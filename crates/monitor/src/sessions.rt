@@ -67,7 +67,7 @@ pub fn open(s: &mut [u8], place: u64, user: u64, label: u64) -> u64
     n
 }
 
-// The number of what a call at a place asks first, that a session sits there. A closing asks no more.
+// The number of what a call at a place asks first, that it has a session. A closing asks no more.
 pub fn session_number(s: &[u8], place: u64) -> u64
     ensures { λ r. ⌜ r ≡ closeNumber (now (s .entry)) place ⌝ }
 {
@@ -158,7 +158,7 @@ fn drop_number(s: &[u8], place: u64, role: u64) -> u64
     0
 }
 
-// Takes a role out of those that the place holds.
+// Leaves the role out of those that the place holds.
 fn remove_role(s: &mut [u8], place: u64, role: u64)
     requires { ⌜ dropNumber (now s) place role ≡ 0 ⌝ }
     ensures { λ _. ⌜ now (s .exit) ≡ dropped (now (s .entry)) place role ⌝ }

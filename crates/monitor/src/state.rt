@@ -1,5 +1,6 @@
 // What the calls read of a state.
 use policy::tables;
+use rolefile::check;
 ghost use mathlib.Core.Path.{_≡_};
 ghost use Prim.Native.Nat.{_+_, _*_, _-_, _≤_, _<_};
 ghost use Rattle.search.specs.Search.{among, Among};
@@ -20,16 +21,11 @@ pub fn sound(s: &[u8]) -> bool
     if s.len() < 65536 {
         return false;
     }
-    if !search::among(32, tables::word(s, 0)) {
-        return false;
-    }
-    if 128 < tables::word(s, 2) {
-        return false;
-    }
-    if 256 < tables::word(s, 4) {
-        return false;
-    }
-    tables::word(s, 6) <= 512
+    let labels = tables::word(s, 0);
+    let roles = tables::word(s, 2);
+    let users = tables::word(s, 4);
+    let cards = tables::word(s, 6);
+    check::counts_fit(labels, roles, users, cards)
 }
 
 // Thing x's byte in the table of bytes at `at`.
@@ -40,7 +36,7 @@ pub fn byte_of(s: &[u8], at: u64, x: u64) -> u64
     tables::byte(s, at + (x - 1)) as u64
 }
 
-// Whether a session sits at the place.
+// Whether the place has a session.
 pub fn in_use(s: &[u8], place: u64) -> bool
     requires { ⌜ Among 64 place ⌝ }
     ensures { λ r. ⌜ r ≡ session.inUse (now (s .entry)) place ⌝ }

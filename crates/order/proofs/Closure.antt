@@ -11,8 +11,8 @@ use borrow.Author.Tests.{eq-eqb, eqb-true}
 use Rattle.search.specs.Search.{Among, Lowest}
 use Rattle.search.proofs.Truth.{or-iff, and-iff, untrue, both}
 use Rattle.search.proofs.Found.{last-or, first-none, first-lowest, first-agree}
-use Rattle.order.specs.Table.{Rows, round}
-use Rattle.order.specs.Closure.{Relation, via, path, closure, circle, Reach, here, step, OnCircle, PartialOrder, Irreflexive}
+use Rattle.order.specs.Table.{Rows}
+use Rattle.order.specs.Closure.{Relation, via, path, closure, circle, Reach, here, step, OnCircle, PartialOrder, Irreflexive, round}
 
 -- a path past one thing more: one that was there, or two that meet in it
 module _ (e : Relation) (k a b : ℕ) where

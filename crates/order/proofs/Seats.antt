@@ -13,8 +13,8 @@ use Rattle.search.specs.Search.{Among}
 use Rattle.search.proofs.Truth.{among-iff, same}
 use Rattle.roleset.specs.Row.{whole, member, added, unitedWhere, Placed, PlacedRows}
 use Rattle.roleset.proofs.Rows.{other-row, whole-true, rows-left}
-use Rattle.order.specs.Closure.{Relation, via}
-use Rattle.order.specs.Table.{related, round, reflexive, Tabled}
+use Rattle.order.specs.Closure.{Relation, via, round, reflexive}
+use Rattle.order.specs.Table.{related, Tabled}
 use Rattle.order.proofs.Closure.{RowSet, rows-none, rows-more, rounds-none, rounds-more}
 use Rattle.order.proofs.Stored.{place}
 

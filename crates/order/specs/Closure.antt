@@ -13,16 +13,24 @@ use Rattle.search.specs.Search.{Among, first}
 abbrev pub Relation : Type 0
 Relation = ℕ → ℕ → Bool
 
+-- one step, or two by way of k
+abbrev pub round : Relation → ℕ → Relation
+round e k a b = e a b || (e a k && e k b)
+
+-- each thing with itself
+abbrev pub reflexive : Relation → Relation
+reflexive e a b = eqb a b || e a b
+
 -- a path whose inner things are among 1 to k; one thing more may be passed once
 unfoldable pub via : Relation → ℕ → Relation
-via e zero a b = e a b
-via e (suc k) a b = via e k a b || (via e k a (suc k) && via e k (suc k) b)
+via e zero = e
+via e (suc k) = round (via e k) (suc k)
 
 abbrev pub path : ℕ → Relation → Relation
 path n e = via e n
 
 abbrev pub closure : ℕ → Relation → Relation
-closure n e a b = eqb a b || path n e a b
+closure n e = reflexive (path n e)
 
 -- the lowest thing that e relates to itself, or 0
 abbrev pub loop : ℕ → Relation → ℕ

@@ -6,9 +6,8 @@
 -- Assumes nothing.
 use Prim.Native.Nat.{ℕ, _+_, _*_, _-_, _≤_, _<_}
 use mathlib.Core.Path.{_≡_}
-use mathlib.Core.Bool.{Bool, false, _&&_, _||_}
+use mathlib.Core.Bool.{Bool, false}
 use mathlib.Core.List.{List, []}
-use lib.Dec.{eqb}
 use lib.ListN.{length, getD}
 use Rattle.search.specs.Search.{Among}
 use Rattle.roleset.specs.Row.{member}
@@ -23,14 +22,6 @@ mark t a b = marks (getD t (a - 1) []) b
 pub record Rows (size n : ℕ) (h e f : Relation) : Type 0 where
   pub done : (a b : ℕ) → Among n a → Among size b → f a b ≡ h a b
   pub left : (a b : ℕ) → n < a → a ≤ size → Among size b → f a b ≡ e a b
-
--- one round of closing: the paths past k too
-abbrev pub round : Relation → ℕ → Relation
-round e k a b = e a b || (e a k && e k b)
-
--- each thing with itself
-abbrev pub reflexive : Relation → Relation
-reflexive e a b = eqb a b || e a b
 
 -- ---- the same for up to 128 things, each row a set of roles: the row of thing a starts 16 × (a - 1) bytes after `at`
 

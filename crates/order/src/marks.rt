@@ -5,8 +5,8 @@ ghost use Prim.Native.Nat.{ℕ, _+_, _≤_, _<_, min};
 ghost use lib.Dec.{eqb};
 ghost use lib.ListN.{length};
 ghost use Rattle.search.specs.Search.{Among};
-ghost use Rattle.order.specs.Closure.{path, loop};
-ghost use Rattle.order.specs.Table.{marks, mark, Rows, round, reflexive};
+ghost use Rattle.order.specs.Closure.{path, loop, round, reflexive};
+ghost use Rattle.order.specs.Table.{marks, mark, Rows};
 
 // The lesser of the two.
 pub fn lesser(n: usize, most: usize) -> usize

@@ -7,8 +7,8 @@ ghost use mathlib.Core.Bool.{cond};
 ghost use Prim.Native.Nat.{_+_, _*_, _≤_, _<_, min};
 ghost use lib.Dec.{leb};
 ghost use lib.ListN.{length};
-ghost use Rattle.order.specs.Closure.{path, loop};
-ghost use Rattle.order.specs.Table.{related, round, reflexive, Tabled};
+ghost use Rattle.order.specs.Closure.{path, loop, round, reflexive};
+ghost use Rattle.order.specs.Table.{related, Tabled};
 
 // One round of closing: in the first n rows, the paths past role k + 1 too.
 fn pass(s: &mut [u8], at: usize, k: usize, n: usize)

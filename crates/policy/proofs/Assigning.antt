@@ -21,8 +21,7 @@ use Rattle.rolefile.specs.WellFormed.{GoodCounts}
 use Rattle.rolefile.proofs.Verdicts.{Clean, unless-clean}
 use Rattle.rolefile.proofs.Sections.{part, Section, told}
 use Rattle.rolefile.proofs.Within.{scan-within}
-use Rattle.policy.specs.declared.Level.{Level}
-use Rattle.policy.specs.declared.Level.the-variants.{Free, Label, Undefined}
+use Rattle.policy.specs.Policy.{Level, Free, Label, Undefined}
 use Rattle.policy.specs.Policy.{dominates, mayAt, level, rLevel, wLevel, passes, isDefined, levelNumber}
 use Rattle.policy.specs.Tables.{dominanceAt, clearancesAt, rLevelsAt, wLevelsAt, byteOf, marked, assignByTables}
 use Rattle.policy.specs.Image.{Labelled, Dominating, Levelled}

@@ -18,20 +18,17 @@ use Rattle.rolefile.specs.Line.{A, lineAt}
 use Rattle.rolefile.specs.Form.{fine, refusal, found}
 use Rattle.rolefile.specs.Said.{labels, clearance}
 use Rattle.rolefile.proofs.Verdicts.{Clean, unless-clean}
-use Rattle.rolefile.proofs.Decides.{Decides, Else, Fails, LowestOf, decides-as}
+use Rattle.rolefile.proofs.Decides.{Decides, Else, Fails, decides-as}
 use Rattle.rolefile.proofs.Decides.{cond-decides, fine-decides, test-decides, unless-decides, found-decides, search-decides}
 use Rattle.policy.specs.Policy.{dominates, mayAt, rLevel, wLevel, passes, isDefined}
 use Rattle.policy.specs.Verdict.{assignVerdict, assignmentVerdict}
-use Rattle.policy.specs.Accepted.{ReadsUnder, WritesOver, NoWriteLevel, Assigned, GoodOrder, AssignRefused, noLevel, readsMore, writesLess}
+use Rattle.policy.specs.Accepted.{ReadsUnder, WritesOver, NoWriteLevel, WithinLevels, GoodOrder, GoodAssignment, LowestOnCircle, AssignRefused, noLevel, readsMore, writesLess}
 use Rattle.policy.proofs.Levels.{converse-order, defined-iff, without-bound, passing-bounded, passes-iff}
 
 -- ---- 11 and 13
 
-abbrev pub OnCircleFirst : ℕ → Relation → ℕ → Type 0
-OnCircleFirst n e = LowestOf (OnCircle n e) (λ a. OnCircle n e a → ⊥) n
-
 abbrev pub CircleRefusal : ℕ → Relation → ℕ → Verdict → Type 0
-CircleRefusal n e number v = (a : ℕ) × OnCircleFirst n e a × (v ≡ refusal number a 0)
+CircleRefusal n e number v = (a : ℕ) × LowestOnCircle n e a × (v ≡ refusal number a 0)
 
 pub circle-decides : (n : ℕ) (e : Relation) (number : ℕ)
     → Decides (found (circle n e) (refusal (suc number) (circle n e) 0)) (GoodOrder n e (closure n e)) (CircleRefusal n e (suc number))
@@ -100,11 +97,8 @@ AssignRefusal f u r v = (n : ℕ) × AssignRefused f u r n × (v ≡ refusal n u
 abbrev pub AssignmentRefusal : List ℕ → ℕ → Verdict → Type 0
 AssignmentRefusal f i v = (lineAt f i .letter ≡ A) × AssignRefusal f (lineAt f i .a) (lineAt f i .b) v
 
-abbrev pub GoodAssignment : List ℕ → ℕ → Type 0
-GoodAssignment f i = lineAt f i .letter ≡ A → Assigned f (lineAt f i .a) (lineAt f i .b)
-
 module _ (f : List ℕ) (o : PartialOrder (labels f) (dominates f)) where
-  assign-decides : (u r : ℕ) → Decides (assignVerdict f u r) (Assigned f u r) (AssignRefusal f u r)
+  assign-decides : (u r : ℕ) → Decides (assignVerdict f u r) (WithinLevels f u r) (AssignRefusal f u r)
   unfolding assignVerdict rLevel wLevel
   assign-decides u r =
       decides-as

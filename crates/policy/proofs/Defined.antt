@@ -9,8 +9,7 @@ use Rattle.search.specs.Search.{Among}
 use Rattle.order.specs.Bound.{converse, Lower, IsGlb}
 use Rattle.order.proofs.Lattice.{lub-of-set, glb-iff-lower}
 use Rattle.rolefile.specs.Said.{labels}
-use Rattle.policy.specs.declared.Level.{Level}
-use Rattle.policy.specs.declared.Level.the-variants.{Free, Label, Undefined}
+use Rattle.policy.specs.Policy.{Level, Free, Label, Undefined}
 use Rattle.policy.specs.Policy.{dominates, mayAt, level, rLevel, wLevel, isDefined}
 use Rattle.policy.specs.Accepted.{Some, Ordered}
 use Rattle.policy.proofs.Levels.{Tells, level-tells, defined-iff}

@@ -10,9 +10,9 @@ use borrow.Author.Tests.{eqb-true, le-leb, lt-leb, lt-ltb}
 use Rattle.search.specs.Search.{Among}
 use Rattle.search.proofs.Truth.{and-iff, untrue}
 use Rattle.search.proofs.Found.{some-iff, first-agree}
-use Rattle.order.specs.Closure.{Relation, path, loop, circle}
+use Rattle.order.specs.Closure.{Relation, path, loop, circle, reflexive}
 use Rattle.order.specs.Bound.{partnerWithoutBound, lowestWithoutBound, FirstWithoutBound}
-use Rattle.order.specs.Table.{mark, Rows, reflexive}
+use Rattle.order.specs.Table.{mark, Rows}
 use Rattle.order.proofs.Closure.{via-agree}
 use Rattle.order.proofs.Bound.{first-without-agree}
 use Rattle.rolefile.specs.Line.{D, fields}

@@ -10,7 +10,7 @@ use Rattle.rolefile.specs.Line.{A, fields}
 use Rattle.rolefile.specs.Said.{assigned}
 use Rattle.policy.specs.declared.build.Parts.{Parts}
 use Rattle.policy.specs.Tables.{word, rowOf, assignedAt, Kept, pairs, Related}
-use Rattle.policy.specs.Stages.{Ready, Zeros, Counts, Finishing}
+use Rattle.policy.specs.Stages.{Ready, Zeros, Counting, Finishing}
 use Rattle.policy.proofs.Readying.{good-of, section-a}
 use Rattle.policy.proofs.Ranks.{empty-row, pairs-say}
 
@@ -20,21 +20,23 @@ word-stays a b at xs ys kept out = rw (kept at (λ l. out (omega arith)), kept (
 
 module _ (h : Line) (v w x y z : List ℕ) (first : (word w 0 ≡ h .a) × Kept 0 2 v w) (second : (word x 2 ≡ h .b) × Kept 2 4 w x)
     (third : (word y 4 ≡ h .c) × Kept 4 6 x y) (fourth : (word z 6 ≡ h .d) × Kept 6 8 y z) where
-  pub four-words : Counts h v z
+  pub four-words : Counting h v z
   four-words = record {
-    labels =
-        word-stays 6 8 0 y z (fourth .1) (λ l. omega arith) ∙ word-stays 4 6 0 x y (third .1) (λ l. omega arith)
-        ∙ word-stays 2 4 0 w x (second .1) (λ l. omega arith) ∙ first .0;
-    roles = word-stays 6 8 2 y z (fourth .1) (λ l. omega arith) ∙ word-stays 4 6 2 x y (third .1) (λ l. omega arith) ∙ second .0;
-    users = word-stays 6 8 4 y z (fourth .1) (λ l. omega arith) ∙ third .0;
-    cards = fourth .0;
+    counts = record {
+      labels =
+          word-stays 6 8 0 y z (fourth .1) (λ l. omega arith) ∙ word-stays 4 6 0 x y (third .1) (λ l. omega arith)
+          ∙ word-stays 2 4 0 w x (second .1) (λ l. omega arith) ∙ first .0;
+      roles = word-stays 6 8 2 y z (fourth .1) (λ l. omega arith) ∙ word-stays 4 6 2 x y (third .1) (λ l. omega arith) ∙ second .0;
+      users = word-stays 6 8 4 y z (fourth .1) (λ l. omega arith) ∙ third .0;
+      cards = fourth .0;
+    };
     rest = λ i out.
         let far = out (omega arith) in
         fourth .1 i (λ l. far) ∙ third .1 i (λ l. omega arith) ∙ second .1 i (λ l. omega arith) ∙ first .1 i (λ l. omega arith);
   }
 
 module _ (f : List ℕ) (q : Parts) (h : Line) (ready : Ready f q h) (xs ys zs p : List ℕ) (zeros : Zeros 4112 8208 xs)
-    (its : p ≡ drop (22 * q .a .start) f) (filled : Related 4112 256 (pairs p (q .a .count)) xs ys) (counted : Counts h ys zs) where
+    (its : p ≡ drop (22 * q .a .start) f) (filled : Related 4112 256 (pairs p (q .a .count)) xs ys) (counted : Counting h ys zs) where
   two-fields : fields A ≡ 2
   unfolding fields
   two-fields = refl
@@ -48,11 +50,6 @@ module _ (f : List ℕ) (q : Parts) (h : Line) (ready : Ready f q h) (xs ys zs p
         same-bytes ys zs (rowOf assignedAt u) (rowOf assignedAt u) (λ k l. counted .rest (rowOf assignedAt u + k) (λ m. omega arith)) r
         ∙ filled .rows u r v w
         ∙ rw (empty-row 4112 8208 (rowOf assignedAt u) xs zeros (omega arith) (omega arith) r) (said u r);
-    counted = record {
-      labels = counted .labels ∙ ap (λ (l : Line). l .a) (ready .head);
-      roles = counted .roles ∙ ap (λ (l : Line). l .b) (ready .head);
-      users = counted .users ∙ ap (λ (l : Line). l .c) (ready .head);
-      cards = counted .cards ∙ ap (λ (l : Line). l .d) (ready .head);
-    };
+    counted = rw (ready .head) at (counted .counts);
     rest = λ i l out. counted .rest i (λ m. l) ∙ filled .rest i (λ m. let far = out m in omega arith);
   }

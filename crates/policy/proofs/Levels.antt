@@ -11,10 +11,9 @@ use Rattle.search.proofs.Found.{some-iff}
 use Rattle.order.specs.Closure.{Relation, PartialOrder}
 use Rattle.order.specs.Bound.{lub, converse, IsLub}
 use Rattle.order.proofs.Bound.{lub-none, lub-is, lub-iff}
-use Rattle.policy.specs.declared.Level.{Level}
-use Rattle.policy.specs.declared.Level.the-variants.{Free, Label, Undefined}
+use Rattle.policy.specs.Policy.{Level, Free, Label, Undefined}
 use Rattle.policy.specs.Policy.{levelAt, level, passes, isDefined}
-use Rattle.policy.specs.Accepted.{Some, WithoutBound, Passing}
+use Rattle.policy.specs.Accepted.{Some, UndefinedLevel, Passing}
 
 pub converse-order : {n : ℕ} {ge : Relation} → PartialOrder n ge → PartialOrder n (converse ge)
 converse-order o = record {
@@ -28,7 +27,7 @@ module _ (n : ℕ) (ge : Relation) (s : ℕ → Bool) where
   abbrev pub Tells : Level → Type 0
   Tells Free = Some n s → ⊥
   Tells (Label c) = Some n s × IsLub n ge s c
-  Tells Undefined = WithoutBound n ge s
+  Tells Undefined = UndefinedLevel n ge s
 
   pub level-tells : Tells (level n ge s)
   unfolding level
@@ -43,19 +42,19 @@ module _ (n : ℕ) (ge : Relation) (s : ℕ → Bool) where
   unfolding level
   level-free = (λ e. rw e at level-tells, λ none. rw (untrue (some n s) (λ e. none (some-iff s n .0 e))))
 
-  pub level-undefined : (level n ge s ≡ Undefined) ↔ WithoutBound n ge s
+  pub level-undefined : (level n ge s ≡ Undefined) ↔ UndefinedLevel n ge s
   unfolding level
   level-undefined = (λ e. rw e at level-tells, λ (h, none). rw (some-iff s n .1 h, lub-none n ge s .1 none))
 
-  pub undefined-iff : (isDefined (level n ge s) ≡ false) ↔ WithoutBound n ge s
+  pub undefined-iff : (isDefined (level n ge s) ≡ false) ↔ UndefinedLevel n ge s
   undefined-iff = (go (level n ge s) level-tells, λ b. rw (level-undefined .1 b))
     where
-      go : (l : Level) → Tells l → isDefined l ≡ false → WithoutBound n ge s
+      go : (l : Level) → Tells l → isDefined l ≡ false → UndefinedLevel n ge s
       go Free t e = absurd (true≢false e)
       go (Label c) t e = absurd (true≢false e)
       go Undefined t e = t
 
-  pub defined-iff : (isDefined (level n ge s) ≡ true) ↔ (WithoutBound n ge s → ⊥)
+  pub defined-iff : (isDefined (level n ge s) ≡ true) ↔ (UndefinedLevel n ge s → ⊥)
   defined-iff = (λ e b. both e (undefined-iff .1 b), λ h. go (isDefined (level n ge s)) (λ e. h (undefined-iff .0 e)))
     where
       go : (b : Bool) → (b ≡ false → ⊥) → b ≡ true
@@ -63,10 +62,10 @@ module _ (n : ℕ) (ge : Relation) (s : ℕ → Bool) where
       go false h = absurd (h refl)
 
   -- it can be told whether a set is boundless
-  pub without-bound : ((WithoutBound n ge s → ⊥) → ⊥) → WithoutBound n ge s
+  pub without-bound : ((UndefinedLevel n ge s → ⊥) → ⊥) → UndefinedLevel n ge s
   without-bound h = undefined-iff .0 (untrue (isDefined (level n ge s)) (λ e. h (defined-iff .0 e)))
 
-  pub passing-bounded : (p : ℕ → Bool) → Passing n ge s p → WithoutBound n ge s → ⊥
+  pub passing-bounded : (p : ℕ → Bool) → Passing n ge s p → UndefinedLevel n ge s → ⊥
   passing-bounded p h (some, none) = ⊎-elim (λ empty. empty some) (λ (c, i, b, e). none c b) h
 
   module _ (o : PartialOrder n ge) where

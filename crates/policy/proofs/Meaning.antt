@@ -79,13 +79,13 @@ module _ (f : List ℕ) where
         let low = circle-lowest (flows f) (roles f) a l .0 e in
         record {
           inside = low .inside;
-          circle = circle-finds (flows f) (roles f) a (low .inside) .0 (low .holds);
+          holds = circle-finds (flows f) (roles f) a (low .inside) .0 (low .holds);
           lower = λ b w k on. both (circle-finds (flows f) (roles f) b w .1 on) (low .lower b w k);
         },
     λ low.
         circle-lowest (flows f) (roles f) a l .1 (record {
           inside = low .inside;
-          holds = circle-finds (flows f) (roles f) a (low .inside) .1 (low .circle);
+          holds = circle-finds (flows f) (roles f) a (low .inside) .1 (low .holds);
           lower = λ b w k. untrue (path (roles f) (flows f) b b) (λ e. low .lower b w k (circle-finds (flows f) (roles f) b w .0 e));
         }),
   )

@@ -4,22 +4,22 @@ use mathlib.Core.Path.{_≡_, refl, sym}
 use mathlib.Core.Logic.{_↔_, _⊎_, inl, inr, ⊎-elim}
 use mathlib.Core.List.{List}
 use native.Mathlib.Omega.{arith}
-use Rattle.order.specs.Closure.{Relation, circle}
+use Rattle.order.specs.Closure.{circle}
 use Rattle.order.specs.Bound.{lowestWithoutBound, partnerWithoutBound, AllJoined}
 use Rattle.rolefile.specs.declared.Verdict.{Verdict}
-use Rattle.rolefile.specs.Line.{U, O, lines}
+use Rattle.rolefile.specs.Line.{lines}
 use Rattle.rolefile.specs.Form.{fine, refusal, _then_, scan, found}
-use Rattle.rolefile.specs.Said.{labels, roles, users, cards, over, above}
+use Rattle.rolefile.specs.Said.{labels, roles, over, above}
 use Rattle.rolefile.specs.WellFormed.{WellFormed}
 use Rattle.rolefile.proofs.Verdicts.{then-joined}
 use Rattle.rolefile.proofs.Decides.{Decides, Else, Earliest, decides-zero, decides-fine, decides-when, then-decides, scan-decides}
-use Rattle.rolefile.proofs.Formed.{LineRefusal, LowestWithout, FormRefusal, form-decides}
+use Rattle.rolefile.proofs.Formed.{LineRefusal, FormRefusal, form-decides}
 use Rattle.policy.specs.Policy.{dominates, senior}
 use Rattle.policy.specs.Verdict.{orderVerdict, labelVerdict, roleVerdict, assignmentVerdict, policyVerdict, verdict}
-use Rattle.policy.specs.Accepted.{GoodOrder, LabelOrder, Accepted, LineRefused, LowestUnlabelled, LowestOnCircle, AssignRefused, Outcome}
+use Rattle.policy.specs.Accepted.{GoodOrder, LabelOrder, GoodAssignment, Accepted, LineRefused, AssignRefused, Outcome}
 use Rattle.policy.specs.Accepted.{noHeader, badCounts, malformed, badNumbers, unordered, noLevel, readsMore, writesLess}
 use Rattle.policy.specs.Accepted.{accepted, badSize, badLine, badUser, badCard, labelCircle, noBound, roleCircle, badAssignment}
-use Rattle.policy.proofs.Checks.{OnCircleFirst, CircleRefusal, PairRefusal, GoodAssignment, AssignmentRefusal}
+use Rattle.policy.proofs.Checks.{CircleRefusal, PairRefusal, AssignmentRefusal}
 use Rattle.policy.proofs.Checks.{circle-decides, pair-decides, assignment-decides}
 
 -- ---- why a line is refused
@@ -67,22 +67,16 @@ verdict-decides f =
       λ a. let o = a .ordered in (o .form, (o .dominance, (o .joins, (a .seniority, a .assignments)))),
     ))
 
-on-circle : (n : ℕ) (e : Relation) (a : ℕ) → OnCircleFirst n e a ↔ LowestOnCircle n e a
-on-circle n e a = (λ (w, c, low). record { inside = w; circle = c; lower = low }, λ l. (l .inside, l .circle, l .lower))
-
-unlabelled : (f : List ℕ) (k n x : ℕ) → LowestWithout f k n x ↔ LowestUnlabelled f k n x
-unlabelled f k n x = (λ (w, h, low). record { inside = w; bad = h; lower = low }, λ l. (l .inside, l .bad, l .lower))
-
 module _ (f : List ℕ) where
   meant : (v : Verdict) → Refusal f v → Outcome f v
   meant v (inl (inl (h, e))) = rw e (badSize h)
   meant v (inl (inr (s, inl (k, w, low, r)))) = let (n, l, e) = line-refused f k v r in rw e (badLine s w low l)
-  meant v (inl (inr (s, inr (g, inl (u, l, e))))) = rw e (badUser s g (unlabelled f U (users f) u .0 l))
-  meant v (inl (inr (s, inr (g, inr (us, (o, l, e)))))) = rw e (badCard s g us (unlabelled f O (cards f) o .0 l))
-  meant v (inr (w, inl (a, l, e))) = rw e (labelCircle w (on-circle (labels f) (over f) a .0 l))
+  meant v (inl (inr (s, inr (g, inl (u, l, e))))) = rw e (badUser s g l)
+  meant v (inl (inr (s, inr (g, inr (us, (o, l, e)))))) = rw e (badCard s g us l)
+  meant v (inr (w, inl (a, l, e))) = rw e (labelCircle w l)
   meant v (inr (w, inr (d, inl (a, b, p, e)))) = rw e (noBound w d p)
   meant v (inr (w, inr (d, inr (j, inl (r, l, e))))) =
-      rw e (roleCircle (record { form = w; dominance = d; joins = j }) (on-circle (roles f) (above f) r .0 l))
+      rw e (roleCircle (record { form = w; dominance = d; joins = j }) l)
   meant v (inr (w, inr (d, inr (j, inr (s, (i, inside, low, (l, (n, r, e)))))))) =
       rw e (badAssignment (record { form = w; dominance = d; joins = j }) s inside l low r)
 
@@ -99,12 +93,12 @@ module _ (f : List ℕ) where
       only (accepted a) = sym (verdict-decides f .good a)
       only (badSize h) = refused (inl (inl (h, refl)))
       only (badLine {n} {k} s w low l) = refused (inl (inr (s, inl (k, w, low, line-refusal f k l))))
-      only (badUser {u} s g l) = refused (inl (inr (s, inr (g, inl (u, unlabelled f U (users f) u .1 l, refl)))))
-      only (badCard {o} s g us l) = refused (inl (inr (s, inr (g, inr (us, (o, unlabelled f O (cards f) o .1 l, refl))))))
-      only (labelCircle {a} w l) = refused (inr (w, inl (a, on-circle (labels f) (over f) a .1 l, refl)))
+      only (badUser {u} s g l) = refused (inl (inr (s, inr (g, inl (u, l, refl)))))
+      only (badCard {o} s g us l) = refused (inl (inr (s, inr (g, inr (us, (o, l, refl))))))
+      only (labelCircle {a} w l) = refused (inr (w, inl (a, l, refl)))
       only (noBound {a} {b} w d p) = refused (inr (w, inr (d, inl (a, b, p, refl))))
       only (roleCircle {r} o l) =
-          refused (inr (o .form, inr (o .dominance, inr (o .joins, inl (r, on-circle (roles f) (above f) r .1 l, refl)))))
+          refused (inr (o .form, inr (o .dominance, inr (o .joins, inl (r, l, refl)))))
       only (badAssignment {n} {i} o s w l low r) =
           refused (inr (o .form, inr (o .dominance, inr (o .joins, inr (s, (i, w, low, (l, (n, r, refl))))))))
 

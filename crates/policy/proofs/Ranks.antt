@@ -13,8 +13,8 @@ use Rattle.search.proofs.Truth.{and-iff, untrue, same}
 use Rattle.search.proofs.Found.{some-iff, first-agree}
 use Rattle.roleset.specs.Row.{member}
 use Rattle.roleset.proofs.Rows.{member-of, no-bits}
-use Rattle.order.specs.Closure.{path, loop, circle}
-use Rattle.order.specs.Table.{related, reflexive, Tabled}
+use Rattle.order.specs.Closure.{path, loop, circle, reflexive}
+use Rattle.order.specs.Table.{related, Tabled}
 use Rattle.order.proofs.Closure.{via-agree, via-converse}
 use Rattle.rolefile.specs.declared.Line.{Line}
 use Rattle.rolefile.specs.declared.Verdict.{Verdict}

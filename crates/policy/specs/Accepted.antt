@@ -5,14 +5,14 @@ use mathlib.Core.Path.{_≡_}
 use mathlib.Core.Logic.{_⊎_}
 use mathlib.Core.List.{List}
 use mathlib.Core.Bool.{Bool, true}
-use Rattle.search.specs.Search.{Among}
+use Rattle.search.specs.Search.{Among, LowestOf}
 use Rattle.order.specs.Closure.{Relation, OnCircle, PartialOrder, Irreflexive}
 use Rattle.order.specs.Bound.{converse, IsLub, AllJoined, FirstPair}
 use Rattle.rolefile.specs.declared.Verdict.{Verdict}
 use Rattle.rolefile.specs.Line.{H, U, O, A, lineAt, lines}
 use Rattle.rolefile.specs.Form.{header, fine, refusal}
 use Rattle.rolefile.specs.Said.{labels, roles, users, cards, over, above, clearance}
-use Rattle.rolefile.specs.WellFormed.{Sized, GoodCounts, GoodNumbers, Rises, GoodLine, One, WellFormed}
+use Rattle.rolefile.specs.WellFormed.{Sized, GoodCounts, GoodNumbers, Rises, GoodLine, GoodLines, One, OneEach, WellFormed}
 use Rattle.policy.specs.Policy.{dominates, senior, mayAt}
 
 -- ---- levels, 003 Definitions 6 and 7
@@ -22,8 +22,8 @@ abbrev pub Some : ℕ → (ℕ → Bool) → Type 0
 Some n s = (l : ℕ) × Among n l × (s l ≡ true)
 
 -- s is not empty and has no least upper bound: an undefined level
-abbrev pub WithoutBound : ℕ → Relation → (ℕ → Bool) → Type 0
-WithoutBound n ge s = Some n s × ((c : ℕ) → IsLub n ge s c → ⊥)
+abbrev pub UndefinedLevel : ℕ → Relation → (ℕ → Bool) → Type 0
+UndefinedLevel n ge s = Some n s × ((c : ℕ) → IsLub n ge s c → ⊥)
 
 -- s is empty, a free level, or its least upper bound has p
 abbrev pub Passing : ℕ → Relation → (ℕ → Bool) → (ℕ → Bool) → Type 0
@@ -39,10 +39,10 @@ WritesOver f u r = Passing (labels f) (converse (dominates f)) (mayAt f 2 r) (λ
 
 -- 14: an undefined w-level: there are writes and no greatest lower bound
 abbrev pub NoWriteLevel : List ℕ → ℕ → Type 0
-NoWriteLevel f r = WithoutBound (labels f) (converse (dominates f)) (mayAt f 2 r)
+NoWriteLevel f r = UndefinedLevel (labels f) (converse (dominates f)) (mayAt f 2 r)
 
 -- 003, Theorem 3, for an A line
-pub record Assigned (f : List ℕ) (u r : ℕ) : Type 0 where
+pub record WithinLevels (f : List ℕ) (u r : ℕ) : Type 0 where
   pub reads : ReadsUnder f u r
   pub writes : WritesOver f u r
 
@@ -56,9 +56,9 @@ pub record GoodOrder (n : ℕ) (e ge : Relation) : Type 0 where
 abbrev pub LabelOrder : List ℕ → Type 0
 LabelOrder f = GoodOrder (labels f) (over f) (dominates f)
 
--- each A line up to line k is as Theorem 3 asks
-abbrev pub AssignedTo : List ℕ → ℕ → Type 0
-AssignedTo f k = (i : ℕ) → Among k i → lineAt f i .letter ≡ A → Assigned f (lineAt f i .a) (lineAt f i .b)
+-- line i, where it is an A line, is as Theorem 3 asks
+abbrev pub GoodAssignment : List ℕ → ℕ → Type 0
+GoodAssignment f i = lineAt f i .letter ≡ A → WithinLevels f (lineAt f i .a) (lineAt f i .b)
 
 -- what holds when seniority is looked at
 pub record Ordered (f : List ℕ) : Type 0 where
@@ -69,7 +69,7 @@ pub record Ordered (f : List ℕ) : Type 0 where
 pub record Accepted (f : List ℕ) : Type 0 where
   pub ordered : Ordered f
   pub seniority : GoodOrder (roles f) (above f) (senior f)
-  pub assignments : AssignedTo f (lines f)
+  pub assignments : (i : ℕ) → Among (lines f) i → GoodAssignment f i
 
 -- ---- the outcomes
 
@@ -83,16 +83,12 @@ pub data LineRefused (f : List ℕ) (k : ℕ) : ℕ → Type 0 where
       → (Rises (lineAt f (k - 1)) (lineAt f k) → ⊥) → LineRefused f k 5
 
 -- the lowest thing of n that has not one line of the letter k
-pub record LowestUnlabelled (f : List ℕ) (k n x : ℕ) : Type 0 where
-  pub inside : Among n x
-  pub bad : One f k x → ⊥
-  pub lower : (y : ℕ) → Among n y → y < x → One f k y
+abbrev pub LowestUnlabelled : List ℕ → ℕ → ℕ → ℕ → Type 0
+LowestUnlabelled f k n = LowestOf n (λ x. One f k x → ⊥) (One f k)
 
 -- the lowest thing on a circle
-pub record LowestOnCircle (n : ℕ) (e : Relation) (a : ℕ) : Type 0 where
-  pub inside : Among n a
-  pub circle : OnCircle n e a
-  pub lower : (b : ℕ) → Among n b → b < a → OnCircle n e b → ⊥
+abbrev pub LowestOnCircle : ℕ → Relation → ℕ → Type 0
+LowestOnCircle n e = LowestOf n (OnCircle n e) (λ a. OnCircle n e a → ⊥)
 
 -- why the assignment of u to r is refused
 pub data AssignRefused (f : List ℕ) (u r : ℕ) : ℕ → Type 0 where
@@ -104,12 +100,11 @@ pub data Outcome (f : List ℕ) : Verdict → Type 0 where
   accepted : Accepted f → Outcome f fine
   badSize : (Sized f → ⊥) → Outcome f (refusal 1 0 0)
   badLine : {n k : ℕ} → Sized f → Among (lines f) k → ((j : ℕ) → Among (lines f) j → j < k → GoodLine f j) → LineRefused f k n → Outcome f (refusal n k 0)
-  badUser : {u : ℕ} → Sized f → ((k : ℕ) → Among (lines f) k → GoodLine f k) → LowestUnlabelled f U (users f) u → Outcome f (refusal 6 1 u)
-  badCard : {o : ℕ} → Sized f → ((k : ℕ) → Among (lines f) k → GoodLine f k) → ((u : ℕ) → Among (users f) u → One f U u)
-      → LowestUnlabelled f O (cards f) o → Outcome f (refusal 6 2 o)
+  badUser : {u : ℕ} → Sized f → GoodLines f → LowestUnlabelled f U (users f) u → Outcome f (refusal 6 1 u)
+  badCard : {o : ℕ} → Sized f → GoodLines f → OneEach f U (users f) → LowestUnlabelled f O (cards f) o → Outcome f (refusal 6 2 o)
   labelCircle : {a : ℕ} → WellFormed f → LowestOnCircle (labels f) (over f) a → Outcome f (refusal 11 a 0)
   noBound : {a b : ℕ} → WellFormed f → LabelOrder f → FirstPair (labels f) (dominates f) a b → Outcome f (refusal 12 a b)
   roleCircle : {r : ℕ} → Ordered f → LowestOnCircle (roles f) (above f) r → Outcome f (refusal 13 r 0)
   badAssignment : {n i : ℕ} → Ordered f → GoodOrder (roles f) (above f) (senior f) → Among (lines f) i → lineAt f i .letter ≡ A
-      → ((j : ℕ) → Among (lines f) j → j < i → lineAt f j .letter ≡ A → Assigned f (lineAt f j .a) (lineAt f j .b))
+      → ((j : ℕ) → Among (lines f) j → j < i → GoodAssignment f j)
       → AssignRefused f (lineAt f i .a) (lineAt f i .b) n → Outcome f (refusal n (lineAt f i .a) (lineAt f i .b))

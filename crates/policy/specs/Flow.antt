@@ -1,4 +1,4 @@
--- "Role flow". It does not bear on acceptance. Assumes nothing.
+-- "Role flow", document 01's word for 002's information flow between the contexts of roles. It does not bear on acceptance. Assumes nothing.
 use Prim.Native.Nat.{ℕ}
 use mathlib.Core.List.{List}
 use mathlib.Core.Bool.{not, _&&_}

@@ -14,11 +14,14 @@ use Rattle.policy.specs.Policy.{dominates, senior, may, rLevel, wLevel, 
 use Rattle.policy.specs.Tables.{dominanceAt, clearancesAt, cardLabelsAt, rLevelsAt, wLevelsAt, seniorsAt, assignedAt, readersAt, writersAt, stateSize, word, byteOf, rowOf}
 use Rattle.policy.specs.Verdict.{verdict}
 
-pub record Counted (f ys : List ℕ) : Type 0 where
-  pub labels : word ys 0 ≡ labels f
-  pub roles : word ys 2 ≡ roles f
-  pub users : word ys 4 ≡ users f
-  pub cards : word ys 6 ≡ cards f
+pub record Counts (a b c d : ℕ) (ys : List ℕ) : Type 0 where
+  pub labels : word ys 0 ≡ a
+  pub roles : word ys 2 ≡ b
+  pub users : word ys 4 ≡ c
+  pub cards : word ys 6 ≡ d
+
+abbrev pub Counted : List ℕ → List ℕ → Type 0
+Counted f = Counts (labels f) (roles f) (users f) (cards f)
 
 -- a number past the file's count has no line, and so no label
 pub record Labelled (f ys : List ℕ) : Type 0 where
@@ -47,7 +50,7 @@ pub record Levelled (f ys : List ℕ) : Type 0 where
 abbrev pub Assigning : List ℕ → List ℕ → Type 0
 Assigning f ys = (u r : ℕ) → Among 256 u → Among 128 r → member ys (rowOf assignedAt u) r ≡ assigned f u r
 
--- byte i belongs to no table: those after the counts, those kept for later tables, and those after the last one
+-- byte i belongs to no table: those after the counts, those kept for later tables, and those after the last one, among them the places: "closes all sessions"
 abbrev pub Unused : ℕ → Type 0
 Unused i = (8 ≤ i) × (16 ≤ i → 8208 ≤ i) × (12304 ≤ i → 28688 ≤ i)
 

@@ -7,8 +7,6 @@ use Rattle.search.specs.Search.{some}
 use Rattle.order.specs.Closure.{Relation, closure}
 use Rattle.order.specs.Bound.{lub, converse}
 use Rattle.rolefile.specs.Said.{labels, roles, cards, over, above, permits, cardLabel}
-use Rattle.policy.specs.declared.Level.{Level}
-use Rattle.policy.specs.declared.Level.the-variants.{Free, Label, Undefined}
 
 -- "Dominance is the reflexive, transitive closure of the D lines, and seniority that of the S lines"
 unfoldable pub dominates : List ℕ → Relation
@@ -24,6 +22,12 @@ may f m r o = some (roles f) (λ q. senior f r q && permits f m q o)
 -- r may read, or write, a card of label l
 unfoldable pub mayAt : List ℕ → ℕ → Relation
 mayAt f m r l = some (cards f) (λ o. may f m r o && eqb (cardLabel f o) l)
+
+-- the level of a role for reading or for writing. Free is document 01's word: with nothing to read, or to write, the level is no limit
+pub data Level : Type 0 where
+  Free : Level
+  Label : ℕ → Level
+  Undefined : Level
 
 -- the level at a bound, where 0 is no bound: "where no such bound exists it is undefined"
 abbrev pub levelAt : ℕ → Level

@@ -16,9 +16,9 @@ use Rattle.rolefile.specs.Said.{labels, over}
 use Rattle.rolefile.specs.Section.{Leads}
 use Rattle.policy.specs.declared.build.Parts.{Parts}
 use Rattle.policy.specs.Policy.{dominates}
-use Rattle.policy.specs.Tables.{word, Kept}
+use Rattle.policy.specs.Tables.{Kept}
 use Rattle.policy.specs.Verdict.{roleVerdict, verdict}
-use Rattle.policy.specs.Image.{Labelled, Dominating, Seniors, Permitting, Levelled, Assigning, Counted, Image}
+use Rattle.policy.specs.Image.{Labelled, Dominating, Seniors, Permitting, Levelled, Assigning, Counts, Counted, Image}
 
 -- the lines of each letter stand where q says
 pub record Laid (f : List ℕ) (q : Parts) : Type 0 where
@@ -73,11 +73,8 @@ pub record Granting (f xs ys : List ℕ) : Type 0 where
   pub rest : (i : ℕ) → (16 ≤ i → 1040 ≤ i) → (1808 ≤ i → 2064 ≤ i) → (12304 ≤ i → 28688 ≤ i) → getD ys i 0 ≡ getD xs i 0
 
 -- the counts of h are in
-pub record Counts (h : Line) (xs ys : List ℕ) : Type 0 where
-  pub labels : word ys 0 ≡ h .a
-  pub roles : word ys 2 ≡ h .b
-  pub users : word ys 4 ≡ h .c
-  pub cards : word ys 6 ≡ h .d
+pub record Counting (h : Line) (xs ys : List ℕ) : Type 0 where
+  pub counts : Counts (h .a) (h .b) (h .c) (h .d) ys
   pub rest : Kept 0 8 xs ys
 
 -- the assigned roles and the counts are in

@@ -19,7 +19,7 @@ ghost use Rattle.rolefile.specs.WellFormed.{GoodCounts};
 ghost use Rattle.policy.specs.Tables.{word, Kept};
 ghost use Rattle.policy.specs.Image.{Labelled, Seniors, Levelled, Dominating};
 ghost use Rattle.policy.specs.Verdict.{orderVerdict, assignmentVerdict};
-ghost use Rattle.policy.specs.Stages.{Laid, Ready, Zeros, Noting, Paths, Closed, Ranking, Granting, Counts, Finishing, Built, Copied};
+ghost use Rattle.policy.specs.Stages.{Laid, Ready, Zeros, Noting, Paths, Closed, Ranking, Granting, Counting, Finishing, Built, Copied};
 
 // The lines of one letter: how many stand before them, and how many they are.
 pub struct Part {
@@ -92,7 +92,7 @@ fn dominance(f: &[u8], q: Parts, h: Line) -> [[bool; 32]; 32]
 }
 
 // 11 and 12, by the paths and the closed table.
-fn judge_labels(paths: [[bool; 32]; 32], closed: [[bool; 32]; 32], n: usize) -> Verdict
+fn check_labels(paths: [[bool; 32]; 32], closed: [[bool; 32]; 32], n: usize) -> Verdict
     ensures { λ v. ⌜ v ≡ orderVerdict (min n 32) (mark paths) (mark closed) ⌝ }
 {
     let a = order::marks::lowest_loop(paths, n);
@@ -144,7 +144,7 @@ fn grant_all(f: &[u8], s: &mut [u8], q: Parts, h: Line, t: [[bool; 32]; 32])
 }
 
 // 14 to 16, by the tables in the state.
-fn judge_assignments(f: &[u8], s: &[u8], q: Parts, h: Line) -> Verdict
+fn check_assignments(f: &[u8], s: &[u8], q: Parts, h: Line) -> Verdict
     requires { ⌜ Ready (now f) q h × (65536 ≤ length (now s)) × Labelled (now f) (now s) × Dominating (now f) (now s) × Levelled (now f) (now s) ⌝ }
     ensures { λ v. ⌜ v ≡ scan (lines (now (f .entry))) (assignmentVerdict (now (f .entry))) ⌝ }
 {
@@ -165,7 +165,7 @@ fn put_word(s: &mut [u8], at: usize, n: u64)
 // The four counts at the start of the state.
 fn put_counts(s: &mut [u8], h: Line)
     requires { ⌜ (8 ≤ length (now s)) × GoodCounts h ⌝ }
-    ensures { λ _. ⌜ Counts h (now (s .entry)) (now (s .exit)) ⌝ }
+    ensures { λ _. ⌜ Counting h (now (s .entry)) (now (s .exit)) ⌝ }
 {
     put_word(s, 0, h.a);
     put_word(s, 2, h.b);
@@ -202,7 +202,7 @@ pub fn build(f: &[u8], s: &mut [u8]) -> Verdict
     let paths = dominance(f, q, h);
     let n = h.a as usize;
     let closed = order::marks::reflected(paths, n);
-    let v = judge_labels(paths, closed, n);
+    let v = check_labels(paths, closed, n);
     if v.number != 0 {
         return v;
     }
@@ -211,7 +211,7 @@ pub fn build(f: &[u8], s: &mut [u8]) -> Verdict
         return v;
     }
     grant_all(f, s, q, h, closed);
-    let v = judge_assignments(f, s, q, h);
+    let v = check_assignments(f, s, q, h);
     if v.number != 0 {
         return v;
     }

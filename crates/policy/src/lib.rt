@@ -1,4 +1,4 @@
-// What a role file's policy comes to: levels, the numbers 6 and 11 to 16, and role flow.
+// What a role file's policy comes to: levels, the numbers 6, 7 and 11 to 16, and role flow.
 //
 // `load` checks a file and keeps its policy in a lent state; `tables` reads a state, and `flow`
 // answers reports of a loaded one.
@@ -14,14 +14,6 @@ pub mod tables;
 use rolefile::Verdict;
 use rolefile::check;
 ghost use Rattle.policy.specs.Image.{Loaded};
-
-// The level of a role for reading or for writing. Free is document 01's word: with nothing to read,
-// or to write, the level is no limit.
-pub enum Level {
-    Free,
-    Label(u64),
-    Undefined,
-}
 
 // Checks a role file and, where there is nothing to refuse, replaces the state by its policy. On a
 // refusal the state is as it was.

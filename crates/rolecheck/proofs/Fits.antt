@@ -13,8 +13,7 @@ use Rattle.rolefile.specs.Decimal.{columnsOf}
 use Rattle.rolefile.specs.Said.{labels, roles}
 use Rattle.rolefile.specs.WellFormed.{WellFormed}
 use Rattle.rolefile.proofs.Decimals.{padded-length}
-use Rattle.policy.specs.declared.Level.{Level}
-use Rattle.policy.specs.declared.Level.the-variants.{Free, Label, Undefined}
+use Rattle.policy.specs.Policy.{Level, Free, Label, Undefined}
 use Rattle.policy.specs.Policy.{dominates, mayAt, level, rLevel, wLevel, levelNumber}
 use Rattle.policy.specs.Flow.{flows, flowCircle}
 use Rattle.policy.specs.Verdict.{verdict}

@@ -6,7 +6,7 @@ use mathlib.Core.Logic.{_↔_, _⊎_, inl, inr, ⊎-elim}
 use mathlib.Core.Bool.{Bool, true, false, cond, false≢true}
 use native.Mathlib.Omega.{arith}
 use borrow.Author.Tests.{eqb-true, eq-eqb}
-use Rattle.search.specs.Search.{Among, first}
+use Rattle.search.specs.Search.{Among, first, LowestOf}
 use Rattle.search.proofs.Found.{last-or, first-lowest}
 use Rattle.rolefile.specs.declared.Verdict.{Verdict}
 use Rattle.rolefile.specs.Form.{fine, unless, _then_, scan, found}
@@ -113,24 +113,26 @@ pub found-decides : (x : ℕ) (v : Verdict) → Refuses v → Decides (found x v
 found-decides x v h = test-decides (eqb-true x 0, eq-eqb x 0) v h
 
 -- a search for the lowest thing that has P, where the others have N
-abbrev pub LowestOf : (ℕ → Type 0) → (ℕ → Type 0) → ℕ → ℕ → Type 0
-LowestOf P N n a = Among n a × P a × ((b : ℕ) → Among n b → b < a → N b)
-
 module _ (n : ℕ) (p : ℕ → Bool) {G : Type 0} {P N : ℕ → Type 0} (none : (first n p ≡ 0) ↔ G) where
   pub search-decides : ((a : ℕ) → Among n a → (p a ≡ true) ↔ P a) → ((a : ℕ) → Among n a → (p a ≡ false) ↔ N a)
       → (make : ℕ → Verdict) → ((a : ℕ) → Refuses (make a))
-      → Decides (found (first n p) (make (first n p))) G (λ x. (a : ℕ) × LowestOf P N n a × (x ≡ make a))
+      → Decides (found (first n p) (make (first n p))) G (λ x. (a : ℕ) × LowestOf n P N a × (x ≡ make a))
   search-decides has hasNot make h =
       decides-as (found-decides (first n p) (make (first n p)) (h (first n p))) none
       (λ x. (
         λ (z, e).
             let low = first-lowest p n (first n p) (omega arith) .0 refl in (
               first n p,
-              (low .inside, has (first n p) (low .inside) .0 (low .holds), λ b w l. hasNot b w .0 (low .lower b w l)),
+              record {
+                inside = low .inside;
+                holds = has (first n p) (low .inside) .0 (low .holds);
+                lower = λ b w l. hasNot b w .0 (low .lower b w l);
+              },
               e,
             ),
-        λ (a, (w, holds, lower), e).
-            let i = first-lowest p n a (w .0) .1 (record { inside = w; holds = has a w .1 holds; lower = λ b v l. hasNot b v .1 (lower b v l) }) in
+        λ (a, low, e).
+            let w = low .inside in
+            let i = first-lowest p n a (w .0) .1 (record { inside = w; holds = has a w .1 (low .holds); lower = λ b v l. hasNot b v .1 (low .lower b v l) }) in
             (λ z. omega arith, e ∙ ap make (sym i)),
       ))
 

@@ -9,7 +9,7 @@ use native.Mathlib.Omega.{arith}
 use lib.Dec.{leb, ltb, eqb}
 use lib.ListN.{length}
 use borrow.Author.Tests.{eqb-true, eq-eqb, leb-true, le-leb, ltb-true, lt-ltb, not-true, not-false}
-use Rattle.search.specs.Search.{Among, first, implies}
+use Rattle.search.specs.Search.{Among, first, implies, LowestOf}
 use Rattle.search.proofs.Truth.{and-iff, or-iff, implies-iff, among-iff, untrue, both}
 use Rattle.search.proofs.Found.{first-none}
 use Rattle.rolefile.specs.declared.Line.{Line}
@@ -20,7 +20,7 @@ use Rattle.rolefile.specs.Form.{headVerdict, bodyVerdict, lineVerdict, c
 use Rattle.rolefile.specs.Said.{users, cards}
 use Rattle.rolefile.specs.WellFormed.{Sized, GoodCounts, GoodNumbers, Before, Rises, GoodHead, GoodBody, GoodLine, One, WellFormed}
 use Rattle.rolefile.proofs.Verdicts.{Clean, then-joined}
-use Rattle.rolefile.proofs.Decides.{Decides, Fails, Else, Earliest, LowestOf, decides-fine, decides-clean, decides-when}
+use Rattle.rolefile.proofs.Decides.{Decides, Fails, Else, Earliest, decides-fine, decides-clean, decides-when}
 use Rattle.rolefile.proofs.Decides.{then-decides, cond-decides, test-decides, unless-decides, search-decides, scan-decides}
 use Rattle.rolefile.proofs.Counts.{count-one}
 
@@ -142,7 +142,7 @@ module _ (f : List ℕ) (k : ℕ) where
 
   -- the lowest of n things that has no line of the letter k or more than one
   abbrev pub LowestWithout : ℕ → ℕ → Type 0
-  LowestWithout = LowestOf (λ x. One f k x → ⊥) (One f k)
+  LowestWithout n = LowestOf n (λ x. One f k x → ⊥) (One f k)
 
   pub unlabelled-decides : (n place : ℕ) → Decides (found (unlabelled f k n) (refusal 6 place (unlabelled f k n)))
       ((x : ℕ) → Among n x → One f k x) (λ v. (x : ℕ) × LowestWithout n x × (v ≡ refusal 6 place x))

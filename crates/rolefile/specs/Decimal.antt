@@ -19,12 +19,15 @@ lastDigits (suc k) n = cond (ltb n 10) ((48 + n) ∷ []) (lastDigits k (n / 10) 
 unfoldable pub digits : ℕ → List ℕ
 digits n = lastDigits (suc n) n
 
--- the five columns of a number, and of a field without use; 32 is the byte of a blank
+-- five columns: digits with blanks before them, those of a number, and those of a field without use; 32 is the byte of a blank
+abbrev pub fiveColumns : List ℕ → List ℕ
+fiveColumns ds = replicate (5 - length ds) 32 ++ ds
+
 unfoldable pub padded : ℕ → List ℕ
-padded n = replicate (5 - length (digits n)) 32 ++ digits n
+padded n = fiveColumns (digits n)
 
 abbrev pub blanks : List ℕ
-blanks = replicate 5 32
+blanks = fiveColumns []
 
 -- ---- lines
 

@@ -43,8 +43,11 @@ abbrev pub header : List ℕ → Line
 header f = lineAt f 1
 
 -- 3: "labels 1 to 32, roles 0 to 128, users 0 to 256, cards 0 to 512"
+abbrev pub withinLimits : ℕ → ℕ → ℕ → ℕ → Bool
+withinLimits labels roles users cards = among 32 labels && (leb roles 128 && (leb users 256 && leb cards 512))
+
 unfoldable pub counted : Line → Bool
-counted h = among 32 (h .a) && (leb (h .b) 128 && (leb (h .c) 256 && leb (h .d) 512))
+counted h = withinLimits (h .a) (h .b) (h .c) (h .d)
 
 -- 4: the count that the first and the second field of a letter's lines go up to; a mode is 1 or 2
 unfoldable pub firstLimit : Line → ℕ → ℕ

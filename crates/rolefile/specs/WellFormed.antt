@@ -49,6 +49,9 @@ pub record GoodLine (f : List ℕ) (k : ℕ) : Type 0 where
   pub head : k ≡ 1 → GoodHead (lineAt f 1)
   pub body : (k ≡ 1 → ⊥) → GoodBody (header f) (lineAt f (k - 1)) (lineAt f k)
 
+abbrev pub GoodLines : List ℕ → Type 0
+GoodLines f = (k : ℕ) → Among (lines f) k → GoodLine f k
+
 -- "Each user has one U line and each card one O line": there is a line of the letter k about x, and no other
 pub record One (f : List ℕ) (k x : ℕ) : Type 0 where
   pub line : ℕ
@@ -56,8 +59,12 @@ pub record One (f : List ℕ) (k x : ℕ) : Type 0 where
   pub tells : about f k x line ≡ true
   pub only : (i : ℕ) → Among (lines f) i → about f k x i ≡ true → i ≡ line
 
+-- so for each of n things
+abbrev pub OneEach : List ℕ → ℕ → ℕ → Type 0
+OneEach f k n = (x : ℕ) → Among n x → One f k x
+
 pub record WellFormed (f : List ℕ) : Type 0 where
   pub sized : Sized f
-  pub good : (k : ℕ) → Among (lines f) k → GoodLine f k
-  pub user : (u : ℕ) → Among (users f) u → One f U u
-  pub card : (o : ℕ) → Among (cards f) o → One f O o
+  pub good : GoodLines f
+  pub user : OneEach f U (users f)
+  pub card : OneEach f O (cards f)

@@ -6,7 +6,7 @@ use super::reader;
 ghost use mathlib.Core.Path.{_≡_};
 ghost use Prim.Native.Nat.{_≤_};
 ghost use Rattle.rolefile.specs.Line.{lines};
-ghost use Rattle.rolefile.specs.Form.{fine, refusal, counted, firstLimit, secondLimit, ranged, before, rises, headVerdict, bodyVerdict, lineVerdict, scan, linesVerdict};
+ghost use Rattle.rolefile.specs.Form.{fine, refusal, withinLimits, firstLimit, secondLimit, ranged, before, rises, headVerdict, bodyVerdict, lineVerdict, scan, linesVerdict};
 ghost use Rattle.rolefile.specs.Scan.{seen, goesOn, looked};
 
 // Nothing to refuse.
@@ -31,11 +31,11 @@ pub fn refused(number: u64, first: u64, second: u64) -> Verdict
     }
 }
 
-// 3: the counts are within their limits.
-fn counts_fit(h: Line) -> bool
-    ensures { λ r. ⌜ r ≡ counted h ⌝ }
+// 3: whether the counts are within their limits.
+pub fn counts_fit(labels: u64, roles: u64, users: u64, cards: u64) -> bool
+    ensures { λ r. ⌜ r ≡ withinLimits labels roles users cards ⌝ }
 {
-    search::among(32, h.a) & ((h.b <= 128) & ((h.c <= 256) & (h.d <= 512)))
+    search::among(32, labels) & ((roles <= 128) & ((users <= 256) & (cards <= 512)))
 }
 
 // 4: the count that the first field of a letter's lines goes up to, and the second.
@@ -95,7 +95,7 @@ fn head(l: Line) -> Verdict
     if l.letter != 1 {
         return refused(2, 1, 0);
     }
-    if !counts_fit(l) {
+    if !counts_fit(l.a, l.b, l.c, l.d) {
         return refused(3, 1, 0);
     }
     nothing()

@@ -8,7 +8,7 @@
 -- Assumes nothing.
 use Prim.Native.Nat.{ℕ, zero, suc, _+_, _-_, _*_, _/_, _%_, _^_, _≤_, _<_}
 use mathlib.Core.Path.{_≡_}
-use mathlib.Core.Bool.{Bool, not, _&&_, _||_}
+use mathlib.Core.Bool.{Bool, true, not, _&&_, _||_}
 use mathlib.Core.List.{List}
 use lib.Dec.{leb, eqb}
 use lib.ListN.{length, getD}
@@ -27,17 +27,18 @@ member xs at r = among 128 r && bit (getD xs (at + (r - 1) / 8) 0) ((r - 1) % 8)
 unfoldable pub common : List ℕ → ℕ → ℕ → Bool
 common xs a b = whole xs a && whole xs b && some 128 (λ r. member xs a r && member xs b r)
 
--- the set in the row at `at`, with and without a role, and with another's roles; a number that is no role's changes nothing
-abbrev pub added : List ℕ → ℕ → ℕ → ℕ → Bool
-added xs at role r = member xs at r || (among 128 role && eqb r role)
-
--- with a role where `on`
+-- the set in the row at `at` with a role where `on`, and with it; a number that is no role's changes nothing
 abbrev pub addedWhere : List ℕ → ℕ → ℕ → Bool → ℕ → Bool
 addedWhere xs at role on r = member xs at r || (on && (among 128 role && eqb r role))
 
+abbrev pub added : List ℕ → ℕ → ℕ → ℕ → Bool
+added xs at role = addedWhere xs at role true
+
+-- without a role
 abbrev pub removed : List ℕ → ℕ → ℕ → ℕ → Bool
 removed xs at role r = member xs at r && not (eqb r role)
 
+-- with another's roles
 abbrev pub united : List ℕ → ℕ → List ℕ → ℕ → Bool
 united xs at other r = member xs at r || member other 0 r
 
@@ -45,6 +46,7 @@ united xs at other r = member xs at r || member other 0 r
 abbrev pub unitedWhere : List ℕ → ℕ → ℕ → List ℕ → ℕ → Bool
 unitedWhere xs at k other r = member xs at r || (member xs at k && member other 0 r)
 
+-- with the roles of the row at `from`, which is empty where it does not lie in xs
 abbrev pub joined : List ℕ → ℕ → ℕ → ℕ → Bool
 joined xs into from r = member xs into r || (whole xs from && member xs from r)
 

@@ -3,7 +3,7 @@
 --     some n p      p holds of one of them
 --     every n p     p holds of each of them
 --     first n p     the lowest of which p holds, or 0
--- `Among` and `Lowest` say `among` and `first` as properties. Assumes nothing.
+-- `Among` and `Lowest` say `among` and `first` as properties, and `LowestOf` is `Lowest` of properties. Assumes nothing.
 use Prim.Native.Nat.{ℕ, zero, suc, _≤_, _<_}
 use mathlib.Core.Path.{_≡_}
 use mathlib.Core.Bool.{Bool, true, false, not, _&&_, _||_, cond}
@@ -36,8 +36,12 @@ implies a b = not a || b
 abbrev pub Among : ℕ → ℕ → Type 0
 Among n a = (1 ≤ a) × (a ≤ n)
 
--- p holds of a, and of no lower one
-pub record Lowest (n : ℕ) (p : ℕ → Bool) (a : ℕ) : Type 0 where
+-- a has P, and every lower one has N
+pub record LowestOf (n : ℕ) (P N : ℕ → Type 0) (a : ℕ) : Type 0 where
   pub inside : Among n a
-  pub holds : p a ≡ true
-  pub lower : (b : ℕ) → Among n b → b < a → p b ≡ false
+  pub holds : P a
+  pub lower : (b : ℕ) → Among n b → b < a → N b
+
+-- p holds of a, and of no lower one
+abbrev pub Lowest : ℕ → (ℕ → Bool) → ℕ → Type 0
+Lowest n p = LowestOf n (λ b. p b ≡ true) (λ b. p b ≡ false)

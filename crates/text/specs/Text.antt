@@ -1,13 +1,13 @@
 -- Text put into a buffer. Assumes nothing.
-use Prim.Native.Nat.{ℕ, zero, suc, _-_, _≤_}
+use Prim.Native.Nat.{ℕ, zero, suc, _≤_}
 use Prim.Native.Char.{code}
 use Prim.Native.String.{String}
 use Prim.Native.String as string
 use mathlib.Core.Path.{_≡_}
 use mathlib.Core.List.{List, [], _∷_, _++_}
 use mathlib.Core.Bool.{Bool, cond}
-use lib.ListN.{length, take, replicate}
-use Rattle.rolefile.specs.Decimal.{lastDigits, blanks}
+use lib.ListN.{length, take}
+use Rattle.rolefile.specs.Decimal.{lastDigits, fiveColumns, blanks}
 
 -- the bytes of a quoted text of ASCII characters
 abbrev pub ascii : String → List ℕ
@@ -19,9 +19,9 @@ unfoldable pub each : ℕ → (ℕ → List ℕ) → List ℕ
 each zero f = []
 each (suc n) f = each n f ++ f (suc n)
 
--- the last five digits of a number, with blanks before them where it has fewer; 32 is the byte of a blank
+-- the last five digits of a number, with blanks before them where it has fewer
 unfoldable pub lastFive : ℕ → List ℕ
-lastFive n = replicate (5 - length (lastDigits 5 n)) 32 ++ lastDigits 5 n
+lastFive n = fiveColumns (lastDigits 5 n)
 
 -- the five columns of any number, or blanks for a field without use
 abbrev pub lastColumns : Bool → ℕ → List ℕ

@@ -11,10 +11,10 @@ use Rattle.graph.proofs.nodes.Statement.{statement}
 use Rattle.graph.proofs.nodes.Tie as tie
 
 abbrev Inv-loop : tie.InvT-loop
-Inv-loop mark t n out₀ at used₀ i₀ out used i = (i ≤ n) × Puts (each i (λ a. node mark (related t 0 a a) a)) at out₀ used out
+Inv-loop prefix t n out₀ at used₀ i₀ out used i = (i ≤ n) × Puts (each i (λ a. node prefix (related t 0 a a) a)) at out₀ used out
 
 abbrev μ-loop : tie.MeasureT-loop
-μ-loop mark t n out₀ at used₀ i₀ out used i = n - i
+μ-loop prefix t n out₀ at used₀ i₀ out used i = n - i
 
 loop-again : tie.Need-loop-again Inv-loop μ-loop
 loop-again c =

@@ -11,10 +11,10 @@ use Rattle.graph.proofs.order_lines_from.Statement.{statement}
 use Rattle.graph.proofs.order_lines_from.Tie as tie
 
 abbrev Inv-loop : tie.InvT-loop
-Inv-loop mark t n a out₀ at used₀ i₀ out used i = (i ≤ n) × Puts (each i (orderLine mark n (related t 0) a)) at out₀ used out
+Inv-loop prefix t n a out₀ at used₀ i₀ out used i = (i ≤ n) × Puts (each i (orderLine prefix n (related t 0) a)) at out₀ used out
 
 abbrev μ-loop : tie.MeasureT-loop
-μ-loop mark t n a out₀ at used₀ i₀ out used i = n - i
+μ-loop prefix t n a out₀ at used₀ i₀ out used i = n - i
 
 loop-again : tie.Need-loop-again Inv-loop μ-loop
 loop-again c = let w = c .before .before .before .before .before .loop in (search needs, each-more _ (w .i) (w .inv .1) (c .before .before .order-line .ensures))

@@ -1,4 +1,4 @@
--- A loop that leaves at the first role that serves.
+-- A loop that leaves at the first role that could.
 use Prim.Native.Nat.{_-_, _≤_}
 use mathlib.Core.Path.{_≡_, sym, _∙_}
 use mathlib.Core.Bool.{false}
@@ -8,12 +8,12 @@ use denote.Ref.{now}
 use Rattle.search.specs.Search.{some}
 use Rattle.search.proofs.Found.{some-yet, some-found, some-more}
 use Rattle.monitor.specs.Session.{rolesIn}
-use Rattle.monitor.specs.Rights.{serves, could}
+use Rattle.monitor.specs.Rights.{roleCould, could}
 use Rattle.monitor.proofs.rights.could.Statement.{statement}
 use Rattle.monitor.proofs.rights.could.Tie as tie
 
 abbrev Inv-loop : tie.InvT-loop
-Inv-loop s user label card at n i₀ i = (n ≡ rolesIn s) × (i ≤ n) × (some i (serves s user label card at) ≡ false)
+Inv-loop s user label card at n i₀ i = (n ≡ rolesIn s) × (i ≤ n) × (some i (roleCould s user label card at) ≡ false)
 
 abbrev μ-loop : tie.MeasureT-loop
 μ-loop s user label card at n i₀ i = n - i
@@ -24,8 +24,8 @@ returns c =
     let a = c .before .before .before .before .before .before .args in
     let w = c .before .before .before .loop in
     let n = w .inv .0 in
-    some-found (serves (now (a .s)) (a .user) (a .label) (a .card) (a .at)) (rolesIn (now (a .s))) (w .i) (omega arith)
-    (sym (c .before .serves .ensures) ∙ c .if1 .taken)
+    some-found (roleCould (now (a .s)) (a .user) (a .label) (a .card) (a .at)) (rolesIn (now (a .s))) (w .i) (omega arith)
+    (sym (c .before .role-could .ensures) ∙ c .if1 .taken)
 
 loop-again : tie.Need-loop-again Inv-loop μ-loop
 loop-again c =
@@ -33,7 +33,7 @@ loop-again c =
     let w = c .before .before .before .loop in (
       w .inv .0,
       search needs,
-      some-more (serves (now (a .s)) (a .user) (a .label) (a .card) (a .at)) (w .i) ∙ rw (w .inv .2) (sym (c .before .serves .ensures) ∙ c .if1 .left),
+      some-more (roleCould (now (a .s)) (a .user) (a .label) (a .card) (a .at)) (w .i) ∙ rw (w .inv .2) (sym (c .before .role-could .ensures) ∙ c .if1 .left),
     )
 
 returns-2 : tie.Need-returns-2 Inv-loop μ-loop

@@ -7,8 +7,8 @@ use native.Mathlib.Omega.{arith}
 use borrow.Author.Needs.{needs}
 use denote.Ref.{now}
 use lib.ListN.{length, getD}
-use Rattle.order.specs.Closure.{Relation}
-use Rattle.order.specs.Table.{mark, Rows, round}
+use Rattle.order.specs.Closure.{Relation, round}
+use Rattle.order.specs.Table.{mark, Rows}
 use Rattle.order.proofs.Closure.{rows-none, rows-more}
 use Rattle.order.proofs.Stored.{place, set-row}
 use Rattle.order.proofs.marks.pass.Statement.{statement}

@@ -4,7 +4,8 @@ use mathlib.Core.Path.{_≡_}
 use native.Mathlib.Omega.{arith}
 use borrow.Author.Needs.{needs}
 use lib.ListN.{length}
-use Rattle.order.specs.Table.{mark, Rows, reflexive}
+use Rattle.order.specs.Closure.{reflexive}
+use Rattle.order.specs.Table.{mark, Rows}
 use Rattle.order.proofs.Closure.{rows-none, rows-more}
 use Rattle.order.proofs.Stored.{place, set-row}
 use Rattle.order.proofs.marks.reflected.Statement.{statement}

@@ -4,7 +4,8 @@ use mathlib.Core.Path.{_≡_}
 use native.Mathlib.Omega.{arith}
 use borrow.Author.Needs.{needs}
 use lib.ListN.{length}
-use Rattle.order.specs.Table.{related, reflexive, Tabled}
+use Rattle.order.specs.Closure.{reflexive}
+use Rattle.order.specs.Table.{related, Tabled}
 use Rattle.order.proofs.Seats.{no-table, seats-none, seats-more, reflexive-row}
 use Rattle.order.proofs.rows.reflect.Statement.{statement}
 use Rattle.order.proofs.rows.reflect.Tie as tie

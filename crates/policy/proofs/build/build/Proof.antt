@@ -39,10 +39,10 @@ closed : (c : tie.After-reflected) → Closed (now (c .before .before .before .b
 closed c = closed-of _ (c .before .dominance .result) (c .reflected .result) (c .before .dominance .ensures) (rw (count (c .before .before .before .before .before .before .before .before)) at (c .reflected .ensures))
 
 -- the order's verdict is the file's
-order-is : (c : tie.After-judge-labels) → c .judge-labels .result ≡ labelVerdict (now (c .before .before .before .before .before .before .before .before .before .before .before .before .before .before .before .before .args .f))
+order-is : (c : tie.After-check-labels) → c .check-labels .result ≡ labelVerdict (now (c .before .before .before .before .before .before .before .before .before .before .before .before .before .before .before .before .args .f))
 order-is c =
     let r = ready (c .before .before .before .before .before .before .before .before .before) in
-    c .judge-labels .ensures
+    c .check-labels .ensures
     ∙ rw (count (c .before .before .before .before .before .before .before .before .before)) (order-verdict-is _ (c .before .before .dominance .result) (c .before .reflected .result) (counts-of _ (r .lines) .labels .1) (c .before .before .dominance .ensures) (closed (c .before)))
 
 order-pass : (c : tie.Else3) → labelVerdict (now (c .before .before .before .before .before .before .before .before .before .before .before .before .before .before .before .before .before .before .args .f)) .number ≡ 0
@@ -93,8 +93,8 @@ grant-all-requires c κs =
       row-zeros f xs _ _ xs xs (start .pre .1) _ _ noting clean ranking (d .if4 .left),
     )
 
-judge-assignments-requires : tie.Need-judge-assignments-requires
-judge-assignments-requires c κs =
+check-assignments-requires : tie.Need-check-assignments-requires
+check-assignments-requires c κs =
     let g = c .before .before .before in
     let d = g .before .before in
     let start = d .before .before .before .before .before .before .before .before .before .before .before .before .before .before .before .before .before .before .before .before .before .before .before .before in
@@ -145,10 +145,10 @@ returns-4 c =
     built-refused _ _ _ (v ∙ refused-roles _ (lines-pass (c .before .before .before .before .before .before .before .before .before .before .before .before .before .before .before .before .before .before .before)) (labels-pass (c .before .before .before .before .before .before .before .before .before .before .before)) (order-pass (c .before .before .before .before .before .before)) (λ z. c .if4 .taken (rw (← v) at z))) (c .if4 .taken)
 
 -- the last stage decides
-the-rest : (c : tie.After-judge-assignments) → c .judge-assignments .result ≡ verdict (now (c .before .before .before .before .before .before .before .before .before .before .before .before .before .before .before .before .before .before .before .before .before .before .before .before .before .before .before .before .before .before .args .f))
+the-rest : (c : tie.After-check-assignments) → c .check-assignments .result ≡ verdict (now (c .before .before .before .before .before .before .before .before .before .before .before .before .before .before .before .before .before .before .before .before .before .before .before .before .before .before .before .before .before .before .args .f))
 the-rest c =
     let d = c .before .before .before .before .before .before in
-    c .judge-assignments .ensures ∙ the-last _ (lines-pass (d .before .before .before .before .before .before .before .before .before .before .before .before .before .before .before .before .before .before .before)) (labels-pass (d .before .before .before .before .before .before .before .before .before .before .before)) (order-pass (d .before .before .before .before .before .before)) (roles-pass d)
+    c .check-assignments .ensures ∙ the-last _ (lines-pass (d .before .before .before .before .before .before .before .before .before .before .before .before .before .before .before .before .before .before .before)) (labels-pass (d .before .before .before .before .before .before .before .before .before .before .before)) (order-pass (d .before .before .before .before .before .before)) (roles-pass d)
 
 returns-5 : tie.Need-returns-5
 returns-5 c = built-refused _ _ _ (the-rest (c .before .before)) (c .if5 .taken)
@@ -163,8 +163,8 @@ returns-6 c =
     record {
       answer =
           c .nothing .ensures
-          ∙ sym (scan-clean (assignmentVerdict f) (lines f) (λ i w. assignment-clean f i) (rw (e .before .before .judge-assignments .ensures) at (e .if5 .left)))
-          ∙ sym (e .before .before .judge-assignments .ensures)
+          ∙ sym (scan-clean (assignmentVerdict f) (lines f) (λ i w. assignment-clean f i) (rw (e .before .before .check-assignments .ensures) at (e .if5 .left)))
+          ∙ sym (e .before .before .check-assignments .ensures)
           ∙ the-rest (e .before .before);
       done = λ z. image (now (start .args .f)) (now (start .args .s)) _ _ _ _ (start .pre .1) _ _
           (d .before .before .before .before .before .before .before .before .before .before .before .before .before .before .before .note-labels .ensures) (d .before .before .before .before .before .before .before .before .before .before .before .if2 .left) (d .before .before .before .before .rank-roles .ensures) (d .if4 .left) (g .grant-all .ensures) (c .before .before .before .finish .ensures);
@@ -190,7 +190,7 @@ build-spec =
     (λ c. search needs)
     returns-4
     grant-all-requires
-    judge-assignments-requires
+    check-assignments-requires
     (λ c. let g = c .before .before .before .before .before .before in let d = g .before .before in g .grant-all .kept .1 .0 ∙ d .before .before .before .before .rank-roles .kept .1 .0 ∙ d .before .before .before .before .before .before .before .before .before .before .before .before .before .before .before .note-labels .kept .1 .0)
     returns-5
     finish-requires

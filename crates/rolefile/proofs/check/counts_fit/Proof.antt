@@ -1,11 +1,9 @@
 -- The four tests, one after the other.
 use borrow.Author.Needs.{needs}
-use Rattle.rolefile.specs.Form.{counted}
 use Rattle.rolefile.proofs.check.counts_fit.Statement.{statement}
 use Rattle.rolefile.proofs.check.counts_fit.Tie as tie
 
 returns : tie.Need-returns
-unfolding counted
 returns c = cc
 
 pub counts-fit-spec : {M : Type 1} → statement M

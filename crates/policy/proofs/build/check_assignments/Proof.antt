@@ -7,8 +7,8 @@ use Rattle.policy.specs.Tables.{assignByTables}
 use Rattle.policy.proofs.Readying.{good-of, counts-of, section-a}
 use Rattle.policy.proofs.Inside.{over-between}
 use Rattle.policy.proofs.Assigning.{tables-verdict, numbers-within, scan-assignments}
-use Rattle.policy.proofs.build.judge_assignments.Statement.{statement}
-use Rattle.policy.proofs.build.judge_assignments.Tie as tie
+use Rattle.policy.proofs.build.check_assignments.Statement.{statement}
+use Rattle.policy.proofs.build.check_assignments.Tie as tie
 
 assign-lines-requires : tie.Need-assign-lines-requires
 assign-lines-requires c κs =
@@ -37,5 +37,5 @@ returns c =
     ∙ scan-assignments f good counts (section-a f q l (ready .laid)) (assignByTables ys)
     (tables-verdict f ys counts (over-between f good) dominating labelled levelled)
 
-pub judge-assignments-spec : {M : Type 1} → statement M
-judge-assignments-spec = tie.close (tie.spec (λ c κs. search needs) assign-lines-requires returns)
+pub check-assignments-spec : {M : Type 1} → statement M
+check-assignments-spec = tie.close (tie.spec (λ c κs. search needs) assign-lines-requires returns)

@@ -1,24 +1,24 @@
 -- The tests one after the other.
 use borrow.Author.Needs.{needs}
-use Rattle.monitor.specs.Rights.{serves}
+use Rattle.monitor.specs.Rights.{roleCould}
 use Rattle.monitor.proofs.Known.{tests}
-use Rattle.monitor.proofs.rights.serves.Statement.{statement}
-use Rattle.monitor.proofs.rights.serves.Tie as tie
+use Rattle.monitor.proofs.rights.role_could.Statement.{statement}
+use Rattle.monitor.proofs.rights.role_could.Tie as tie
 
 returns : tie.Need-returns
-unfolding serves
+unfolding roleCould
 returns c = search tests depth 4
 
 returns-2 : tie.Need-returns-2
-unfolding serves
+unfolding roleCould
 returns-2 c = search tests depth 4
 
 returns-3 : tie.Need-returns-3
-unfolding serves
+unfolding roleCould
 returns-3 c = search tests depth 4
 
-pub serves-spec : {M : Type 1} → statement M
-serves-spec =
+pub role-could-spec : {M : Type 1} → statement M
+role-could-spec =
     tie.close
     (tie.spec
     (λ c κs. search needs)

@@ -3,8 +3,8 @@ use borrow.Author.Needs.{needs}
 use borrow.Author.Tests.{ne-eqb}
 use Rattle.policy.specs.Verdict.{orderVerdict}
 use Rattle.policy.proofs.Dominance.{pair-verdict}
-use Rattle.policy.proofs.build.judge_labels.Statement.{statement}
-use Rattle.policy.proofs.build.judge_labels.Tie as tie
+use Rattle.policy.proofs.build.check_labels.Statement.{statement}
+use Rattle.policy.proofs.build.check_labels.Tie as tie
 
 returns : tie.Need-returns
 unfolding orderVerdict
@@ -36,8 +36,8 @@ returns-3 c =
       c .before .if2 .left,
     ) (c .nothing .ensures)
 
-pub judge-labels-spec : {M : Type 1} → statement M
-judge-labels-spec =
+pub check-labels-spec : {M : Type 1} → statement M
+check-labels-spec =
     tie.close
     (tie.spec
     (λ c κs. search needs)
