@@ -1,5 +1,5 @@
 -- A half's bits are its members, so the first half is searched and, where it has none, the second.
-use Prim.Native.Nat.{ℕ, _+_, _-_, _*_, _/_, _%_, _≤_, _<_}
+use Prim.Native.Nat.{ℕ, _+_, _-_, _/_, _%_, _≤_, _<_}
 use mathlib.Core.Path.{_≡_, sym, _∙_}
 use mathlib.Core.List.{List}
 use mathlib.Core.Bool.{Bool, not, _&&_}
@@ -11,7 +11,7 @@ use borrow.Author.Tests.{leb-true, le-leb}
 use Rattle.search.specs.Search.{first, Among}
 use Rattle.search.proofs.Truth.{among-iff, same}
 use Rattle.search.proofs.Found.{first-agree, first-sooner, first-never, first-later, first-within}
-use Rattle.roleset.specs.Row.{bit, member, littleEndian, nextMember}
+use Rattle.roleset.specs.Row.{bit, member, littleEndian}
 use Rattle.roleset.proofs.Bits.{bit-byte}
 use Rattle.roleset.proofs.inner.next.Statement.{statement}
 use Rattle.roleset.proofs.inner.next.Tie as tie
