@@ -42,6 +42,21 @@ module _ (at : ℕ) (h : Relation) (xs : List ℕ) (fits : at + 2048 ≤ length 
             (elim (decLt (a - 1) i) [ yes k ↦ inl (omega arith) | no k ↦ inr (omega arith) ]) b;
       }
 
+  -- rows that are as h says already need no turn
+  pub seats-pass : (i j : ℕ) (ys : List ℕ) → i ≤ j → j ≤ 128 → Tabled at i h xs ys
+      → ((a b : ℕ) → i < a → a ≤ j → Among 128 b → related xs at a b ≡ h a b) → Tabled at j h xs ys
+  seats-pass i j ys l m t same = record {
+    rows = λ f. record {
+      done = λ a b v w. elim (decLt i a) [
+        | yes k ↦ t .rows f .left a b k (omega arith) w ∙ same a b k (omega arith) w
+        | no k ↦ t .rows f .done a b (omega arith) w
+      ];
+      left = λ a b v u w. t .rows f .left a b (omega arith) u w;
+    };
+    rest = λ k o. t .rest k (λ n. let q = o n in omega arith);
+    none = t .none;
+  }
+
   -- a row that has had no turn yet
   pub seat-left : (i b : ℕ) (ys : List ℕ) → i < 128 → Among 128 b → Tabled at i h xs ys → member ys (at + 16 * i) b ≡ member xs (at + 16 * i) b
   seat-left i b ys l w t = rw (place i) at (t .rows fits .left (i + 1) b (omega arith) (omega arith) w)

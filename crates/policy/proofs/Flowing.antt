@@ -1,22 +1,23 @@
 -- What is answered of a state and of a slice too short for one; and role flow, card by card, and as a table of role sets. Assumes nothing.
-use Prim.Native.Nat.{ℕ, _+_, _*_, _≤_, _<_}
+use Prim.Native.Nat.{ℕ, _+_, _-_, _*_, _≤_, _<_}
 use mathlib.Core.Path.{_≡_, sym, _∙_}
-use mathlib.Core.Bool.{Bool, true, false, not, _&&_, _||_, cond, and-true, and-false}
+use mathlib.Core.Bool.{Bool, true, false, not, _&&_, _||_, cond, and-true, and-false, or-false}
 use mathlib.Core.List.{List}
 use native.Mathlib.Omega.{arith}
 use native.Mathlib.Nat.{zero-add}
 use native.Mathlib.Decide.{ℕ-discrete}
 use lib.Dec.{leb, eqb}
 use lib.ListN.{length}
-use borrow.Author.Tests.{le-leb, lt-leb, eq-eqb, ne-eqb}
-use Rattle.search.specs.Search.{Among, some}
-use Rattle.search.proofs.Found.{first-agree}
-use Rattle.roleset.specs.Row.{whole, member, removed, Placed}
+use borrow.Author.Tests.{le-leb, lt-leb, leb-false, not-true, eq-eqb, ne-eqb}
+use Rattle.search.specs.Search.{Among, Lowest, some, first}
+use Rattle.search.proofs.Truth.{and-iff}
+use Rattle.search.proofs.Found.{first-agree, first-none, first-lowest, first-within}
+use Rattle.roleset.specs.Row.{whole, member, removed, united, nextMember, Placed}
 use Rattle.roleset.proofs.Rows.{whole-true}
 use Rattle.order.specs.Closure.{Relation, path, loop, circle}
 use Rattle.order.specs.Table.{related, Tabled}
 use Rattle.order.proofs.Closure.{circle-agree}
-use Rattle.order.proofs.Seats.{seats-more, seat-left}
+use Rattle.order.proofs.Seats.{seats-more, seats-pass, seat-left}
 use Rattle.order.proofs.Stored.{place}
 use Rattle.policy.specs.Tables.{rowOf, readersAt, writersAt, stateSize, isState, flowing}
 
@@ -78,19 +79,65 @@ module _ (h : Relation) (t u : List ℕ) (i : ℕ) (long : 2048 ≤ length t) (s
   pub row-more : (v : List ℕ) (s : ℕ → Bool) → Placed (16 * i) s u v → ((q : ℕ) → Among 128 q → s q ≡ h (i + 1) q) → Tabled 0 (i + 1) h t v
   row-more v s p new = seats-more 0 h t (omega arith) i s u v l same done (rw (zero-add (16 * i)) p) new
 
--- what a turn makes of a row: the readers of card o + 1 are put into it where its role may write that card, or its role is taken out
-module _ (t u xs : List ℕ) (o i q : ℕ) (long : 2048 ≤ length t) (same : length u ≡ length t) (l : i < 128) (w : Among 128 q)
-    (fits : 28688 ≤ length xs) (card : o < 512) where
-  pub past-row : (readers : List ℕ) (writes : Bool) → Tabled 0 i (pastCard t xs (o + 1)) t u
-      → writes ≡ (whole xs (writersAt + 16 * o) && member xs (writersAt + 16 * o) (i + 1))
-      → ((r : ℕ) → member readers 0 r ≡ (whole xs (readersAt + 16 * o) && member xs (readersAt + 16 * o) r))
-      → (member u (16 * i) q || (writes && member readers 0 q)) ≡ pastCard t xs (o + 1) (i + 1) q
-  past-row readers writes done may read =
-      rw (
-        row-left (pastCard t xs (o + 1)) t u i long same l done q w,
-        row-tested xs writersAt o (i + 1) writes (omega arith) may,
-        row-tested xs readersAt o q (member readers 0 q) (omega arith) (read q),
-      )
+-- card o + 1 is passed from one writer to the next: i is the last that has had its turn, and w the next one, or 0
+pub record Turn (t u xs : List ℕ) (o i w : ℕ) : Type 0 where
+  pub long : 2048 ≤ length t
+  pub same : length u ≡ length t
+  pub fits : 28688 ≤ length xs
+  pub card : o < 512
+  pub before : i < 128
+  pub next : w ≡ cond (whole xs (writersAt + 16 * o)) (nextMember xs (writersAt + 16 * o) i) 0
+  pub done : Tabled 0 i (pastCard t xs (o + 1)) t u
+
+module _ {t u xs : List ℕ} {o i w : ℕ} (turn : Turn t u xs o i w) where
+  abbrev Past : Relation
+  Past = pastCard t xs (o + 1)
+
+  abbrev Writes : ℕ → Bool
+  Writes = member xs (writersAt + 16 * o)
+
+  abbrev Later : ℕ → Bool
+  Later r = not (leb r i) && Writes r
+
+  next-writer : first 128 Later ≡ w
+  next-writer = sym (turn .next ∙ rw (whole-true xs (writersAt + 16 * o) (omega arith)))
+
+  pub writer-within : w ≤ 128
+  writer-within = rw next-writer at (first-within Later 128)
+
+  -- a row that is no writer's needs no turn
+  idle : (r q : ℕ) → Later r ≡ false → i < r → related t 0 r q ≡ Past r q
+  idle r q e k = rw (place o, rw (lt-leb r i k) at e) (sym (or-false (related t 0 r q)))
+
+  pub no-writer : w ≡ 0 → Tabled 0 128 Past t u
+  no-writer e =
+      seats-pass 0 Past t (omega arith) i 128 u (omega arith) (omega arith) (turn .done)
+      (λ r q k m v. idle r q (first-none Later 128 .0 (next-writer ∙ e) r (omega arith)) k)
+
+  module _ (some : w ≡ 0 → ⊥) where
+    lowest : Lowest 128 Later w
+    lowest = first-lowest Later 128 w (omega arith) .0 next-writer
+
+    pub writer-ahead : i < w
+    writer-ahead = leb-false w i (not-true (leb w i) (and-iff (not (leb w i)) (Writes w) .0 (lowest .holds) .0))
+
+    pub writer-more : {v : List ℕ} (readers : List ℕ) → Placed (16 * (w - 1)) (united u (16 * (w - 1)) readers) u v
+        → ((r : ℕ) → member readers 0 r ≡ (whole xs (readersAt + 16 * o) && member xs (readersAt + 16 * o) r)) → Tabled 0 w Past t v
+    writer-more {v} readers placed read =
+        let ahead = writer-ahead in
+        let within = writer-within in
+        let last : w - 1 + 1 ≡ w = omega arith in
+        let passed = seats-pass 0 Past t (omega arith) i (w - 1) u (omega arith) (omega arith) (turn .done)
+        (λ r q k m v. idle r q (lowest .lower r (omega arith) (omega arith)) k) in
+        rw last at (row-more Past t u (w - 1) (turn .long) (turn .same) (omega arith) passed v _ placed (λ q z.
+        rw (
+          row-left Past t u (w - 1) (turn .long) (turn .same) (omega arith) passed q z,
+          last,
+          place o,
+          and-iff (not (leb w i)) (Writes w) .0 (lowest .holds) .1,
+          read q,
+          whole-true xs (readersAt + 16 * o) (omega arith),
+        )))
 
 pub apart-row : (t u : List ℕ) (i q : ℕ) → 2048 ≤ length t → length u ≡ length t → i < 128 → Among 128 q → Tabled 0 i (apart t) t u
     → removed u (16 * i) (i + 1) q ≡ apart t (i + 1) q

@@ -8,7 +8,7 @@ ghost use Prim.Native.Nat.{ℕ, _+_, _*_, _≤_, _<_};
 ghost use lib.Dec.{eqb};
 ghost use lib.ListN.{length};
 ghost use Rattle.search.specs.Search.{some, Among};
-ghost use Rattle.roleset.specs.Row.{member, Placed};
+ghost use Rattle.roleset.specs.Row.{member};
 ghost use Rattle.order.specs.Table.{related, Tabled};
 ghost use Rattle.policy.specs.Tables.{rowOf, rLevelsAt, wLevelsAt, readersAt, writersAt, roleCount, cardCount, levelIn, flowsIn, circleIn};
 
@@ -92,15 +92,6 @@ pub fn flows(s: &[u8], from: usize, to: usize) -> bool
     false
 }
 
-// Puts the readers of a card into the row at `at`, where its role may write the card.
-fn flow_from(t: &mut [u8], at: usize, writes: bool, readers: [u8; 16])
-    ensures { λ _. ⌜ Placed at (λ q. member (now (t .entry)) at q || (writes && member readers 0 q)) (now (t .entry)) (now (t .exit)) ⌝ }
-{
-    if writes {
-        roleset::unite(t, at, readers);
-    }
-}
-
 // Relates each role that may write card o + 1 to each role that may read it.
 fn flow_past(t: &mut [u8], s: &[u8], o: usize)
     requires { ⌜ (2048 ≤ length (now t)) × (28688 ≤ length (now s)) × (o < 512) ⌝ }
@@ -109,9 +100,12 @@ fn flow_past(t: &mut [u8], s: &[u8], o: usize)
     let readers = roleset::row(s, 12304 + 16 * o);
     let mut i = 0;
     while i < 128 {
-        let writes = roleset::has(s, 20496 + 16 * o, i + 1);
-        flow_from(t, 16 * i, writes, readers);
-        i += 1;
+        let writer = roleset::next(s, 20496 + 16 * o, i);
+        if writer == 0 {
+            return;
+        }
+        roleset::unite(t, 16 * (writer - 1), readers);
+        i = writer;
     }
 }
 

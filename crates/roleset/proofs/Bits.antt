@@ -1,16 +1,18 @@
--- The bits of a number: of one made by `|`, `&` and `^`, of 2 ^ k and of 0; and a number below 2 ^ k is settled by its first k bits.
--- Two numbers share a bit where two of their bytes do.
+-- The bits of a number: of one made by `|`, `&`, `^` and `>>`, of 2 ^ k and of 0; and a number below 2 ^ k is settled by its first k bits.
+-- Two numbers share a bit where two of their bytes do. The lowest bit that is set stands above the trailing zeros.
 -- Assumes nothing.
-use Prim.Native.Nat.{ℕ, zero, suc, _+_, _*_, _/_, _%_, _^_, _<_}
+use Prim.Native.Nat.{ℕ, zero, suc, _+_, _-_, _*_, _/_, _%_, _^_, _<_}
 use mathlib.Core.Path.{_≡_, refl, sym, ap, ap₂, _∙_}
 use mathlib.Core.Logic.{_↔_}
 use mathlib.Core.Bool.{Bool, true, false, not, _&&_, _||_, cond, or-true, or-false}
 use native.Mathlib.Nat.{one-mul, zero-div, div-one, mul-mod-left, mul-div-cancel, div-div-eq-div-mul, pow-suc, pow-succ'}
 use native.Mathlib.Omega.{arith}
+use native.Mathlib.Decide.{decLt}
+use lib.Count.{under, trailingZeros}
 use lib.Dec.{eqb, eqb·zero-suc, eqb·suc-zero, eqb·suc-suc}
-use lib.Pow.{shl-exact}
+use lib.Pow.{pow-pos, shl-exact, shr-shr, field, mod-mod-pow}
 use lib.Bits.{bitAnd, bitOr, bitXor, and-shr, and-mod, and-lt, and-le-l, and-le-r, or-shr, or-mod, or-add-and, xor-shr, xor-mod}
-use borrow.Author.Tests.{eqb-true}
+use borrow.Author.Tests.{eqb-true, eq-eqb}
 use Rattle.roleset.specs.Row.{bit, littleEndian}
 
 -- a binary digit, from whether it is 1
@@ -75,6 +77,15 @@ same-bits (suc k) x y l m h =
     let last : x % 2 ≡ y % 2 = digit-of x ∙ ap digit (sym (bit-first x) ∙ h 0 (omega arith) ∙ bit-first y) ∙ sym (digit-of y) in
     omega arith
 
+pub bit-shr : (x k j : ℕ) → bit (x / 2 ^ k) j ≡ bit x (k + j)
+bit-shr x k j = rw shr-shr
+
+bit-mod : (k x j : ℕ) → j < k → bit (x % 2 ^ k) j ≡ bit x j
+bit-mod k x j l =
+    let e : (k - (1 + j)) + (1 + j) ≡ k = omega arith in
+    let cut : x % 2 ^ k % 2 ^ (1 + j) ≡ x % 2 ^ (1 + j) = rw e at (mod-mod-pow x (k - (1 + j)) (1 + j)) in
+    ap (λ (d : ℕ). eqb d 1) (sym (field (x % 2 ^ k) 1 j) ∙ ap (λ (d : ℕ). d / 2 ^ j) cut ∙ field x 1 j)
+
 -- `1 << k` at a byte
 bit-shifted : (k : ℕ) → k < 8 → (j : ℕ) → bit (1 * 2 ^ k % 256) j ≡ eqb j k
 bit-shifted k l j = ap (λ (x : ℕ). bit x j) (shl-exact {a = 1} 1 k 8 (omega arith) (omega arith) ∙ one-mul (2 ^ k)) ∙ bit-pow k j
@@ -135,3 +146,55 @@ bytes-apart (suc n) f g l m =
     each : bitAnd (f 0) (g 0) ≡ 0 → ((k : ℕ) → k < n → bitAnd (f (suc k)) (g (suc k)) ≡ 0) → (k : ℕ) → k < suc n → bitAnd (f k) (g k) ≡ 0
     each a b zero i = a
     each a b (suc k) i = b k (omega arith)
+
+-- the bits of a number are those of its bytes
+pub bit-byte : (n : ℕ) (f : ℕ → ℕ) → ((k : ℕ) → f k < 256) → (j : ℕ) → j < 8 * n → bit (littleEndian n f) j ≡ bit (f (j / 8)) (j % 8)
+unfolding littleEndian
+bit-byte zero f l j i = absurd (omega arith)
+bit-byte (suc n) f l j i =
+    let rest = littleEndian n (λ k. f (suc k)) in
+    let first = l 0 in
+    elim (decLt j 8) [
+      | yes m ↦
+          let low : (f 0 + 256 * rest) % 256 ≡ f 0 = omega arith in
+          let byte : j / 8 ≡ 0 = omega arith in
+          let place : j % 8 ≡ j = omega arith in
+          rw (byte, place) (sym (bit-mod 8 (f 0 + 256 * rest) j m) ∙ ap (λ (x : ℕ). bit x j) low)
+      | no m ↦
+          let high : (f 0 + 256 * rest) / 256 ≡ rest = omega arith in
+          let next : 8 + (j - 8) ≡ j = omega arith in
+          let byte : j / 8 ≡ suc ((j - 8) / 8) = omega arith in
+          let place : j % 8 ≡ (j - 8) % 8 = omega arith in
+          rw (byte, place)
+          (ap (bit (f 0 + 256 * rest)) (sym next) ∙ sym (bit-shr (f 0 + 256 * rest) 8 (j - 8)) ∙ ap (λ (x : ℕ). bit x (j - 8)) high
+          ∙ bit-byte n (λ k. f (suc k)) (λ k. l (suc k)) (j - 8) (omega arith))
+    ]
+
+-- no bit is set below as many as there are trailing zeros, and then one is
+pub trailing-clear : (n x j : ℕ) → j < trailingZeros n x → bit x j ≡ false
+unfolding trailingZeros
+trailing-clear zero x j l = absurd (omega arith)
+trailing-clear (suc n) x j l = go (trailing-clear n (x / 2)) (x % 2) refl j l
+  where
+    go : ((i : ℕ) → i < trailingZeros n (x / 2) → bit (x / 2) i ≡ false) → (d : ℕ) → x % 2 ≡ d
+        → (i : ℕ) → i < under d (trailingZeros n (x / 2)) → bit x i ≡ false
+    go rest zero e zero m = bit-first x ∙ rw e
+    go rest zero e (suc i) m = bit-next x i ∙ rest i (omega arith)
+    go rest (suc d) e i m = absurd (omega arith)
+
+pub trailing-set : (n x : ℕ) → trailingZeros n x < n → bit x (trailingZeros n x) ≡ true
+unfolding trailingZeros
+trailing-set zero x l = absurd (omega arith)
+trailing-set (suc n) x l = go (trailing-set n (x / 2)) (x % 2) refl l
+  where
+    go : (trailingZeros n (x / 2) < n → bit (x / 2) (trailingZeros n (x / 2)) ≡ true) → (d : ℕ) → x % 2 ≡ d
+        → under d (trailingZeros n (x / 2)) < suc n → bit x (under d (trailingZeros n (x / 2))) ≡ true
+    go rest zero e m = bit-next x (trailingZeros n (x / 2)) ∙ rest (omega arith)
+    go rest (suc d) e m = bit-first x ∙ eq-eqb (x % 2) 1 (omega arith)
+
+-- a number that is not 0 has fewer trailing zeros than digits
+pub trailing-within : (n k x : ℕ) → x < 2 ^ k → (x ≡ 0 → ⊥) → trailingZeros n x < k
+trailing-within n k x l some = elim (decLt (trailingZeros n x) k) [
+  | yes m ↦ m
+  | no m ↦ absurd (some (same-bits k x 0 l (pow-pos k) (λ j i. trailing-clear n x j (omega arith) ∙ sym (bit-zero j))))
+]

@@ -2,6 +2,7 @@
 --     whole xs at               the row at `at` lies wholly in xs
 --     member xs at r            the row of xs at `at` holds role r
 --     common xs a b             the rows at a and at b have a role in common
+--     nextMember xs at after    the lowest role above `after` that the row holds, or 0
 --     Placed at s xs ys         ys is xs with the set s in the row at `at`, and nothing else changed
 --     PlacedRows at n s xs ys   the same for n rows from `at` on
 --     littleEndian n f          n bytes as one number
@@ -12,7 +13,7 @@ use mathlib.Core.Bool.{Bool, true, not, _&&_, _||_}
 use mathlib.Core.List.{List}
 use lib.Dec.{leb, eqb}
 use lib.ListN.{length, getD}
-use Rattle.search.specs.Search.{among, some}
+use Rattle.search.specs.Search.{among, some, first}
 
 -- bit j of x
 abbrev pub bit : ℕ → ℕ → Bool
@@ -26,6 +27,9 @@ member xs at r = among 128 r && bit (getD xs (at + (r - 1) / 8) 0) ((r - 1) % 8)
 
 unfoldable pub common : List ℕ → ℕ → ℕ → Bool
 common xs a b = whole xs a && whole xs b && some 128 (λ r. member xs a r && member xs b r)
+
+abbrev pub nextMember : List ℕ → ℕ → ℕ → ℕ
+nextMember xs at after = first 128 (λ r. not (leb r after) && member xs at r)
 
 -- the set in the row at `at` with a role where `on`, and with it; a number that is no role's changes nothing
 abbrev pub addedWhere : List ℕ → ℕ → ℕ → Bool → ℕ → Bool

@@ -1,11 +1,11 @@
 // The same for a row that is known to lie in the slice, and the tests that tell.
 ghost use mathlib.Core.Path.{_≡_};
-ghost use mathlib.Core.Bool.{true, false, _&&_};
-ghost use Prim.Native.Nat.{ℕ, _+_, _*_, _≤_, _<_};
+ghost use mathlib.Core.Bool.{true, false, not, _&&_};
+ghost use Prim.Native.Nat.{ℕ, _+_, _-_, _*_, _≤_, _<_};
 ghost use lib.Dec.{leb};
 ghost use lib.ListN.{length, getD};
-ghost use Rattle.search.specs.Search.{among, some, Among};
-ghost use Rattle.roleset.specs.Row.{member, Placed, PlacedRows, added, removed, united, unitedWhere, littleEndian};
+ghost use Rattle.search.specs.Search.{among, some, first, Among};
+ghost use Rattle.roleset.specs.Row.{bit, member, nextMember, Placed, PlacedRows, added, removed, united, unitedWhere, littleEndian};
 
 // Whether n rows from `at` on lie wholly in `len` bytes, and whether one does.
 pub fn rows_lie(len: usize, at: usize, n: usize) -> bool
@@ -114,4 +114,43 @@ pub fn meet(s: &[u8], a: usize, t: &[u8], b: usize) -> bool
     let first = half(s, a) & half(t, b);
     let second = half(s, a + 8) & half(t, b + 8);
     (first | second) != 0
+}
+
+// The lowest bit above the first `after` that is set in x, or 0; bits are counted from 1.
+fn lowest_above(x: u64, after: usize) -> usize
+    ensures { λ r. ⌜ r ≡ first 64 (λ b. not (leb b after) && bit x (b - 1)) ⌝ }
+{
+    if 64 <= after {
+        return 0;
+    }
+    let rest = x >> after;
+    if rest == 0 {
+        return 0;
+    }
+    after + u64::trailing_zeros(rest) as usize + 1
+}
+
+// What `after` is past the first half of a row.
+fn past_half(after: usize) -> usize
+    ensures { λ r. ⌜ r ≡ after - 64 ⌝ }
+{
+    if after < 64 {
+        return 0;
+    }
+    after - 64
+}
+
+pub fn next(s: &[u8], at: usize, after: usize) -> usize
+    requires { ⌜ at + 16 ≤ length (now s) ⌝ }
+    ensures { λ r. ⌜ r ≡ nextMember (now (s .entry)) at after ⌝ }
+{
+    let low = lowest_above(half(s, at), after);
+    if low != 0 {
+        return low;
+    }
+    let high = lowest_above(half(s, at + 8), past_half(after));
+    if high == 0 {
+        return 0;
+    }
+    64 + high
 }

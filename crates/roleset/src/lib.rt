@@ -5,10 +5,10 @@
 mod inner;
 
 ghost use mathlib.Core.Path.{_≡_};
-ghost use mathlib.Core.Bool.{false, _&&_};
+ghost use mathlib.Core.Bool.{false, _&&_, cond};
 ghost use Prim.Native.Nat.{ℕ, _+_, _*_};
 ghost use Rattle.search.specs.Search.{some};
-ghost use Rattle.roleset.specs.Row.{whole, member, common, Placed, PlacedRows, added, addedWhere, removed, united, unitedWhere, joined};
+ghost use Rattle.roleset.specs.Row.{whole, member, common, nextMember, Placed, PlacedRows, added, addedWhere, removed, united, unitedWhere, joined};
 
 // Whether the row at `at` holds the role.
 pub fn has(s: &[u8], at: usize, role: usize) -> bool
@@ -21,6 +21,16 @@ pub fn has(s: &[u8], at: usize, role: usize) -> bool
         return false;
     }
     inner::has(s, at, role)
+}
+
+// The lowest role above `after` that the row at `at` holds, or 0.
+pub fn next(s: &[u8], at: usize, after: usize) -> usize
+    ensures { λ r. ⌜ r ≡ cond (whole (now (s .entry)) at) (nextMember (now (s .entry)) at after) 0 ⌝ }
+{
+    if !inner::lies(s.len(), at) {
+        return 0;
+    }
+    inner::next(s, at, after)
 }
 
 // Puts the role into the row at `at`.

@@ -1,6 +1,6 @@
 -- What the searches of `Search` find, as properties; that they see only what p says of the things 1 to n; and one turn of a loop that makes such a search.
 -- Assumes nothing.
-use Prim.Native.Nat.{ℕ, zero, suc, _+_, _≤_, _<_}
+use Prim.Native.Nat.{ℕ, zero, suc, _+_, _-_, _≤_, _<_}
 use mathlib.Core.Path.{_≡_, refl, sym, _∙_}
 use mathlib.Core.Logic.{_↔_, _⊎_, inl, inr, ⊎-elim}
 use mathlib.Core.Bool.{Bool, true, false, _&&_, _||_, cond, false≢true}
@@ -128,6 +128,16 @@ module _ (p : ℕ → Bool) where
   pub every-fails : (n i : ℕ) → i < n → p (i + 1) ≡ false → false ≡ every n p
   every-fails n i l h = sym (untrue (every n p) (λ e. both (every-at n e (i + 1) (omega arith)) h))
 
+  -- what is found among the first m things is found among all of them
+  pub first-sooner : (m n : ℕ) → m ≤ n → (first m p ≡ 0 → ⊥) → first m p ≡ first n p
+  first-sooner m n l = go (first m p) (first-finds m)
+    where
+      go : (a : ℕ) → Finds m a → (a ≡ 0 → ⊥) → a ≡ first n p
+      go zero none some = absurd (some refl)
+      go (suc a) low some =
+          let w = low .inside in
+          finds-first n (suc a) (record { inside = omega arith; holds = low .holds; lower = λ b v k. low .lower b (omega arith) k })
+
   pub first-yet : first 0 p ≡ 0
   unfolding first
   first-yet = refl
@@ -192,3 +202,27 @@ module _ (m n : ℕ) (l : m ≤ n) where
       let (i, j) = and-iff (leb a m) (s a) .0 (sym (h a w) ∙ k) in
       let b = leb-true a m i in
       implies-iff (s a) (p a) .0 (every-at (λ a. implies (s a) (p a)) m e a (omega arith)) j)))
+
+-- a search among m + n things that finds nothing among the first m is one among the others
+module _ (p : ℕ → Bool) (m n : ℕ) (vain : first m p ≡ 0) where
+  abbrev others : ℕ → Bool
+  others a = p (m + a)
+
+  past : (a : ℕ) → Among (m + n) a → (Among n (a - m) → others (a - m) ≡ false) → p a ≡ false
+  past a w h = elim (decLt m a) [
+    | yes k ↦ let i : m + (a - m) ≡ a = omega arith in rw i at (h (omega arith))
+    | no k ↦ first-none p m .0 vain a (omega arith)
+  ]
+
+  pub first-never : first n others ≡ 0 → first (m + n) p ≡ 0
+  first-never e = first-none p (m + n) .1 (λ a w. past a w (first-none others n .0 e (a - m)))
+
+  pub first-later : (a : ℕ) → 1 ≤ a → first n others ≡ a → first (m + n) p ≡ m + a
+  first-later a l e =
+      let low = first-lowest others n a l .0 e in
+      let w = low .inside in
+      first-lowest p (m + n) (m + a) (omega arith) .1 (record {
+        inside = omega arith;
+        holds = low .holds;
+        lower = λ b v k. past b v (λ u. low .lower (b - m) u (omega arith));
+      })

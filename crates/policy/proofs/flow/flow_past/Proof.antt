@@ -1,4 +1,4 @@
--- Each turn gives one row more its readers; those of the card were taken before the first.
+-- Each turn gives the next writer's row the readers, and the rows before it are no writer's; the readers were taken before the first.
 use Prim.Native.Nat.{_+_, _≤_, _-_}
 use mathlib.Core.Path.{_≡_}
 use native.Mathlib.Omega.{arith}
@@ -7,7 +7,7 @@ use denote.Ref.{now}
 use lib.ListN.{length}
 use Rattle.order.specs.Table.{Tabled}
 use Rattle.order.proofs.Seats.{seats-none}
-use Rattle.policy.proofs.Flowing.{pastCard, row-more, past-row}
+use Rattle.policy.proofs.Flowing.{pastCard, Turn, writer-within, writer-ahead, no-writer, writer-more}
 use Rattle.policy.proofs.flow.flow_past.Statement.{statement}
 use Rattle.policy.proofs.flow.flow_past.Tie as tie
 
@@ -17,21 +17,42 @@ Inv-loop t₀ s o readers i₀ t i = (i ≤ 128) × (length t ≡ length t₀) �
 abbrev μ-loop : tie.MeasureT-loop
 μ-loop t₀ s o readers i₀ t i = 128 - i
 
-loop-again : tie.Need-loop-again Inv-loop μ-loop
-loop-again c =
-    let turn = c .before .before .before .before .before .before in
-    let a = turn .before .before .before .before .args in
-    let w = turn .loop in
-    let h = pastCard (now (a .t)) (now (a .s)) (a .o + 1) in (
-      search needs,
-      search needs,
-      row-more h (now (a .t)) (w .t) (w .i) (search needs) (search needs) (search needs) (w .inv .2) _ _ (c .before .before .flow-from .ensures)
-          (λ q v. past-row (now (a .t)) (w .t) (now (a .s)) (a .o) (w .i) q (search needs) (search needs) (search needs) v (search needs) (search needs) _ _ (w .inv .2)
-          (c .before .before .before .before .has .ensures) (turn .before .row .ensures)),
-    )
+turn : (c : tie.After-next Inv-loop μ-loop)
+    → let a = c .before .before .before .before .before .before .args in
+    let w = c .before .before .loop in
+    Turn (now (a .t)) (w .t) (now (a .s)) (a .o) (w .i) (c .next .result)
+turn c = record {
+  long = search needs;
+  same = search needs;
+  fits = search needs;
+  card = search needs;
+  before = search needs;
+  next = c .next .ensures;
+  done = c .before .before .loop .inv .2;
+}
 
 returns : tie.Need-returns Inv-loop μ-loop
-returns c =
+returns c = no-writer (turn (c .before)) (c .if1 .taken)
+
+mul-unite : tie.Need-mul-unite Inv-loop μ-loop
+mul-unite c = omega (arith, writer-within (turn (c .before .before)))
+
+loop-less : tie.Need-loop-less Inv-loop μ-loop
+loop-less c =
+    let next = c .before .before .before .before in
+    omega (arith, writer-ahead (turn (next .before)) (next .if1 .left))
+
+loop-again : tie.Need-loop-again Inv-loop μ-loop
+loop-again c =
+    let next = c .before .before .before .before in (
+      writer-within (turn (next .before)),
+      search needs,
+      writer-more (turn (next .before)) (next .if1 .left) _ (c .before .before .unite .ensures)
+          (next .before .before .before .before .row .ensures),
+    )
+
+returns-2 : tie.Need-returns-2 Inv-loop μ-loop
+returns-2 c =
     let w = c .before .loop in
     let all : w .i ≡ 128 = omega arith in
     rw all at (w .inv .2)
@@ -48,12 +69,13 @@ flow-past-spec =
     (λ c. (search needs, search needs, seats-none _ _ _ (search needs)))
     (λ c. search needs)
     (λ c. search needs)
-    (λ c. search needs)
     (λ c κs. search needs)
     (λ c. search needs)
+    returns
+    (λ c. search needs)
+    mul-unite
     (λ c κs. search needs)
-    (λ c. search needs)
-    (λ c. search needs)
+    loop-less
     loop-again
     (λ c. search needs)
-    returns)
+    returns-2)
