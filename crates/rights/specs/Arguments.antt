@@ -2,7 +2,7 @@
 use Prim.Native.Nat.{ℕ, zero, suc, _+_, _-_, _*_}
 use mathlib.Core.List.{List}
 use mathlib.Core.Bool.{Bool, true, false, _&&_, cond}
-use lib.Dec.{leb, eqb}
+use lib.Dec.{ltb, leb, eqb}
 use lib.ListN.{length, getD}
 use Rattle.search.specs.Search.{every}
 use Rattle.rolefile.specs.Field.{isDigit}
@@ -31,10 +31,14 @@ isDot t = eqb (length t) 3 && (eqb (getD t 0 0) 100 && (eqb (getD t 1 0) 111 && 
 unfoldable pub asked : ℕ → List ℕ → Request
 asked count first = cond (isDot first) (cond (eqb count 3) (Of 2 true) Usage) (cond (leb 2 count) (Of 1 false) Usage)
 
--- how many users are told of: all of the state where the file is the last argument, else one for each that comes after it
-unfoldable pub turns : List ℕ → ℕ → ℕ
-turns xs count = cond (leb count 2) (knownUsers xs) (count - 2)
+-- an argument comes after the file
+abbrev pub namesUsers : ℕ → Bool
+namesUsers count = ltb 2 count
 
--- the user told of in turn i, from 1 on: the user i, or the one that the turn's argument asks for
+-- how many users are told of: one for each argument after the file, or all of the state where there is none
+unfoldable pub turns : List ℕ → ℕ → ℕ
+turns xs count = cond (namesUsers count) (count - 2) (knownUsers xs)
+
+-- the user told of in turn i, from 1 on: the one that the turn's argument asks for, or the user i where there is none
 unfoldable pub inTurn : List ℕ → ℕ → ℕ → List ℕ → ℕ
-inTurn xs count i t = cond (leb count 2) i (userAsked xs t)
+inTurn xs count i t = cond (namesUsers count) (userAsked xs t) i

@@ -79,11 +79,18 @@ pub fn asked(count: usize, first: &[u8]) -> Request
     }
 }
 
+// Whether an argument comes after the file.
+fn names_users(count: usize) -> bool
+    ensures { λ r. ⌜ r ≡ arguments.namesUsers count ⌝ }
+{
+    2 < count
+}
+
 // How many users are told of: one for each argument after the file, or all where there is none.
 pub fn turns(s: &[u8], count: usize) -> usize
     ensures { λ r. ⌜ r ≡ arguments.turns (now (s .entry)) count ⌝ }
 {
-    if 2 < count {
+    if names_users(count) {
         return count - 2;
     }
     monitor::review::users(s) as usize
@@ -93,7 +100,7 @@ pub fn turns(s: &[u8], count: usize) -> usize
 pub fn in_turn(s: &[u8], count: usize, i: usize, t: &[u8]) -> u64
     ensures { λ r. ⌜ r ≡ arguments.inTurn (now (s .entry)) count i (now (t .entry)) ⌝ }
 {
-    if 2 < count {
+    if names_users(count) {
         return user_asked(s, t);
     }
     i as u64

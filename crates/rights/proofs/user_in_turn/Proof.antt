@@ -1,14 +1,13 @@
--- There are no more turns than users, or fewer than arguments, so that the next number fits.
+-- There are fewer turns than arguments, or no more than users, so the next number fits.
 use Prim.Native.Nat.{ℕ, _-_, _≤_}
 use mathlib.Core.List.{List}
 use mathlib.Core.Bool.{Bool, true, false, cond}
 use native.Mathlib.Omega.{arith}
 use borrow.Author.Needs.{needs}
 use denote.Ref.{now}
-use lib.Dec.{leb}
 use Rattle.monitor.specs.Review.{knownUsers}
 use Rattle.monitor.proofs.Known.{few-users}
-use Rattle.rights.specs.Arguments.{turns}
+use Rattle.rights.specs.Arguments.{namesUsers, turns}
 use Rattle.rights.proofs.user_in_turn.Statement.{statement}
 use Rattle.rights.proofs.user_in_turn.Tie as tie
 
@@ -18,7 +17,7 @@ either false v w l k = k
 
 few-turns : (xs : List ℕ) (count m : ℕ) → 256 ≤ m → count - 2 ≤ m → turns xs count ≤ m
 unfolding turns
-few-turns xs count m l k = either (leb count 2) (knownUsers xs) (count - 2) (omega (arith, few-users xs)) k
+few-turns xs count m l k = either (namesUsers count) (count - 2) (knownUsers xs) k (omega (arith, few-users xs))
 
 add-arg : tie.Need-add-arg
 add-arg c =
