@@ -4,6 +4,12 @@ ghost use Prim.Native.Nat.{_<_};
 ghost use Rattle.rolefile.specs.Field.{isDigit};
 ghost use Rattle.rights.specs.Arguments as arguments;
 
+// What the program is asked: of the file that an argument names, its picture or the rights of its users.
+pub enum Request {
+    Usage,
+    Of { file: usize, drawn: bool },
+}
+
 // Whether the byte is a digit.
 fn is_digit(b: u8) -> bool
     ensures { λ r. ⌜ r ≡ isDigit b ⌝ }
@@ -31,7 +37,7 @@ fn numeral(t: &[u8]) -> u64
 }
 
 // The user of the state whose number the text is, or 0.
-pub fn user_asked(s: &[u8], t: &[u8]) -> u64
+fn user_asked(s: &[u8], t: &[u8]) -> u64
     ensures { λ r. ⌜ r ≡ arguments.userAsked (now (s .entry)) (now (t .entry)) ⌝ }
 {
     let user = numeral(t);
@@ -42,11 +48,60 @@ pub fn user_asked(s: &[u8], t: &[u8]) -> u64
 }
 
 // Whether the text is the word that asks for the picture.
-pub fn is_dot(t: &[u8]) -> bool
+fn is_dot(t: &[u8]) -> bool
     ensures { λ r. ⌜ r ≡ arguments.isDot (now (t .entry)) ⌝ }
 {
     if t.len() != 3 {
         return false;
     }
     (t[0] == b'd') & ((t[1] == b'o') & (t[2] == b't'))
+}
+
+// What so many arguments ask, the program's name among them, of which the first after it is the text.
+pub fn asked(count: usize, first: &[u8]) -> Request
+    ensures { λ r. ⌜ r ≡ arguments.asked count (now (first .entry)) ⌝ }
+{
+    if is_dot(first) {
+        if count != 3 {
+            return Request::Usage;
+        }
+        return Request::Of {
+            file: 2,
+            drawn: true,
+        };
+    }
+    if count < 2 {
+        return Request::Usage;
+    }
+    Request::Of {
+        file: 1,
+        drawn: false,
+    }
+}
+
+// Whether an argument comes after the file.
+fn names_users(count: usize) -> bool
+    ensures { λ r. ⌜ r ≡ arguments.namesUsers count ⌝ }
+{
+    2 < count
+}
+
+// How many users are told of: one for each argument after the file, or all where there is none.
+pub fn turns(s: &[u8], count: usize) -> usize
+    ensures { λ r. ⌜ r ≡ arguments.turns (now (s .entry)) count ⌝ }
+{
+    if names_users(count) {
+        return count - 2;
+    }
+    monitor::review::users(s) as usize
+}
+
+// The user told of in turn i, whose argument has this text; 0 where it asks for none.
+pub fn in_turn(s: &[u8], count: usize, i: usize, t: &[u8]) -> u64
+    ensures { λ r. ⌜ r ≡ arguments.inTurn (now (s .entry)) count i (now (t .entry)) ⌝ }
+{
+    if names_users(count) {
+        return user_asked(s, t);
+    }
+    i as u64
 }

@@ -1,12 +1,14 @@
 // Prints what a role file means for its users, or why it is refused.
 mod arguments;
 
+use arguments::Request;
 use libc::STDERR_FILENO;
 use libc::STDOUT_FILENO;
 ghost use mathlib.Core.Path.{_≡_};
 ghost use Prim.Native.Nat.{_≤_};
 ghost use lib.ListN.{length};
 ghost use Rattle.io.specs.Counts.{Counts};
+ghost use Rattle.rights.specs.Arguments.{turns};
 ghost use Rattle.rights.specs.Reading.{Within};
 
 // What came of reading a file.
@@ -23,7 +25,7 @@ fn read_on(fd: i32, file: &mut [u8], n: usize) -> usize
     n + io::read_full(fd, &mut file[n..])
 }
 
-// Reads a file's first 65,536 bytes, or says why it cannot.
+// Reads a file's first 65,536 bytes, or says why it cannot. The file stays open until the program ends.
 fn read_file(name: &[u8], file: &mut [u8]) -> Got
     ensures { λ r. ⌜ Within r (now (file .exit)) ⌝ }
 {
@@ -35,13 +37,10 @@ fn read_file(name: &[u8], file: &mut [u8]) -> Got
     let got = libc::read(fd, file);
     if got < 0 {
         os::fail(name);
-        libc::close(fd);
         return Got::Nothing;
     }
     let first = io::count(got, file);
-    let n = read_on(fd, file, first);
-    libc::close(fd);
-    Got::Bytes(n)
+    Got::Bytes(read_on(fd, file, first))
 }
 
 // Prints the way to call the program.
@@ -52,35 +51,38 @@ fn print_usage() {
     );
 }
 
-// Says that argument i is no user of the file.
-fn print_no_user(i: usize) {
-    let mut name = io::buffer();
-    let n = os::arg(i, &mut name);
+// Says that the text is no user of the file.
+fn print_no_user(name: &[u8]) {
     io::write_all(STDERR_FILENO, b"rights: ");
-    io::write_all(STDERR_FILENO, &name[..n]);
+    io::write_all(STDERR_FILENO, name);
     io::write_all(
         STDERR_FILENO,
         b" is not the number of a user of this file\n",
     );
 }
 
-// The user that argument i asks for, or 0.
-fn user_at(s: &[u8], i: usize) -> u64 {
+// The user told of in turn i. Where its argument asks for none, says so and answers 0.
+fn user_in_turn(s: &[u8], count: usize, i: usize) -> u64
+    requires { ⌜ i ≤ turns (now s) count ⌝ }
+{
     let mut name = io::buffer();
-    let n = os::arg(i, &mut name);
-    arguments::user_asked(s, &name[..n])
+    let n = os::arg(i + 1, &mut name);
+    let user = arguments::in_turn(s, count, i, &name[..n]);
+    if user == 0 {
+        print_no_user(&name[..n]);
+    }
+    user
 }
 
-// Whether each argument from the second on asks for a user; says which is the first that does not.
-fn all_users(s: &[u8]) -> bool {
-    let n = os::arg_count();
-    let mut i = 2;
+// Whether there is a user for each turn; says what argument is the first that asks for none.
+fn all_users(s: &[u8], count: usize) -> bool {
+    let n = arguments::turns(s, count);
+    let mut i = 0;
     while i < n {
-        if user_at(s, i) == 0 {
-            print_no_user(i);
+        i += 1;
+        if user_in_turn(s, count, i) == 0 {
             return false;
         }
-        i += 1;
     }
     true
 }
@@ -92,60 +94,49 @@ fn print(out: &[u8], n: usize)
     io::write_all(STDOUT_FILENO, &out[..n]);
 }
 
+// Room for any text that is printed.
+fn buffer() -> [u8; 1048576]
+    ensures { λ r. ⌜ 1048576 ≡ length r ⌝ }
+{
+    [0u8; 1048576]
+}
+
 // Prints all of a user.
-fn print_user(s: &[u8], user: u64, out: &mut [u8]) {
+fn print_user(s: &[u8], user: u64, out: &mut [u8; 1048576]) {
     let n = report::user::user_text(s, user, out);
     print(out, n);
 }
 
-// Prints each user of the file.
-fn print_users(s: &[u8], out: &mut [u8]) {
-    let n = monitor::review::users(s);
+// Prints the user of each turn.
+fn print_users(s: &[u8], count: usize) {
+    let mut out = buffer();
+    let n = arguments::turns(s, count);
     let mut i = 0;
     while i < n {
-        print_user(s, i + 1, out);
         i += 1;
-    }
-}
-
-// Prints each user that an argument asks for.
-fn print_asked(s: &[u8], out: &mut [u8]) {
-    let n = os::arg_count();
-    let mut i = 2;
-    while i < n {
-        print_user(s, user_at(s, i), out);
-        i += 1;
+        print_user(s, user_in_turn(s, count, i), &mut out);
     }
 }
 
 // Prints the roles that nobody can take and the cards that nobody can read.
-fn print_nobody(s: &[u8], out: &mut [u8]) {
-    let n = report::user::nobody_text(s, out);
-    print(out, n);
+fn print_nobody(s: &[u8]) {
+    let mut out = buffer();
+    let n = report::user::nobody_text(s, &mut out);
+    print(&out, n);
 }
 
-// Prints the users that are asked for, or all where none is.
-fn print_each(s: &[u8], out: &mut [u8]) {
-    if os::arg_count() < 3 {
-        print_users(s, out);
-        return;
-    }
-    print_asked(s, out);
-}
-
-// Prints what the state means for its users.
+// Prints what the state means for the users told of, where each argument asks for one.
 fn print_rights(s: &[u8]) {
-    if !all_users(s) {
-        return;
+    let count = os::arg_count();
+    if all_users(s, count) {
+        print_users(s, count);
+        print_nobody(s);
     }
-    let mut out = [0u8; 304200];
-    print_each(s, &mut out);
-    print_nobody(s, &mut out);
 }
 
 // Prints why the file is refused.
 fn print_refusal(file: &[u8], verdict: rolefile::Verdict) {
-    let mut out = [0u8; 256];
+    let mut out = buffer();
     let n = report::refusal::refusal(
         file,
         verdict.number,
@@ -154,13 +145,6 @@ fn print_refusal(file: &[u8], verdict: rolefile::Verdict) {
         &mut out,
     );
     print(&out, n);
-}
-
-// Room for the graph of any state.
-fn buffer() -> [u8; 1048576]
-    ensures { λ r. ⌜ 1048576 ≡ length r ⌝ }
-{
-    [0u8; 1048576]
 }
 
 // Prints the policy as a graph.
@@ -200,26 +184,13 @@ fn answer(i: usize, drawn: bool) {
     print_answer(&file[..n], drawn);
 }
 
-// Whether the first argument is the word that asks for the graph.
-fn asks_graph() -> bool {
-    let mut name = io::buffer();
-    let n = os::arg(1, &mut name);
-    arguments::is_dot(&name[..n])
-}
-
 fn main() {
-    let n = os::arg_count();
-    if n < 2 {
+    let mut first = io::buffer();
+    let n = os::arg(1, &mut first);
+    let asked = arguments::asked(os::arg_count(), &first[..n]);
+    let Request::Of { file, drawn } = asked else {
         print_usage();
         return;
-    }
-    if !asks_graph() {
-        answer(1, false);
-        return;
-    }
-    if n != 3 {
-        print_usage();
-        return;
-    }
-    answer(2, true);
+    };
+    answer(file, drawn);
 }

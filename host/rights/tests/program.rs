@@ -260,7 +260,6 @@ fn arguments_that_are_no_user() {
     }
 }
 
-/// Arguments longer than any path get one line too, which does not repeat them.
 /// A file whose name is a user's number is not taken for the user.
 #[test]
 fn file_named_as_a_user() {
@@ -278,6 +277,7 @@ fn file_named_as_a_user() {
     assert!(!printed.stdout.is_empty());
 }
 
+/// Arguments longer than any path get one line too, which does not repeat them.
 #[test]
 fn arguments_longer_than_a_path() {
     let file = example_file();
@@ -322,6 +322,19 @@ fn a_refused_file_comes_first() {
         assert!(agrees(&[file.name(), user.into()]) == alone, "{user}");
     }
     assert!(agrees(&["dot".into(), file.name()]) == alone);
+}
+
+/// Without a standard input the file gets its number, 0.
+#[test]
+fn no_standard_input() {
+    let file = example_file();
+    let printed = Command::new("sh")
+        .args(["-c", "exec \"$0\" \"$1\" <&-"])
+        .args([program().into_os_string(), file.name()])
+        .output()
+        .expect("a run");
+    let wanted = expected(&[file.name()]);
+    assert!(printed.stdout == wanted.output && printed.stderr.is_empty());
 }
 
 /// It reads the file and leaves it as it was.

@@ -1,14 +1,16 @@
--- Each turn goes on to the next argument.
+-- Each turn is one of the turns.
 use Prim.Native.Nat.{_-_}
+use mathlib.Core.Path.{_≡_}
 use borrow.Author.Needs.{needs}
+use Rattle.rights.specs.Arguments.{turns}
 use Rattle.rights.proofs.all_users.Statement.{statement}
 use Rattle.rights.proofs.all_users.Tie as tie
 
 abbrev Inv-loop : tie.InvT-loop
-Inv-loop s n i₀ i = Unit {0}
+Inv-loop s count n i₀ i = n ≡ turns s count
 
 abbrev μ-loop : tie.MeasureT-loop
-μ-loop s n i₀ i = n - i
+μ-loop s count n i₀ i = n - i
 
 pub all-users-spec : {M : Type 1} → statement M
 all-users-spec =
@@ -17,11 +19,10 @@ all-users-spec =
     Inv-loop
     μ-loop
     (λ c κs. search needs)
-    (λ c. tt)
+    (λ c. search needs)
+    (λ c. search needs)
     (λ c κs. search needs)
-    (λ c κs. search needs)
     (λ c. search needs)
     (λ c. search needs)
     (λ c. search needs)
-    (λ c. tt)
     (λ c. search needs))
