@@ -1,19 +1,15 @@
-"""Applies small edits to the crates' code and reports which of them the prover refuses.
+"""Applies small edits to the crates' code and reports which of them the gate refuses.
 
 usage: mutate.py [--mutants N] [--seed S] [--minutes M] [--crates A,B]
 
 Edits are drawn with a fixed seed, so many of each crate as it has code. One that does not compile is
-drawn again. An edit is first checked over an incremental folder, where a refusal stands; one that is
-proved there is checked again as a whole, a program by `rt check`, which runs it too.
-Results are kept under target/mutation, so that a run that was ended goes on, and one with a new
-remark in equivalent.txt only writes the report. With --crates no report is written.
+drawn again. judge.py says how an edit is judged. Results are kept under target/mutation, so that a run
+that was ended goes on, and one with a new remark in equivalent.txt only writes the report. With
+--crates no report is written.
 """
 import argparse
-import functools
-import hashlib
 import random
 import re
-import shutil
 import subprocess
 import sys
 import time
@@ -21,15 +17,12 @@ from collections import namedtuple
 from pathlib import Path
 
 import report
+from judge import ROOT, WORK, result_of
 from sites import code_lines, sites
 
-ROOT = Path(__file__).resolve().parents[2]
-WORK = ROOT / "target" / "mutation"
-RLIBS = ROOT / "target" / "rlib"
 CRATES = ["roleset", "order", "rolefile", "policy", "monitor", "text", "rolecheck", "report", "graph", "rights"]
 
 Mutant = namedtuple("Mutant", "crate path line function operator old new text")
-Outcome = namedtuple("Outcome", "result place")
 
 
 def source_files(crate):
@@ -94,126 +87,6 @@ def turns(share):
     """The crates in the order in which they are drawn from, each spread over the whole run."""
     slots = [((k + 1) / n, c) for c, n in share.items() for k in range(n)]
     return [c for _, c in sorted(slots)]
-
-
-def dependencies(crate):
-    """What crates.txt says that a crate depends on."""
-    for line in (ROOT / "crates.txt").read_text().splitlines():
-        name, _, rest = line.partition(":")
-        if name.strip() == crate:
-            return rest.split()
-    raise ValueError(f"crates.txt does not list {crate}")
-
-
-def command(crate, more):
-    """The check of the crate's copy against its proved dependencies."""
-    ours = [d for d in dependencies(crate) if (ROOT / "crates" / d).is_dir()]
-    kit = [d for d in dependencies(crate) if d not in ours]
-    words = ["rt", "check", f"./{crate}", "--deps", ",".join(kit), "-L", f"dependency={RLIBS}"]
-    for d in ours:
-        words += ["--extern", f"{d}={RLIBS / d}.rlib"]
-    return words + more
-
-
-def copy_crate(crate):
-    """A fresh copy of the crate to edit."""
-    folder = WORK / crate
-    shutil.rmtree(folder, ignore_errors=True)
-    for part in ("src", "specs", "proofs"):
-        shutil.copytree(ROOT / "crates" / crate / part, folder / part)
-    return folder
-
-
-def run_check(crate, more):
-    """The check's exit status and what it said."""
-    done = subprocess.run(command(crate, more), cwd=WORK, stdout=subprocess.PIPE, stderr=subprocess.STDOUT,
-                          text=True, errors="replace", check=False)
-    return done.returncode, done.stdout
-
-
-def first_error(said, crate):
-    """The place of the first error."""
-    found = re.search(r"^(\S+): error", said, re.M) or re.search(r"^note: (\S+:\d+:\d+):", said, re.M)
-    if not found:
-        return ""
-    return re.sub(rf"^.*?\b{crate}/(?=src/|specs/|proofs/)", "", found[1])
-
-
-def outcome(crate, more):
-    """What the prover says of the crate's copy."""
-    status, said = run_check(crate, more)
-    if status == 0:
-        return Outcome("survived", ""), said
-    if status == 1 and re.search(r"^logic=not-proved", said, re.M):
-        return Outcome("refused", first_error(said, crate)), said
-    return Outcome("no mutant" if status in (1, 2) else "not told", first_error(said, crate)), said
-
-
-def incremental(crate):
-    return ["--incremental", str(WORK / "incremental" / crate)]
-
-
-@functools.cache
-def warm(crate):
-    """Proves the crate's unedited copy, which fills its incremental folder."""
-    copy_crate(crate)
-    if outcome(crate, incremental(crate))[0].result != "survived":
-        sys.exit(f"{crate} is not proved before any edit")
-
-
-def run_of(m):
-    """What `rt check` says of a program: it proves it whole, runs it, and holds it to its file stdout."""
-    folder = WORK / "repository"
-    shutil.rmtree(folder, ignore_errors=True)
-    for part in ("crates", "target/rlib", "target/stamp"):
-        shutil.copytree(ROOT / part, folder / part)
-    shutil.copy(ROOT / "crates.txt", folder)
-    (folder / m.path).write_text(m.text)
-    done = subprocess.run(["rt", "check", m.crate], cwd=folder, stdout=subprocess.PIPE, stderr=subprocess.STDOUT,
-                          text=True, errors="replace", check=False)
-    if done.returncode == 0:
-        return Outcome("survived", ""), done.stdout
-    if "its run FAILED" in done.stdout:
-        return Outcome("refused by its run", ""), done.stdout
-    return Outcome("refused", first_error(done.stdout, m.crate)), done.stdout
-
-
-def tried(m):
-    """The outcome of a mutant, and the log of its check."""
-    warm(m.crate)
-    folder = copy_crate(m.crate)
-    (folder / Path(m.path).relative_to(f"crates/{m.crate}")).write_text(m.text)
-    first, said = outcome(m.crate, incremental(m.crate))
-    if first.result != "survived":
-        return first, said
-    if (folder / "src" / "main.rt").exists():
-        return run_of(m)
-    return outcome(m.crate, [])
-
-
-def key_of(m):
-    """A name for the mutant's check: its text, the crate around it, and the stamps below it."""
-    total = hashlib.sha256(m.text.encode())
-    total.update(m.path.encode())
-    for part in ("src", "specs", "proofs"):
-        for path in sorted((ROOT / "crates" / m.crate / part).rglob("*")):
-            if path.is_file():
-                total.update(path.read_bytes())
-    for d in dependencies(m.crate):
-        stamp = ROOT / "target" / "stamp" / d
-        total.update(stamp.read_bytes() if stamp.exists() else d.encode())
-    return total.hexdigest()[:32]
-
-
-def result_of(m):
-    """The outcome of a mutant, from an earlier run where there is one."""
-    kept = WORK / "results" / key_of(m)
-    if not kept.exists():
-        found, said = tried(m)
-        kept.with_suffix(".log").write_text(said)
-        kept.write_text(f"{found.result}\n{found.place}\n")
-    result, place = kept.read_text().split("\n")[:2]
-    return Outcome(result, place)
 
 
 def draw(order, crate, deadline):

@@ -1,8 +1,9 @@
-"""Writes REPORT.md: what was drawn, what the prover or a program's run refused, and why each survivor survives."""
+"""Writes REPORT.md: what was drawn, what the gate refused and at which step, and why each survivor survives."""
 import sys
 
-# The prover refuses; it proves, and the program then writes something else than its file stdout; it proves.
-RESULTS = ["refused", "refused by its run", "survived"]
+# The prover refuses; it proves, and the program writes something else than its file stdout; it does so in a host
+# test of the gate; nothing refuses.
+RESULTS = ["refused", "refused by its run", "refused by the gate's tests", "survived"]
 
 
 def remarks(path):
@@ -50,8 +51,9 @@ def by_crate(counts, done):
 def told(done, known=None):
     """The mutants one by one, with their remarks where `known` has them."""
     text = ""
-    for m, _ in done:
-        why = " " + known.get((m.path, m.function, m.old, m.new), "OPEN: no remark yet") if known is not None else ""
+    for m, o in done:
+        test = f" {o.place}." if o.place else ""
+        why = " " + known.get((m.path, m.function, m.old, m.new), "OPEN: no remark yet") if known is not None else test
         text += f"- `{m.path}:{m.line}`, `{m.function}`, {m.operator}: `{m.old}` → `{m.new}`.{why}\n"
     return text or "None.\n"
 
@@ -69,15 +71,16 @@ def write(folder, seed, asked, counts, done):
     """Writes the report into the folder."""
     known = remarks(folder / "equivalent.txt")
     done = sorted(done, key=lambda pair: (list(counts).index(pair[0].crate), pair[0].path, pair[0].line))
-    refused, run, left = (those(done, result) for result in RESULTS)
+    refused, run, tests, left = (those(done, result) for result in RESULTS)
     text = "# Mutation of the product\n\n"
     text += f"`make mutation MUTANTS={asked} SEED={seed}` wrote this; README.md says how. "
     text += f"{len(done)} of the {sum(counts.values())} sites were drawn. The prover refuses {len(refused)} of these edits, "
-    text += f"and the program's run {len(run)} more.\n\n" + by_crate(counts, done)
+    text += f"a program's run {len(run)} more, and the gate's tests of a program {len(tests)} more.\n\n" + by_crate(counts, done)
     text += "\n## Survivors\n\n" + told(left, known)
-    text += "\n## Refused by the program's run\n\n"
-    text += "The kit's contracts do not say what is read and written, so the arguments of `main`'s calls are held by its run alone.\n\n"
+    text += "\n## Refused by a program's run\n\n"
+    text += "The kit's contracts cannot say what a program reads and writes, so its decisions are proved and its reading and writing are tested.\n\n"
     text += told(run)
+    text += "\n## Refused by the gate's tests of a program\n\n" + told(tests)
     text += "\n## All that were drawn\n\n" + all_drawn(done)
     (folder / "REPORT.md").write_text(text)
-    print(f"{len(done)} drawn, {len(refused)} refused, {len(run)} refused by the run, {len(left)} survived", file=sys.stderr)
+    print(f"{len(done)} drawn, {len(refused)} refused, {len(run)} refused by the run, {len(tests)} by the tests, {len(left)} survived", file=sys.stderr)

@@ -1,0 +1,184 @@
+"""Judges an edit as the gate does: by the prover, by a program's run, and by the gate's host tests of the program.
+
+The kit's contracts cannot say what a program reads and writes, so its decisions are proved and its
+reading and writing are tested. Results are kept under target/mutation.
+"""
+import functools
+import hashlib
+import re
+import shutil
+import subprocess
+import sys
+from collections import namedtuple
+from pathlib import Path
+
+ROOT = Path(__file__).resolve().parents[2]
+WORK = ROOT / "target" / "mutation"
+RLIBS = ROOT / "target" / "rlib"
+BUILT = "host/checker/target/release"
+
+Outcome = namedtuple("Outcome", "result place", defaults=[""])
+
+
+def said_by(words, folder):
+    """A command's exit status and what it said."""
+    done = subprocess.run(words, cwd=folder, stdout=subprocess.PIPE, stderr=subprocess.STDOUT,
+                          text=True, errors="replace", check=False)
+    return done.returncode, done.stdout
+
+
+def dependencies(crate):
+    """What crates.txt says that a crate depends on."""
+    for line in (ROOT / "crates.txt").read_text().splitlines():
+        name, _, rest = line.partition(":")
+        if name.strip() == crate:
+            return rest.split()
+    raise ValueError(f"crates.txt does not list {crate}")
+
+
+def is_program(crate):
+    return (ROOT / "crates" / crate / "src" / "main.rt").exists()
+
+
+def command(crate, more):
+    """The check of the crate's copy against its proved dependencies."""
+    ours = [d for d in dependencies(crate) if (ROOT / "crates" / d).is_dir()]
+    kit = [d for d in dependencies(crate) if d not in ours]
+    words = ["rt", "check", f"./{crate}", "--deps", ",".join(kit), "-L", f"dependency={RLIBS}"]
+    for d in ours:
+        words += ["--extern", f"{d}={RLIBS / d}.rlib"]
+    return words + more
+
+
+def copy_crate(crate):
+    """A fresh copy of the crate to edit."""
+    folder = WORK / crate
+    shutil.rmtree(folder, ignore_errors=True)
+    for part in ("src", "specs", "proofs"):
+        shutil.copytree(ROOT / "crates" / crate / part, folder / part)
+    return folder
+
+
+def first_error(said, crate):
+    """The place of the first error."""
+    found = re.search(r"^(\S+): error", said, re.M) or re.search(r"^note: (\S+:\d+:\d+):", said, re.M)
+    if not found:
+        return ""
+    return re.sub(rf"^.*?\b{crate}/(?=src/|specs/|proofs/)", "", found[1])
+
+
+def outcome(crate, more):
+    """What the prover says of the crate's copy."""
+    status, said = said_by(command(crate, more), WORK)
+    if status == 0:
+        return Outcome("survived"), said
+    if status == 1 and re.search(r"^logic=not-proved", said, re.M):
+        return Outcome("refused", first_error(said, crate)), said
+    return Outcome("no mutant" if status in (1, 2) else "not told", first_error(said, crate)), said
+
+
+def incremental(crate):
+    return ["--incremental", str(WORK / "incremental" / crate)]
+
+
+@functools.cache
+def build_checker():
+    """Builds the second checker, against which `rolecheck` is tested."""
+    words = ["cargo", "build", "--release", "--offline", "--quiet", "--manifest-path", "host/checker/Cargo.toml"]
+    if said_by(words, ROOT)[0] != 0:
+        sys.exit("host/checker does not build")
+
+
+def host_tests(crate, program):
+    """The commands of the gate that test a built program."""
+    if crate == "rights":
+        words = ["cargo", "test", "--release", "--offline", "--quiet", "--manifest-path", "host/rights/Cargo.toml"]
+        return [["env", f"RIGHTS_BIN={program}"] + words]
+    build_checker()
+    return [["host/cases/run", str(program), f"{BUILT}/second-checker"],
+            [f"{BUILT}/differential", str(program), "3000", "1"]]
+
+
+def tests_of(crate, program):
+    """What the gate's host tests say of a built program, and the name of the first that refuses it."""
+    text = ""
+    for words in host_tests(crate, program):
+        status, said = said_by(words, ROOT)
+        text += said
+        if status != 0:
+            test = re.search(r"^---- (\S+) stdout ----", said, re.M)
+            name = f"host/rights, {test[1]}" if test else words[0].removeprefix(f"{BUILT}/")
+            return Outcome("refused by the gate's tests", name), text
+    return Outcome("survived"), text
+
+
+@functools.cache
+def warm(crate):
+    """Proves the crate's unedited copy, which fills its incremental folder, and tests an unedited program."""
+    copy_crate(crate)
+    if outcome(crate, incremental(crate))[0].result != "survived":
+        sys.exit(f"{crate} is not proved before any edit")
+    if is_program(crate) and tests_of(crate, ROOT / "target" / "bin" / crate)[0].result != "survived":
+        sys.exit(f"{crate} does not pass the gate's tests before any edit")
+
+
+def run_of(m):
+    """What `rt check` says of a program: proved whole, run, and held to its file stdout; then the gate's tests."""
+    folder = WORK / "repository"
+    shutil.rmtree(folder, ignore_errors=True)
+    for part in ("crates", "target/rlib", "target/stamp"):
+        shutil.copytree(ROOT / part, folder / part)
+    shutil.copy(ROOT / "crates.txt", folder)
+    (folder / m.path).write_text(m.text)
+    status, said = said_by(["rt", "check", m.crate], folder)
+    if status == 0:
+        return tests_of(m.crate, folder / "target" / "bin" / m.crate)
+    if "its run FAILED" in said:
+        return Outcome("refused by its run"), said
+    return Outcome("refused", first_error(said, m.crate)), said
+
+
+def tried(m):
+    """The outcome of a mutant, and the log of its check."""
+    warm(m.crate)
+    folder = copy_crate(m.crate)
+    (folder / Path(m.path).relative_to(f"crates/{m.crate}")).write_text(m.text)
+    first, said = outcome(m.crate, incremental(m.crate))
+    if first.result != "survived":
+        return first, said
+    return run_of(m) if is_program(m.crate) else outcome(m.crate, [])
+
+
+def judged_by(crate):
+    """The files that bear on the outcome of a crate's mutants: its own, and a program's runs and tests."""
+    own = ROOT / "crates" / crate
+    folders = [own / part for part in ("src", "specs", "proofs")]
+    if is_program(crate):
+        folders += [own / part for part in ("stdin", "stdout", "args", "data")]
+        folders += [ROOT / "host" / part for part in ("cases", "checker/src", "rights/src", "rights/tests")]
+    for folder in folders:
+        yield from sorted(path for path in [folder, *folder.rglob("*")] if path.is_file())
+
+
+def key_of(m):
+    """A name for the mutant's check: its text, what judges it, and the stamps below it."""
+    total = hashlib.sha256(m.text.encode())
+    total.update(m.path.encode())
+    for path in judged_by(m.crate):
+        total.update(path.read_bytes())
+    for d in dependencies(m.crate):
+        stamp = ROOT / "target" / "stamp" / d
+        total.update(stamp.read_bytes() if stamp.exists() else d.encode())
+    return total.hexdigest()[:32]
+
+
+def result_of(m):
+    """The outcome of a mutant, from an earlier run where there is one."""
+    kept = WORK / "results" / key_of(m)
+    kept.parent.mkdir(parents=True, exist_ok=True)
+    if not kept.exists():
+        found, said = tried(m)
+        kept.with_suffix(".log").write_text(said)
+        kept.write_text(f"{found.result}\n{found.place}\n")
+    result, place = kept.read_text().split("\n")[:2]
+    return Outcome(result, place)
