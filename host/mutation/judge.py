@@ -1,8 +1,11 @@
 """Judges an edit as the gate does: by the prover, by a program's run, and by the gate's host tests of the program.
 
 The kit's contracts cannot say what a program reads and writes, so its decisions are proved and its
-reading and writing are tested. Results are kept under target/mutation.
+reading and writing are tested. Results are kept under target/mutation, in a folder or file for each
+crate or edit, so that two processes over different crates do not meet.
 """
+import contextlib
+import fcntl
 import functools
 import hashlib
 import re
@@ -25,6 +28,14 @@ def said_by(words, folder):
     done = subprocess.run(words, cwd=folder, stdout=subprocess.PIPE, stderr=subprocess.STDOUT,
                           text=True, errors="replace", check=False)
     return done.returncode, done.stdout
+
+
+@contextlib.contextmanager
+def alone():
+    """Holds off other processes of this program, since two of `rt check` in one repository mix their notes."""
+    with open(WORK / "lock", "w", encoding="utf-8") as lock:
+        fcntl.flock(lock, fcntl.LOCK_EX)
+        yield
 
 
 def dependencies(crate):
@@ -124,7 +135,7 @@ def warm(crate):
 
 def run_of(m):
     """What `rt check` says of a program: proved whole, run, and held to its file stdout; then the gate's tests."""
-    folder = WORK / "repository"
+    folder = WORK / "repository" / m.crate
     shutil.rmtree(folder, ignore_errors=True)
     for part in ("crates", "target/rlib", "target/stamp"):
         shutil.copytree(ROOT / part, folder / part)

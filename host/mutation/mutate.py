@@ -5,19 +5,18 @@ usage: mutate.py [--mutants N] [--seed S] [--minutes M] [--crates A,B]
 Edits are drawn with a fixed seed, so many of each crate as it has code. One that does not compile is
 drawn again. judge.py says how an edit is judged. Results are kept under target/mutation, so that a run
 that was ended goes on, and one with a new remark in equivalent.txt only writes the report. With
---crates no report is written.
+--crates only these crates' part of the run is made, and no report is written.
 """
 import argparse
 import random
 import re
-import subprocess
 import sys
 import time
 from collections import namedtuple
 from pathlib import Path
 
 import report
-from judge import ROOT, WORK, result_of
+from judge import ROOT, WORK, alone, result_of, said_by
 from sites import code_lines, sites
 
 CRATES = ["roleset", "order", "rolefile", "policy", "monitor", "text", "rolecheck", "report", "graph", "rights"]
@@ -122,15 +121,16 @@ def main():
     words.add_argument("--mutants", type=int, default=80)
     words.add_argument("--seed", type=int, default=1)
     words.add_argument("--minutes", type=float, default=240, help="draw no more after so long")
-    words.add_argument("--crates", default="", help="draw from these alone, and write no report")
+    words.add_argument("--crates", default="", help="try their part alone, and write no report")
     words = words.parse_args()
     (WORK / "results").mkdir(parents=True, exist_ok=True)
     some = [c for c in words.crates.split(",") if c]
     crates = some or CRATES
-    if subprocess.run(["rt", "check"] + some, cwd=ROOT, stdout=subprocess.DEVNULL, check=False).returncode != 0:
-        sys.exit("the crates are not proved")
+    with alone():
+        if said_by(["rt", "check"] + some, ROOT)[0] != 0:
+            sys.exit("the crates are not proved")
     found = {c: mutants_of(c) for c in crates}
-    share = shares(words.mutants, crates)
+    share = {c: n for c, n in shares(words.mutants, CRATES).items() if c in crates}
     order = {c: drawn_order(found[c], words.seed, c) for c in crates}
     done = run(order, share, time.time() + 60 * words.minutes)
     counts = {c: len(found[c]) for c in crates}
