@@ -20,7 +20,25 @@ WORK = ROOT / "target" / "mutation"
 RLIBS = ROOT / "target" / "rlib"
 BUILT = "host/checker/target/release"
 
-Outcome = namedtuple("Outcome", "result place", defaults=[""])
+# Where the prover refuses, the kind is that of the first error: `fact` or `unfit`.
+Outcome = namedtuple("Outcome", "result place kind", defaults=["", ""])
+
+# How the checker says that a proof does not fit the function's shape any more: a need, a field or an argument
+# is missing, is one too many, or is another.
+UNFIT = re.compile(
+    r"has no `[^`]*` that can be named from here"
+    r"|\bhas no field `"
+    r"|but this has type `(?:\S*\.)?Need-"
+    r"|this pattern needs a function"
+    r"|this λ is checked against `[^`]*`, which is not a function"
+    r"|on the face `κs")
+
+# How it says that something is left unchecked because of an earlier error.
+CONSEQUENCE = "was not admitted"
+
+# Edits after which a function has fewer needs, so that an error among the arguments of its `-spec`, which go by
+# their place, may be at another need than the one that was meant.
+FEWER = ("test left out", "call left out")
 
 
 def said_by(words, folder):
@@ -70,12 +88,27 @@ def copy_crate(crate):
     return folder
 
 
+def errors(said):
+    """The checker's errors, each with its further lines, but for those that only follow from others."""
+    found = re.findall(r"^\S+: error.*(?:\n  .*)*", said, re.M)
+    return [error for error in found if CONSEQUENCE not in error]
+
+
 def first_error(said, crate):
-    """The place of the first error."""
-    found = re.search(r"^(\S+): error", said, re.M) or re.search(r"^note: (\S+:\d+:\d+):", said, re.M)
+    """The place of the first error, or of the function that `search` does not prove."""
+    place = [error.split(": error")[0] for error in errors(said)] + re.findall(r"^note: (\S+:\d+:\d+):", said, re.M)
+    return re.sub(rf"^.*?\b{crate}/(?=src/|specs/|proofs/)", "", place[0]) if place else ""
+
+
+def kind_of(said, operator):
+    """What the first error is at: a fact that does not hold, or a place where the proof does not fit."""
+    found = errors(said)
     if not found:
-        return ""
-    return re.sub(rf"^.*?\b{crate}/(?=src/|specs/|proofs/)", "", found[1])
+        return "fact" if re.search(r"^fn \S+: no proof: expected .*; `search` does not close ", said, re.M) else "unfit"
+    place, _, words = found[0].partition(": error: ")
+    if "/proofs/" not in place or UNFIT.search(words):
+        return "unfit"
+    return "unfit" if operator in FEWER and re.match(r"`[^`]*-spec`", words) else "fact"
 
 
 def outcome(crate, more):
@@ -192,4 +225,5 @@ def result_of(m):
         kept.with_suffix(".log").write_text(said)
         kept.write_text(f"{found.result}\n{found.place}\n")
     result, place = kept.read_text().split("\n")[:2]
-    return Outcome(result, place)
+    said = kept.with_suffix(".log").read_text()
+    return Outcome(result, place, kind_of(said, m.operator) if result == "refused" else "")

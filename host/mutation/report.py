@@ -6,6 +6,11 @@ import sys
 RESULTS = ["refused", "refused by its run", "refused by the gate's tests", "survived"]
 
 
+def at_fact(outcome):
+    """Whether the prover refuses, and at a fact."""
+    return outcome.kind == "fact"
+
+
 def remarks(path):
     """The remarks on survivors, by file, function, old and new line."""
     found, entry = {}, {}
@@ -60,10 +65,10 @@ def told(done, known=None):
 
 def all_drawn(done):
     """The table of all mutants that were drawn."""
-    text = table("crate", "place", "operator", "old → new", "result", "first error")
+    text = table("crate", "place", "operator", "old → new", "result", "first error", "kind")
     for m, o in done:
         place = m.path.removeprefix(f"crates/{m.crate}/src/") + f":{m.line}"
-        text += row(m.crate, place, m.operator, f"{cell(m.old)} → {cell(m.new)}", o.result, o.place)
+        text += row(m.crate, place, m.operator, f"{cell(m.old)} → {cell(m.new)}", o.result, o.place, o.kind)
     return text
 
 
@@ -75,6 +80,7 @@ def write(folder, seed, asked, counts, done):
     text = "# Mutation of the product\n\n"
     text += f"`make mutation MUTANTS={asked} SEED={seed}` wrote this; README.md says how. "
     text += f"{len(done)} of the {sum(counts.values())} sites were drawn. The prover refuses {len(refused)} of these edits, "
+    text += f"{sum(at_fact(o) for _, o in refused)} of them at a fact, "
     text += f"a program's run {len(run)} more, and the gate's tests of a program {len(tests)} more.\n\n" + by_crate(counts, done)
     text += "\n## Survivors\n\n" + told(left, known)
     text += "\n## Refused by a program's run\n\n"
