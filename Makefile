@@ -4,6 +4,8 @@ COUNT ?= 20000
 LISTS ?= 5000
 PAIRS ?= 20000
 MUTANTS ?= 80
+PUBLIC ?= 2
+EVERY ?= crates/rolecheck/src/main.rt,crates/rights/src/main.rt
 SEED ?= 7
 SECONDS ?= 60
 LONG_FILES ?= 1000000
@@ -106,4 +108,4 @@ growth: cargo lib
 	cd host/bench && cargo run --release --offline --quiet -- --plot ../../docs/growth.svg
 
 mutation: kit cargo
-	python3 -B host/mutation/mutate.py --mutants $(MUTANTS) --seed $(SEED)
+	python3 -B host/mutation/mutate.py --mutants $(MUTANTS) --seed $(SEED) --public $(PUBLIC) --every "$(EVERY)"
