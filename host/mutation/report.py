@@ -10,6 +10,7 @@ READING = ("The kit's contracts cannot say what a program reads and writes, so i
 
 
 def compiles(outcome):
+    """Whether an edit compiles, and something is told of it."""
     return outcome.result in RESULTS
 
 
@@ -61,13 +62,14 @@ def by_crate(order, drawn, done):
     return text + row("all", sum(map(len, order.values())), by_chance, len(done), *counts(done))
 
 
-def whole_files(whole, tried, done):
+def whole_files(whole, tried):
     """A line for each file of which every site was to be tried."""
     text = ""
     for name, found in whole.items():
-        ours, compiled = (sum(1 for m in found if m in some) for some in (tried, done))
-        each = f"all {ours}" if ours == len(found) else f"{ours} of {len(found)}"
-        text += f"- `{name}`: {each} sites were tried, and {compiled} of these edits compile.\n"
+        results = [tried[m].result for m in found if m in tried]
+        each = f"all {len(found)}" if len(results) == len(found) else f"{len(results)} of {len(found)}"
+        text += f"- `{name}`: {each} sites were tried. Edits that compile: {len(results) - results.count('no mutant')}; "
+        text += f"of these without a verdict, since the prover could not tell: {results.count('not told')}.\n"
     return text
 
 
@@ -146,7 +148,7 @@ def write(folder, words, order, drawn, tried, whole, public):
     text = summary(words, order, drawn, done)
     text += "\n## Survivors\n\n" + told(those(done, "survived"), remarks(folder / "equivalent.txt"))
     if whole:
-        text += "\n## Files of which every site was tried\n\n" + whole_files(whole, tried, done)
+        text += "\n## Files of which every site was tried\n\n" + whole_files(whole, tried)
     if words.public:
         text += "\n## Public functions\n\n" + public_functions(public, done, words.public)
     text += "\n## Refused by a program's run\n\n" + READING + told(those(done, "refused by its run"))
