@@ -4,6 +4,8 @@ COUNT ?= 20000
 LISTS ?= 5000
 PAIRS ?= 20000
 MUTANTS ?= 80
+PUBLIC ?= 2
+EVERY ?= crates/rolecheck/src/main.rt,crates/rights/src/main.rt
 SEED ?= 7
 SECONDS ?= 60
 LONG_FILES ?= 1000000
@@ -32,7 +34,7 @@ help:
 	@echo "make sanitize           the C test under AddressSanitizer and under valgrind"
 	@echo "make bench              times of loads and calls, and their growth, beside plain Rust and a simple version"
 	@echo "make growth             times of growth alone, with the plot docs/growth.svg"
-	@echo "make mutation           MUTANTS=$(MUTANTS) small edits of the crates, from SEED, and which the prover refuses"
+	@echo "make mutation           MUTANTS=$(MUTANTS) small edits of the crates, from SEED, and which the gate refuses"
 
 kit:
 	@command -v rt >/dev/null || { echo "rt, the command of the Rattle kit, is not on the path. Install the kit, then put its bin folder on the path."; exit 1; }
@@ -105,5 +107,5 @@ bench: cargo lib
 growth: cargo lib
 	cd host/bench && cargo run --release --offline --quiet -- --plot ../../docs/growth.svg
 
-mutation: kit
-	python3 -B host/mutation/mutate.py --mutants $(MUTANTS) --seed $(SEED)
+mutation: kit cargo
+	python3 -B host/mutation/mutate.py --mutants $(MUTANTS) --seed $(SEED) --public $(PUBLIC) --every "$(EVERY)"

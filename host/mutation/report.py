@@ -1,8 +1,22 @@
-"""Writes REPORT.md: what was drawn, what the prover or a program's run refused, and why each survivor survives."""
+"""Writes REPORT.md: what was tried, what the gate refused and at which step, and why each survivor survives."""
 import sys
 
-# The prover refuses; it proves, and the program then writes something else than its file stdout; it proves.
-RESULTS = ["refused", "refused by its run", "survived"]
+# The prover refuses; it proves, and the program writes something else than its file stdout; it does so in a host
+# test of the gate; nothing refuses.
+RESULTS = ["refused", "refused by its run", "refused by the gate's tests", "survived"]
+
+READING = ("The kit's contracts cannot say what a program reads and writes, so its decisions are proved and its reading "
+           "and writing are tested.\n\n")
+
+
+def compiles(outcome):
+    """Whether an edit compiles, and something is told of it."""
+    return outcome.result in RESULTS
+
+
+def at_fact(outcome):
+    """Whether the prover refuses, and at a fact."""
+    return outcome.kind == "fact"
 
 
 def remarks(path):
@@ -31,53 +45,114 @@ def table(*heads):
 
 
 def those(done, result):
-    return [(m, o) for m, o in done if o.result == result]
+    return {m: o for m, o in done.items() if o.result == result}
 
 
-def counted(done, crate, result):
-    return sum(1 for m, _ in those(done, result) if m.crate == crate)
+def counts(done):
+    return [len(those(done, result)) for result in RESULTS]
 
 
-def by_crate(counts, done):
+def by_crate(order, drawn, done):
     """The table of counts."""
-    text = table("crate", "sites", "drawn", *RESULTS)
-    for crate, sites in counts.items():
-        each = [counted(done, crate, result) for result in RESULTS]
-        text += row(crate, sites, sum(each), *each)
-    return text + row("all", sum(counts.values()), len(done), *(len(those(done, result)) for result in RESULTS))
+    text = table("crate", "sites", "drawn", "tried", *RESULTS)
+    for crate, found in order.items():
+        mine = {m: o for m, o in done.items() if m.crate == crate}
+        text += row(crate, len(found), sum(1 for m in mine if m in drawn), len(mine), *counts(mine))
+    by_chance = sum(1 for m in done if m in drawn)
+    return text + row("all", sum(map(len, order.values())), by_chance, len(done), *counts(done))
+
+
+def whole_files(whole, tried):
+    """A line for each file of which every site was to be tried."""
+    text = ""
+    for name, found in whole.items():
+        results = [tried[m].result for m in found if m in tried]
+        each = f"all {len(found)}" if len(results) == len(found) else f"{len(results)} of {len(found)}"
+        text += f"- `{name}`: {each} sites were tried. Edits that compile: {len(results) - results.count('no mutant')}; "
+        text += f"of these without a verdict, since the prover could not tell: {results.count('not told')}.\n"
+    return text
+
+
+def name_of(place):
+    """A public function's crate, and its name with its module."""
+    path, function = place
+    _, crate, _, file = path.split("/")
+    module = file.removesuffix(".rt")
+    return crate, function if module == "lib" else f"{module}::{function}"
+
+
+def figures(found, done):
+    """Of a function: its sites, its edits that were tried and compile, and those refused at a fact."""
+    mine = [done[m] for m in found if m in done]
+    return len(found), len(mine), sum(map(at_fact, mine))
+
+
+def below(public, done, wanted):
+    """The public functions of which fewer edits were refused at a fact, in words."""
+    text = ""
+    for place, found in public.items():
+        sites, compiled, facts = figures(found, done)
+        if facts < wanted:
+            name = "::".join(name_of(place))
+            text += f"- `{name}`: sites: {sites}; edits that compile: {compiled}; refused at a fact: {facts}.\n"
+    return text or "None.\n"
+
+
+def public_functions(public, done, wanted):
+    """The table of public functions, after those with too few."""
+    public = dict(sorted(public.items(), key=lambda pair: name_of(pair[0])))
+    text = f"Fewer than {wanted} edits of these were refused at a fact:\n\n" + below(public, done, wanted) + "\n"
+    text += table("crate", "function", "sites", "edits tried", "refused at a fact")
+    for place, found in public.items():
+        text += row(*name_of(place), *figures(found, done))
+    return text
 
 
 def told(done, known=None):
-    """The mutants one by one, with their remarks where `known` has them."""
+    """The mutants one by one, with their remarks where `known` has them, or the test that refuses them."""
     text = ""
-    for m, _ in done:
-        why = " " + known.get((m.path, m.function, m.old, m.new), "OPEN: no remark yet") if known is not None else ""
+    for m, o in done.items():
+        why = f" {o.place}." if o.place else ""
+        if known is not None:
+            why = " " + known.get((m.path, m.function, m.old, m.new), "OPEN: no remark yet")
         text += f"- `{m.path}:{m.line}`, `{m.function}`, {m.operator}: `{m.old}` → `{m.new}`.{why}\n"
     return text or "None.\n"
 
 
-def all_drawn(done):
-    """The table of all mutants that were drawn."""
-    text = table("crate", "place", "operator", "old → new", "result", "first error")
-    for m, o in done:
+def all_tried(done):
+    """The table of all mutants that were tried."""
+    text = table("crate", "place", "operator", "old → new", "result", "first error", "kind")
+    for m, o in done.items():
         place = m.path.removeprefix(f"crates/{m.crate}/src/") + f":{m.line}"
-        text += row(m.crate, place, m.operator, f"{cell(m.old)} → {cell(m.new)}", o.result, o.place)
+        text += row(m.crate, place, m.operator, f"{cell(m.old)} → {cell(m.new)}", o.result, o.place, o.kind)
     return text
 
 
-def write(folder, seed, asked, counts, done):
+def summary(words, order, drawn, done):
+    """The report's first lines."""
+    refused, run, tests, left = counts(done)
+    by_chance = sum(1 for m in done if m in drawn)
+    text = f"# Mutation of the product\n\n`make mutation MUTANTS={words.mutants} SEED={words.seed} PUBLIC={words.public} "
+    text += f"EVERY={','.join(words.every)}` wrote this; README.md says how. Of {sum(map(len, order.values()))} sites "
+    text += f"{by_chance} were drawn by chance, and {len(done) - by_chance} more were tried for the public functions and the "
+    text += f"files of which every site was tried. The prover refuses {refused} of these {len(done)} edits, "
+    text += f"{sum(map(at_fact, done.values()))} of them at a fact, a program's run {run} more, and the gate's tests of a "
+    text += f"program {tests} more. {left} survive.\n\n"
+    return text + by_crate(order, drawn, done)
+
+
+def write(folder, words, order, drawn, tried, whole, public):
     """Writes the report into the folder."""
-    known = remarks(folder / "equivalent.txt")
-    done = sorted(done, key=lambda pair: (list(counts).index(pair[0].crate), pair[0].path, pair[0].line))
-    refused, run, left = (those(done, result) for result in RESULTS)
-    text = "# Mutation of the product\n\n"
-    text += f"`make mutation MUTANTS={asked} SEED={seed}` wrote this; README.md says how. "
-    text += f"{len(done)} of the {sum(counts.values())} sites were drawn. The prover refuses {len(refused)} of these edits, "
-    text += f"and the program's run {len(run)} more.\n\n" + by_crate(counts, done)
-    text += "\n## Survivors\n\n" + told(left, known)
-    text += "\n## Refused by the program's run\n\n"
-    text += "The kit's contracts do not say what is read and written, so the arguments of `main`'s calls are held by its run alone.\n\n"
-    text += told(run)
-    text += "\n## All that were drawn\n\n" + all_drawn(done)
+    place = lambda m: (list(order).index(m.crate), m.path, m.line)
+    done = {m: tried[m] for m in sorted(tried, key=place) if compiles(tried[m])}
+    text = summary(words, order, drawn, done)
+    text += "\n## Survivors\n\n" + told(those(done, "survived"), remarks(folder / "equivalent.txt"))
+    if whole:
+        text += "\n## Files of which every site was tried\n\n" + whole_files(whole, tried)
+    if words.public:
+        text += "\n## Public functions\n\n" + public_functions(public, done, words.public)
+    text += "\n## Refused by a program's run\n\n" + READING + told(those(done, "refused by its run"))
+    text += "\n## Refused by the gate's tests of a program\n\n" + told(those(done, "refused by the gate's tests"))
+    text += "\n## All that were tried\n\n" + all_tried(done)
     (folder / "REPORT.md").write_text(text)
-    print(f"{len(done)} drawn, {len(refused)} refused, {len(run)} refused by the run, {len(left)} survived", file=sys.stderr)
+    print(", ".join(f"{n} {result}" for n, result in zip(counts(done), RESULTS)), file=sys.stderr)

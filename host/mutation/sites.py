@@ -14,6 +14,8 @@ EQUALITY = re.compile(r"[^&|]* [!=]= [^&|]*", re.S)
 REFUSAL = re.compile(r"\bif [^{}]*? \{\s*return\b[^{};]*;\s*\}(?! else)")
 BLOCK = re.compile(r"\bif ([^{}]*?) \{(?!\s*return\b)[^{}]*\}(?! else)")
 CALL = re.compile(r"\b[\w:]+\(")
+PUBLIC = re.compile(r'^pub (?:extern "C" )?fn (\w+)', re.M)
+MODULE = re.compile(r"^pub mod (\w+);", re.M)
 STATEMENT = re.compile(r"^ +(?!return\b)[\w:]+\([^{};]*\);$", re.M)
 
 # Binary operators stand between spaces: a borrow and a dereference do not.
@@ -160,6 +162,16 @@ def sites(text):
         for site in finder(code):
             found.setdefault((site.start, site.end, site.new), site)
     return [found[place] for place in sorted(found)]
+
+
+def public_modules(text):
+    """The modules that a library's root makes public."""
+    return MODULE.findall(text)
+
+
+def public_functions(text):
+    """The public functions of a file, exported ones included."""
+    return PUBLIC.findall(text)
 
 
 def code_lines(text):
