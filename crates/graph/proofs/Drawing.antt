@@ -11,7 +11,7 @@ use Rattle.search.proofs.Found.{some-agree}
 use Rattle.roleset.specs.Row.{member, united, Placed}
 use Rattle.order.specs.Closure.{Relation, path}
 use Rattle.order.specs.Table.{related, Tabled}
-use Rattle.order.proofs.Seats.{seat-left}
+use Rattle.order.proofs.Placing.{placing-left}
 use Rattle.order.proofs.Closure.{Agree, via-agree}
 use Rattle.text.specs.Text.{ascii, each}
 use Rattle.text.proofs.Each.{each-agree}
@@ -24,7 +24,7 @@ use Rattle.graph.specs.Graph.{past, direct, directFlow, node, orderLine,
 module _ (h : Relation) (u row : List ℕ) (i : ℕ) (long : length u ≡ 2048) (l : i < 128) (done : Tabled 0 i h (replicate 2048 0) u) where
   empty : (b : ℕ) → Among 128 b → member u (16 * i) b ≡ false
   empty b w =
-      rw (zero-add (16 * i)) at (seat-left 0 h (replicate 2048 0) (omega (arith, length-replicate {A = ℕ} 2048 0)) i b u l w done)
+      rw (zero-add (16 * i)) at (placing-left 0 h (replicate 2048 0) (omega (arith, length-replicate {A = ℕ} 2048 0)) i b u l w done)
       ∙ zero-rows 2048 (16 * i) b (omega arith)
 
   pub table-more : (v : List ℕ) → ((b : ℕ) → Among 128 b → member row 0 b ≡ h (i + 1) b) → Placed (16 * i) (united u (16 * i) row) u v

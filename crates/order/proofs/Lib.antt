@@ -2,4 +2,4 @@ pub mod Closure
 pub mod Bound
 pub mod Lattice
 pub mod Stored
-pub mod Seats
+pub mod Placing

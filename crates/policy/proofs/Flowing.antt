@@ -17,7 +17,7 @@ use Rattle.roleset.proofs.Rows.{whole-true}
 use Rattle.order.specs.Closure.{Relation, path, loop, circle}
 use Rattle.order.specs.Table.{related, Tabled}
 use Rattle.order.proofs.Closure.{circle-agree}
-use Rattle.order.proofs.Seats.{seats-more, seats-pass, seat-left}
+use Rattle.order.proofs.Placing.{placing-more, placing-pass, placing-left}
 use Rattle.order.proofs.Stored.{place}
 use Rattle.policy.specs.Tables.{rowOf, readersAt, writersAt, stateSize, isState, flowing}
 
@@ -74,10 +74,10 @@ apart t r q = related t 0 r q && not (eqb q r)
 -- rows 1 to i have had their turn: row i + 1 is as it was, and has its turn
 module _ (h : Relation) (t u : List ℕ) (i : ℕ) (long : 2048 ≤ length t) (same : length u ≡ length t) (l : i < 128) (done : Tabled 0 i h t u) where
   row-left : (q : ℕ) → Among 128 q → member u (16 * i) q ≡ related t 0 (i + 1) q
-  row-left q w = rw (place i, zero-add (16 * i)) (rw (zero-add (16 * i)) at (seat-left 0 h t (omega arith) i q u l w done))
+  row-left q w = rw (place i, zero-add (16 * i)) (rw (zero-add (16 * i)) at (placing-left 0 h t (omega arith) i q u l w done))
 
   pub row-more : (v : List ℕ) (s : ℕ → Bool) → Placed (16 * i) s u v → ((q : ℕ) → Among 128 q → s q ≡ h (i + 1) q) → Tabled 0 (i + 1) h t v
-  row-more v s p new = seats-more 0 h t (omega arith) i s u v l same done (rw (zero-add (16 * i)) p) new
+  row-more v s p new = placing-more 0 h t (omega arith) i s u v l same done (rw (zero-add (16 * i)) p) new
 
 -- card o + 1 is passed from one writer to the next: i is the last that has had its turn, and w the next one, or 0
 pub record Turn (t u xs : List ℕ) (o i w : ℕ) : Type 0 where
@@ -111,7 +111,7 @@ module _ {t u xs : List ℕ} {o i w : ℕ} (turn : Turn t u xs o i w) where
 
   pub no-writer : w ≡ 0 → Tabled 0 128 Past t u
   no-writer e =
-      seats-pass 0 Past t (omega arith) i 128 u (omega arith) (omega arith) (turn .done)
+      placing-pass 0 Past t (omega arith) i 128 u (omega arith) (omega arith) (turn .done)
       (λ r q k m v. idle r q (first-none Later 128 .0 (next-writer ∙ e) r (omega arith)) k)
 
   module _ (some : w ≡ 0 → ⊥) where
@@ -127,7 +127,7 @@ module _ {t u xs : List ℕ} {o i w : ℕ} (turn : Turn t u xs o i w) where
         let ahead = writer-ahead in
         let within = writer-within in
         let last : w - 1 + 1 ≡ w = omega arith in
-        let passed = seats-pass 0 Past t (omega arith) i (w - 1) u (omega arith) (omega arith) (turn .done)
+        let passed = placing-pass 0 Past t (omega arith) i (w - 1) u (omega arith) (omega arith) (turn .done)
         (λ r q k m v. idle r q (lowest .lower r (omega arith) (omega arith)) k) in
         rw last at (row-more Past t u (w - 1) (turn .long) (turn .same) (omega arith) passed v _ placed (λ q z.
         rw (

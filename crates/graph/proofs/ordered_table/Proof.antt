@@ -8,7 +8,7 @@ use borrow.Author.Tests.{le-leb}
 use lib.Dec.{leb}
 use lib.ListN.{length, replicate, length-replicate}
 use Rattle.order.specs.Table.{Tabled}
-use Rattle.order.proofs.Seats.{seats-none}
+use Rattle.order.proofs.Placing.{placing-none}
 use Rattle.graph.specs.Graph.{ordered}
 use Rattle.graph.proofs.Drawing.{table-more}
 use Rattle.graph.proofs.ordered_table.Statement.{statement}
@@ -42,7 +42,7 @@ ordered-table-spec =
     (tie.spec
     Inv-loop
     μ-loop
-    (λ c. (search needs, zeros, seats-none _ _ _ (omega (arith, zeros))))
+    (λ c. (search needs, zeros, placing-none _ _ _ (omega (arith, zeros))))
     (λ c. search needs)
     (λ c κs. search needs)
     (λ c. search needs)

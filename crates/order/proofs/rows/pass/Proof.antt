@@ -1,7 +1,7 @@
 -- The row of the role passed is taken before any is changed.
 use borrow.Author.Needs.{needs}
 use denote.Ref.{now}
-use Rattle.order.proofs.Seats.{round-rows}
+use Rattle.order.proofs.Placing.{round-rows}
 use Rattle.order.proofs.rows.pass.Statement.{statement}
 use Rattle.order.proofs.rows.pass.Tie as tie
 

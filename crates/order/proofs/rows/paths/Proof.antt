@@ -6,7 +6,7 @@ use borrow.Author.Needs.{needs}
 use lib.ListN.{length}
 use Rattle.order.specs.Closure.{via}
 use Rattle.order.specs.Table.{related, Tabled}
-use Rattle.order.proofs.Seats.{no-table, closing-none, closing-more}
+use Rattle.order.proofs.Placing.{no-table, closing-none, closing-more}
 use Rattle.order.proofs.rows.paths.Statement.{statement}
 use Rattle.order.proofs.rows.paths.Tie as tie
 

@@ -6,7 +6,7 @@ use borrow.Author.Needs.{needs}
 use lib.ListN.{length}
 use Rattle.order.specs.Closure.{reflexive}
 use Rattle.order.specs.Table.{related, Tabled}
-use Rattle.order.proofs.Seats.{no-table, seats-none, seats-more, reflexive-row}
+use Rattle.order.proofs.Placing.{no-table, placing-none, placing-more, reflexive-row}
 use Rattle.order.proofs.rows.reflect.Statement.{statement}
 use Rattle.order.proofs.rows.reflect.Tie as tie
 
@@ -24,7 +24,7 @@ loop-again c =
       search needs,
       search needs,
       search needs,
-      seats-more _ _ _ (w .inv .2) (w .i) _ (w .s) _ (search needs) (w .inv .3) (w .inv .4) (c .before .before .add .ensures)
+      placing-more _ _ _ (w .inv .2) (w .i) _ (w .s) _ (search needs) (w .inv .3) (w .inv .4) (c .before .before .add .ensures)
           (λ b v. reflexive-row _ _ (w .inv .2) (w .i) b (w .s) (search needs) v (w .inv .4)),
     )
 
@@ -44,7 +44,7 @@ reflect-spec =
     (λ c. search needs)
     (λ c. no-table (search needs))
     (λ c κs. search needs)
-    (λ c. (search needs, search needs, search needs, search needs, seats-none _ _ _ (search needs)))
+    (λ c. (search needs, search needs, search needs, search needs, placing-none _ _ _ (search needs)))
     (λ c. search needs)
     (λ c. search needs)
     (λ c. search needs)

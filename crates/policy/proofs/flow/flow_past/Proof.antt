@@ -6,7 +6,7 @@ use borrow.Author.Needs.{needs}
 use denote.Ref.{now}
 use lib.ListN.{length}
 use Rattle.order.specs.Table.{Tabled}
-use Rattle.order.proofs.Seats.{seats-none}
+use Rattle.order.proofs.Placing.{placing-none}
 use Rattle.policy.proofs.Flowing.{pastCard, Turn, writer-within, writer-ahead, no-writer, writer-more}
 use Rattle.policy.proofs.flow.flow_past.Statement.{statement}
 use Rattle.policy.proofs.flow.flow_past.Tie as tie
@@ -66,7 +66,7 @@ flow-past-spec =
     (λ c. search needs)
     (λ c. search needs)
     (λ c κs. search needs)
-    (λ c. (search needs, search needs, seats-none _ _ _ (search needs)))
+    (λ c. (search needs, search needs, placing-none _ _ _ (search needs)))
     (λ c. search needs)
     (λ c. search needs)
     (λ c κs. search needs)

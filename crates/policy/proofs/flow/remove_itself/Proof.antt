@@ -6,7 +6,7 @@ use borrow.Author.Needs.{needs}
 use denote.Ref.{now}
 use lib.ListN.{length}
 use Rattle.order.specs.Table.{Tabled}
-use Rattle.order.proofs.Seats.{seats-none}
+use Rattle.order.proofs.Placing.{placing-none}
 use Rattle.policy.proofs.Flowing.{apart, row-more, apart-row}
 use Rattle.policy.proofs.flow.remove_itself.Statement.{statement}
 use Rattle.policy.proofs.flow.remove_itself.Tie as tie
@@ -40,7 +40,7 @@ remove-itself-spec =
     (tie.spec
     Inv-loop
     μ-loop
-    (λ c. (search needs, search needs, seats-none _ _ _ (search needs)))
+    (λ c. (search needs, search needs, placing-none _ _ _ (search needs)))
     (λ c. search needs)
     (λ c. search needs)
     (λ c κs. search needs)

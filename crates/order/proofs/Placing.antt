@@ -23,13 +23,13 @@ pub no-table : {at n : ℕ} {h : Relation} {xs : List ℕ} → length xs < at + 
 no-table l = record { rows = λ m. absurd (omega arith); rest = λ i o. refl; none = λ m. refl }
 
 module _ (at : ℕ) (h : Relation) (xs : List ℕ) (fits : at + 2048 ≤ length xs) where
-  pub seats-none : Tabled at 0 h xs xs
-  seats-none = record { rows = λ l. rows-none 128 h (related xs at); rest = λ i o. refl; none = λ l. refl }
+  pub placing-none : Tabled at 0 h xs xs
+  placing-none = record { rows = λ l. rows-none 128 h (related xs at); rest = λ i o. refl; none = λ l. refl }
 
   -- the row of thing i + 1 is placed
-  pub seats-more : (i : ℕ) (s : ℕ → Bool) (ys zs : List ℕ) → i < 128 → length ys ≡ length xs → Tabled at i h xs ys → Placed (at + 16 * i) s ys zs
+  pub placing-more : (i : ℕ) (s : ℕ → Bool) (ys zs : List ℕ) → i < 128 → length ys ≡ length xs → Tabled at i h xs ys → Placed (at + 16 * i) s ys zs
       → ((b : ℕ) → Among 128 b → s b ≡ h (i + 1) b) → Tabled at (i + 1) h xs zs
-  seats-more i s ys zs l long t p new = record {
+  placing-more i s ys zs l long t p new = record {
     rows = λ m. rows-more 128 h (related xs at) i (related ys at) (related zs at) l (t .rows m) row;
     rest = λ j o. p .rest j (λ m. let q = o (omega arith) in omega arith) ∙ t .rest j (λ m. let q = o m in omega arith);
     none = λ m. absurd (omega arith);
@@ -43,9 +43,9 @@ module _ (at : ℕ) (h : Relation) (xs : List ℕ) (fits : at + 2048 ≤ length 
       }
 
   -- rows that are as h says already need no turn
-  pub seats-pass : (i j : ℕ) (ys : List ℕ) → i ≤ j → j ≤ 128 → Tabled at i h xs ys
+  pub placing-pass : (i j : ℕ) (ys : List ℕ) → i ≤ j → j ≤ 128 → Tabled at i h xs ys
       → ((a b : ℕ) → i < a → a ≤ j → Among 128 b → related xs at a b ≡ h a b) → Tabled at j h xs ys
-  seats-pass i j ys l m t same = record {
+  placing-pass i j ys l m t same = record {
     rows = λ f. record {
       done = λ a b v w. elim (decLt i a) [
         | yes k ↦ t .rows f .left a b k (omega arith) w ∙ same a b k (omega arith) w
@@ -58,8 +58,8 @@ module _ (at : ℕ) (h : Relation) (xs : List ℕ) (fits : at + 2048 ≤ length 
   }
 
   -- a row that has had no turn yet
-  pub seat-left : (i b : ℕ) (ys : List ℕ) → i < 128 → Among 128 b → Tabled at i h xs ys → member ys (at + 16 * i) b ≡ member xs (at + 16 * i) b
-  seat-left i b ys l w t = rw (place i) at (t .rows fits .left (i + 1) b (omega arith) (omega arith) w)
+  pub placing-left : (i b : ℕ) (ys : List ℕ) → i < 128 → Among 128 b → Tabled at i h xs ys → member ys (at + 16 * i) b ≡ member xs (at + 16 * i) b
+  placing-left i b ys l w t = rw (place i) at (t .rows fits .left (i + 1) b (omega arith) (omega arith) w)
 
 -- a thing put into its own row
 module _ (at : ℕ) (xs : List ℕ) (fits : at + 2048 ≤ length xs) where
@@ -69,7 +69,7 @@ module _ (at : ℕ) (xs : List ℕ) (fits : at + 2048 ≤ length xs) where
   pub reflexive-row : (i b : ℕ) (ys : List ℕ) → i < 128 → Among 128 b → Tabled at i (reflexive (related xs at)) xs ys
       → added ys (at + 16 * i) (i + 1) b ≡ reflexive (related xs at) (i + 1) b
   reflexive-row i b ys l w t =
-      rw (seat-left at (reflexive (related xs at)) xs fits i b ys l w t, among-iff 128 (i + 1) .1 (omega arith), eqb-swap b (i + 1), place i)
+      rw (placing-left at (reflexive (related xs at)) xs fits i b ys l w t, among-iff 128 (i + 1) .1 (omega arith), eqb-swap b (i + 1), place i)
       (or-comm (member xs (at + 16 * i) b) (eqb (i + 1) b))
 
 -- a round of closing
