@@ -84,7 +84,9 @@ def copy_crate(crate):
     folder = WORK / crate
     shutil.rmtree(folder, ignore_errors=True)
     for part in ("src", "specs", "proofs"):
-        shutil.copytree(ROOT / "crates" / crate / part, folder / part)
+        own = ROOT / "crates" / crate / part
+        if own.is_dir():
+            shutil.copytree(own, folder / part)
     return folder
 
 

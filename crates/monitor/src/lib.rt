@@ -18,7 +18,7 @@ ghost use Rattle.monitor.specs.Calls.{Opens, Closes, Takes, Drops, readN
 
 // The answer of a load, as C has it.
 #[repr(C)]
-pub struct Answer {
+pub struct LoadAnswer {
     pub number: u64,
     pub first: u64,
     pub second: u64,
@@ -33,11 +33,11 @@ pub struct Figure {
 
 // Checks a role file and replaces the state by its policy: 7, or the verdict on the file.
 #[no_mangle]
-pub extern "C" fn monitor_load(file: &[u8], state: &mut [u8]) -> Answer
+pub extern "C" fn monitor_load(file: &[u8], state: &mut [u8]) -> LoadAnswer
     ensures { λ r. ⌜ Loaded (now (file .entry)) (record { number = r .number; first = r .first; second = r .second }) (now (state .entry)) (now (state .exit)) ⌝ }
 {
     let v = policy::load(file, state);
-    Answer {
+    LoadAnswer {
         number: v.number,
         first: v.first,
         second: v.second,
