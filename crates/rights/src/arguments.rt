@@ -4,7 +4,7 @@ ghost use Prim.Native.Nat.{_<_};
 ghost use Rattle.rolefile.specs.Field.{isDigit};
 ghost use Rattle.rights.specs.Arguments as arguments;
 
-// What the program is asked: of the file that an argument names, its picture or the rights of its users.
+// The usage; or of the file that argument `file` names the picture, where `drawn`, or its users' rights.
 pub enum Request {
     Usage,
     Of { file: usize, drawn: bool },
