@@ -79,6 +79,13 @@ module _ (h : Relation) (t u : List ℕ) (i : ℕ) (long : 2048 ≤ length t) (s
   pub row-more : (v : List ℕ) (s : ℕ → Bool) → Placed (16 * i) s u v → ((q : ℕ) → Among 128 q → s q ≡ h (i + 1) q) → Tabled 0 (i + 1) h t v
   row-more v s p new = placing-more 0 h t (omega arith) i s u v l same done (rw (zero-add (16 * i)) p) new
 
+-- the next role of a row that was taken by value
+pub next-taken : (xs row : List ℕ) (at i : ℕ) {w : ℕ} → at + 16 ≤ length xs → 16 ≤ length row
+    → ((r : ℕ) → member row 0 r ≡ (whole xs at && member xs at r)) → w ≡ cond (whole row 0) (nextMember row 0 i) 0 → w ≡ nextMember xs at i
+next-taken xs row at i l m same e =
+    e ∙ rw (whole-true row 0 m) (first-agree (λ r. not (leb r i) && member row 0 r) (λ r. not (leb r i) && member xs at r) 128
+    (λ r w. rw (same r, whole-true xs at l)))
+
 -- card o + 1 is passed from one writer to the next: i is the last that has had its turn, and w the next one, or 0
 pub record Turn (t u xs : List ℕ) (o i w : ℕ) : Type 0 where
   pub long : 2048 ≤ length t
@@ -86,7 +93,7 @@ pub record Turn (t u xs : List ℕ) (o i w : ℕ) : Type 0 where
   pub fits : 28688 ≤ length xs
   pub card : o < 512
   pub before : i < 128
-  pub next : w ≡ cond (whole xs (writersAt + 16 * o)) (nextMember xs (writersAt + 16 * o) i) 0
+  pub next : w ≡ nextMember xs (writersAt + 16 * o) i
   pub done : Tabled 0 i (pastCard t xs (o + 1)) t u
 
 module _ {t u xs : List ℕ} {o i w : ℕ} (turn : Turn t u xs o i w) where
@@ -100,7 +107,7 @@ module _ {t u xs : List ℕ} {o i w : ℕ} (turn : Turn t u xs o i w) where
   Later r = not (leb r i) && Writes r
 
   next-writer : first 128 Later ≡ w
-  next-writer = sym (turn .next ∙ rw (whole-true xs (writersAt + 16 * o) (omega arith)))
+  next-writer = sym (turn .next)
 
   pub writer-within : w ≤ 128
   writer-within = rw next-writer at (first-within Later 128)

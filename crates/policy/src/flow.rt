@@ -97,10 +97,11 @@ fn flow_past(t: &mut [u8], s: &[u8], o: usize)
     requires { ⌜ (2048 ≤ length (now t)) × (28688 ≤ length (now s)) × (o < 512) ⌝ }
     ensures { λ _. ⌜ Tabled 0 128 (λ r q. related (now (t .entry)) 0 r q || (member (now (s .entry)) (rowOf writersAt (o + 1)) r && member (now (s .entry)) (rowOf readersAt (o + 1)) q)) (now (t .entry)) (now (t .exit)) ⌝ }
 {
+    let writers = roleset::row(s, 20496 + 16 * o);
     let readers = roleset::row(s, 12304 + 16 * o);
     let mut i = 0;
     while i < 128 {
-        let writer = roleset::next(s, 20496 + 16 * o, i);
+        let writer = roleset::next(&writers, 0, i);
         if writer == 0 {
             return;
         }

@@ -1,5 +1,5 @@
--- Each turn gives the next writer's row the readers, and the rows before it are no writer's; the readers were taken before the first.
-use Prim.Native.Nat.{_+_, _≤_, _-_}
+-- Each turn gives the next writer's row the readers, and the rows before it are no writer's; both sets were taken before the first.
+use Prim.Native.Nat.{_+_, _*_, _≤_, _-_}
 use mathlib.Core.Path.{_≡_}
 use native.Mathlib.Omega.{arith}
 use borrow.Author.Needs.{needs}
@@ -7,29 +7,33 @@ use denote.Ref.{now}
 use lib.ListN.{length}
 use Rattle.order.specs.Table.{Tabled}
 use Rattle.order.proofs.Placing.{placing-none}
-use Rattle.policy.proofs.Flowing.{pastCard, Turn, writer-within, writer-ahead, no-writer, writer-more}
+use Rattle.policy.specs.Tables.{writersAt}
+use Rattle.policy.proofs.Flowing.{pastCard, Turn, next-taken, writer-within, writer-ahead, no-writer, writer-more}
 use Rattle.policy.proofs.flow.flow_past.Statement.{statement}
 use Rattle.policy.proofs.flow.flow_past.Tie as tie
 
 abbrev Inv-loop : tie.InvT-loop
-Inv-loop t₀ s o readers i₀ t i = (i ≤ 128) × (length t ≡ length t₀) × Tabled 0 i (pastCard t₀ s (o + 1)) t₀ t
+Inv-loop t₀ s o writers readers i₀ t i = (i ≤ 128) × (length t ≡ length t₀) × Tabled 0 i (pastCard t₀ s (o + 1)) t₀ t
 
 abbrev μ-loop : tie.MeasureT-loop
-μ-loop t₀ s o readers i₀ t i = 128 - i
+μ-loop t₀ s o writers readers i₀ t i = 128 - i
 
 turn : (c : tie.After-next Inv-loop μ-loop)
-    → let a = c .before .before .before .before .before .before .args in
-    let w = c .before .before .loop in
+    → let a = c .before .before .before .before .before .before .before .before .args in
+    let w = c .before .before .before .loop in
     Turn (now (a .t)) (w .t) (now (a .s)) (a .o) (w .i) (c .next .result)
-turn c = record {
-  long = search needs;
-  same = search needs;
-  fits = search needs;
-  card = search needs;
-  before = search needs;
-  next = c .next .ensures;
-  done = c .before .before .loop .inv .2;
-}
+turn c =
+    let taken = c .before .before .before .before .before in
+    let a = taken .before .before .before .args in
+    record {
+      long = search needs;
+      same = search needs;
+      fits = search needs;
+      card = search needs;
+      before = search needs;
+      next = next-taken (now (a .s)) (taken .row .result) (writersAt + 16 * a .o) _ (omega arith) (search needs) (taken .row .ensures) (c .next .ensures);
+      done = c .before .before .before .loop .inv .2;
+    }
 
 returns : tie.Need-returns Inv-loop μ-loop
 returns c = no-writer (turn (c .before)) (c .if1 .taken)
@@ -48,7 +52,7 @@ loop-again c =
       writer-within (turn (next .before)),
       search needs,
       writer-more (turn (next .before)) (next .if1 .left) _ (c .before .before .unite .ensures)
-          (next .before .before .before .before .row .ensures),
+          (next .before .before .before .before .before .row2 .ensures),
     )
 
 returns-2 : tie.Need-returns-2 Inv-loop μ-loop
@@ -66,8 +70,10 @@ flow-past-spec =
     (λ c. search needs)
     (λ c. search needs)
     (λ c κs. search needs)
-    (λ c. (search needs, search needs, placing-none _ _ _ (search needs)))
     (λ c. search needs)
+    (λ c. search needs)
+    (λ c κs. search needs)
+    (λ c. (search needs, search needs, placing-none _ _ _ (search needs)))
     (λ c. search needs)
     (λ c κs. search needs)
     (λ c. search needs)
