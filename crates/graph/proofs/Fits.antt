@@ -6,6 +6,7 @@ use mathlib.Core.List.{List, _++_}
 use native.Mathlib.Omega.{arith}
 use lib.ListN.{length, length-append}
 use Rattle.order.specs.Closure.{Relation, path}
+use Rattle.rolefile.proofs.Decimals.{few-digits}
 use Rattle.text.specs.Text.{ascii, each}
 use Rattle.text.proofs.Each.{each-most}
 use Rattle.policy.specs.Tables.{flowsIn}
@@ -13,7 +14,7 @@ use Rattle.monitor.specs.Review.{knownLabels, knownRoles}
 use Rattle.monitor.proofs.Known.{few-labels, few-roles}
 use Rattle.graph.specs.declared.Order.the-variants.{Dominating, Seniors, Juniors}
 use Rattle.graph.specs.Graph.{ordered, direct, directFlow, node, arrow, orderLine, flowLine, nodes, orderLines, flowLines, labelsText, rolesText, labelsOf, rolesOf, graphText}
-use Rattle.text.proofs.Lengths.{most, where-most, few-digits}
+use Rattle.text.proofs.Lengths.{most, where-most}
 
 module _ (prefix : List ℕ) (one : length prefix ≡ 1) where
   node-most : (red : Bool) (a : ℕ) → a ≤ 128 → length (node prefix red a) ≤ 35

@@ -18,7 +18,7 @@ use Rattle.policy.specs.Accepted.{Accepted}
 use Rattle.policy.specs.Flow.{flows, flowCircle}
 use Rattle.policy.specs.Image.{loadVerdict, Loaded}
 use Rattle.policy.proofs.Outcomes.{accepted-iff}
-use Rattle.policy.proofs.Meaning.{counts-known, flow-file, circle-file}
+use Rattle.policy.proofs.Meaning.{counts-known, role-few, flow-file, circle-file}
 use Rattle.monitor.specs.Calls.{unless, ifDone, written, partAt, opened, closed, taken, dropped, writeNumber}
 use Rattle.monitor.specs.Calls.{flowsNumber, circleNumber, Flows, Circles}
 use Rattle.monitor.specs.Runs.{Call, opens, closes, takes, drops, reads, writes, Memory, number, stateAfter, storeAfter, after, run}
@@ -66,9 +66,6 @@ module _ (f : List ℕ) (form : WellFormed f) (t : Sessions) (known : Orderly f 
   number-file (writes p o k bytes) =
       part-file f form t known xs stands writersAt 2 (omega arith) (stands .tables .permitting .writers) (length (m .store)) p o k (length bytes)
 
-  role-small : (r : ℕ) → Among (roles f) r → Among 128 r
-  role-small r w = let few = counts-known f form .roles in omega arith
-
   session-there : (p : ℕ) (s : Session) → Among 64 p → t p ≡ some s → SessionAt xs p s
   session-there p s w e = rw e at (stands .places p w)
 
@@ -95,7 +92,7 @@ module _ (f : List ℕ) (form : WellFormed f) (t : Sessions) (known : Orderly f 
       (λ h.
       let a = session-done t p _ h in
       let s = a .session in
-      let w = role-small r (taking f r s (a .done) .0) in
+      let w = role-few f form r (taking f r s (a .done) .0) in
       stands-put f t xs (taken xs p r) p stands (a .place) (taken-touched xs p (stands .long) (a .place) r w)
       (Option·map (holding r) (t p)) (rw (a .found) (taken-place xs p (stands .long) (a .place) r w s (session-there p s (a .place) (a .found)))))
       stands)
@@ -105,7 +102,7 @@ module _ (f : List ℕ) (form : WellFormed f) (t : Sessions) (known : Orderly f 
       (λ h.
       let a = session-done t p _ h in
       let s = a .session in
-      let w = role-small r (dropping f r (a .done)) in
+      let w = role-few f form r (dropping f r (a .done)) in
       stands-put f t xs (dropped xs p r) p stands (a .place) (dropped-touched xs p (stands .long) (a .place) r w)
       (Option·map (without r) (t p)) (rw (a .found) (dropped-place xs p (stands .long) (a .place) r w s (session-there p s (a .place) (a .found)))))
       stands)

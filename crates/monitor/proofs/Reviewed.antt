@@ -15,12 +15,12 @@ use Rattle.roleset.specs.Row.{member}
 use Rattle.rolefile.specs.Said.{labels, roles, users, cards, clearance, assigned}
 use Rattle.rolefile.specs.WellFormed.{WellFormed}
 use Rattle.policy.specs.Policy.{dominates, senior, may}
-use Rattle.policy.specs.Tables.{rowOf}
+use Rattle.policy.specs.Tables.{word, rowOf}
 use Rattle.policy.proofs.Meaning.{counts-known, marked-file}
 use Rattle.monitor.specs.Session.{sound, entitled, fitting}
 use Rattle.monitor.specs.Rules.{Sessions, entitledByFile, fittingByFile}
 use Rattle.monitor.specs.Rights.{tableOf, roleCould, could, couldByFile}
-use Rattle.monitor.specs.Review.{counted, isLabel, isRole, isUser, isCard, clearanceOf, dominatesIn, seniorTo, assignedTo, entitledTo, mayOpen, mayTake, giveCard}
+use Rattle.monitor.specs.Review.{counted, known, isLabel, isRole, isUser, isCard, clearanceOf, dominatesIn, seniorTo, assignedTo, entitledTo, mayOpen, mayTake, giveCard}
 use Rattle.monitor.proofs.Orderly.{Orderly}
 use Rattle.monitor.proofs.Stands.{Stands}
 use Rattle.monitor.proofs.InFile.{sound-file, cleared-file, entitled-file, fitting-file}
@@ -45,17 +45,20 @@ module _ (f : List ℕ) (form : WellFormed f) (t : Sessions) (orderly : Orderly 
   pub review-cards : counted xs 6 ≡ cards f
   review-cards = rw whole (stands .tables .counted .cards)
 
+  thing : (at n x : ℕ) → word xs at ≡ n → Among n x → known xs at x ≡ true
+  thing at n x e w = rw (whole, e) (among-iff n x .1 w)
+
   label : (l : ℕ) → Among (labels f) l → isLabel xs l ≡ true
-  label l w = rw (whole, stands .tables .counted .labels) (among-iff (labels f) l .1 w)
+  label l = thing 0 (labels f) l (stands .tables .counted .labels)
 
   role : (r : ℕ) → Among (roles f) r → isRole xs r ≡ true
-  role r w = rw (whole, stands .tables .counted .roles) (among-iff (roles f) r .1 w)
+  role r = thing 2 (roles f) r (stands .tables .counted .roles)
 
   user : (u : ℕ) → Among (users f) u → isUser xs u ≡ true
-  user u w = rw (whole, stands .tables .counted .users) (among-iff (users f) u .1 w)
+  user u = thing 4 (users f) u (stands .tables .counted .users)
 
   card : (o : ℕ) → Among (cards f) o → isCard xs o ≡ true
-  card o w = rw (whole, stands .tables .counted .cards) (among-iff (cards f) o .1 w)
+  card o = thing 6 (cards f) o (stands .tables .counted .cards)
 
   -- ---- users, labels, roles and cards of the file
 

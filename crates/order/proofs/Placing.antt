@@ -8,9 +8,8 @@ use native.Mathlib.Omega.{arith}
 use native.Mathlib.Decide.{decLt}
 use lib.ListN.{length}
 use lib.Dec.{eqb}
-use borrow.Author.Tests.{eq-eqb, eqb-true}
 use Rattle.search.specs.Search.{Among}
-use Rattle.search.proofs.Truth.{among-iff, same}
+use Rattle.search.proofs.Truth.{among-iff, eqb-swap}
 use Rattle.roleset.specs.Row.{whole, member, added, unitedWhere, Placed, PlacedRows}
 use Rattle.roleset.proofs.Rows.{other-row, whole-true, rows-left}
 use Rattle.order.specs.Closure.{Relation, via, round, reflexive}
@@ -63,9 +62,6 @@ module _ (at : ℕ) (h : Relation) (xs : List ℕ) (fits : at + 2048 ≤ length 
 
 -- a thing put into its own row
 module _ (at : ℕ) (xs : List ℕ) (fits : at + 2048 ≤ length xs) where
-  eqb-swap : (a b : ℕ) → eqb a b ≡ eqb b a
-  eqb-swap a b = same (eqb a b) (eqb b a) (λ e. eq-eqb b a (sym (eqb-true a b e))) (λ e. eq-eqb a b (sym (eqb-true b a e)))
-
   pub reflexive-row : (i b : ℕ) (ys : List ℕ) → i < 128 → Among 128 b → Tabled at i (reflexive (related xs at)) xs ys
       → added ys (at + 16 * i) (i + 1) b ≡ reflexive (related xs at) (i + 1) b
   reflexive-row i b ys l w t =

@@ -110,11 +110,14 @@ module _ (f xs ys : List ℕ) where
 module _ (f : List ℕ) (xs s₁ s₂ s₃ s₄ : List ℕ) (zeros : Zeros 0 65536 xs) (v w : Verdict) (noting : Noting f v xs s₁) (clean : v .number ≡ 0)
     (ranking : Ranking f w s₁ s₂) (ranked : w .number ≡ 0) where
   -- what the stage of permissions needs
+  still-zero : (i : ℕ) → (1040 ≤ i → 1808 ≤ i) → (2064 ≤ i → 4112 ≤ i) → i < 65536 → getD s₂ i 0 ≡ 0
+  still-zero i noted ranked l = ranking .rest i ranked ∙ noting .rest i noted ∙ zeros i (omega arith) l
+
   pub level-zeros : Zeros 1808 2064 s₂
-  level-zeros i m n = ranking .rest i (λ k. omega arith) ∙ noting .rest i (λ k. omega arith) ∙ zeros i (omega arith) (omega arith)
+  level-zeros i m n = still-zero i (λ k. omega arith) (λ k. omega arith) (omega arith)
 
   pub row-zeros : Zeros 12304 28688 s₂
-  row-zeros i m n = ranking .rest i (λ k. omega arith) ∙ noting .rest i (λ k. omega arith) ∙ zeros i (omega arith) (omega arith)
+  row-zeros i m n = still-zero i (λ k. omega arith) (λ k. omega arith) (omega arith)
 
   pub second-labelled : Labelled f s₂
   second-labelled = labelled-stays f s₁ s₂ (λ i l m. ranking .rest i (λ k. omega arith)) (noting .done clean)

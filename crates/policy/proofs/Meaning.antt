@@ -30,6 +30,9 @@ module _ (f : List ℕ) (form : WellFormed f) where
   pub counts-known : GoodCounts (header f)
   counts-known = let s = form .sized in form .good 1 (omega (arith, s .some, s .whole)) .head refl .counts
 
+  pub role-few : (r : ℕ) → Among (roles f) r → Among 128 r
+  role-few r w = let few = counts-known .roles in omega arith
+
   module _ (xs : List ℕ) (tables : Describes f xs) where
     pub marked-file : (a b : ℕ) → Among (labels f) a ⊎ Among (labels f) b → marked xs a b ≡ dominates f a b
     marked-file = marked-is f xs counts-known (over-between f (form .good)) (tables .dominating)

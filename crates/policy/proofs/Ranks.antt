@@ -7,9 +7,9 @@ use native.Mathlib.Omega.{arith}
 use native.Mathlib.Decide.{decLe}
 use lib.Dec.{leb, eqb}
 use lib.ListN.{length, drop}
-use borrow.Author.Tests.{eq-eqb, ne-eqb, eqb-true, le-leb, lt-leb}
+use borrow.Author.Tests.{ne-eqb, eqb-true, le-leb, lt-leb}
 use Rattle.search.specs.Search.{Among}
-use Rattle.search.proofs.Truth.{and-iff, untrue, same}
+use Rattle.search.proofs.Truth.{and-iff, untrue, eqb-swap}
 use Rattle.search.proofs.Found.{some-iff, first-agree}
 use Rattle.roleset.specs.Row.{member}
 use Rattle.roleset.proofs.Rows.{member-of, no-bits}
@@ -86,15 +86,12 @@ module _ (f : List ℕ) (good : Good f) {j m : ℕ} (s : Section f S j m) (few :
     paths-kept i out = pathed .rest i (λ l. let far = out l in omega arith) ∙ filled .rest i (λ l. let far = out l in omega arith)
 
     module _ (closed : Tabled seniorsAt (roles f) (reflexive (related zs seniorsAt)) zs ws) where
-      swapped : (q r : ℕ) → eqb q r ≡ eqb r q
-      swapped q r = same (eqb q r) (eqb r q) (λ e. eq-eqb r q (sym (eqb-true q r e))) (λ e. eq-eqb q r (sym (eqb-true r q e)))
-
       pub seniors-are : Seniors f ws
       unfolding senior
       seniors-are q r v w = elim (decLe q (roles f)) [
         | yes l ↦
             rw (le-leb q (roles f) l)
-            (closed .rows (omega arith) .done q r (omega arith) w ∙ rw (paths q r (omega arith) w, swapped q r))
+            (closed .rows (omega arith) .done q r (omega arith) w ∙ rw (paths q r (omega arith) w, eqb-swap q r))
         | no l ↦
             rw (lt-leb q (roles f) (omega arith))
             (closed .rows (omega arith) .left q r (omega arith) (v .1) w

@@ -12,7 +12,7 @@ use Rattle.rolefile.specs.declared.Verdict.{Verdict}
 use Rattle.rolefile.specs.Line.{H, U, O, A, lineAt, lines}
 use Rattle.rolefile.specs.Form.{header, fine, refusal}
 use Rattle.rolefile.specs.Said.{labels, roles, users, cards, over, above, clearance}
-use Rattle.rolefile.specs.WellFormed.{Sized, GoodCounts, GoodNumbers, Rises, GoodLine, GoodLines, One, OneEach, WellFormed}
+use Rattle.rolefile.specs.WellFormed.{Sized, GoodCounts, GoodNumbers, Rises, GoodLine, GoodLines, OneEach, LowestUnlabelled, WellFormed}
 use Rattle.policy.specs.Policy.{dominates, senior, mayAt}
 
 -- ---- levels, 003 Definitions 6 and 7
@@ -81,10 +81,6 @@ pub data LineRefused (f : List ℕ) (k : ℕ) : ℕ → Type 0 where
   badNumbers : (k ≡ 1 → ⊥) → H < lineAt f k .letter → (GoodNumbers (header f) (lineAt f k) → ⊥) → LineRefused f k 4
   unordered : (k ≡ 1 → ⊥) → H < lineAt f k .letter → GoodNumbers (header f) (lineAt f k)
       → (Rises (lineAt f (k - 1)) (lineAt f k) → ⊥) → LineRefused f k 5
-
--- the lowest thing of n that has not one line of the letter k
-abbrev pub LowestUnlabelled : List ℕ → ℕ → ℕ → ℕ → Type 0
-LowestUnlabelled f k n = LowestOf n (λ x. One f k x → ⊥) (One f k)
 
 -- the lowest thing on a circle
 abbrev pub LowestOnCircle : ℕ → Relation → ℕ → Type 0

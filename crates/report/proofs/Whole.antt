@@ -8,6 +8,7 @@ use Rattle.search.specs.Search.{among, some}
 use Rattle.search.proofs.Truth.{among-iff}
 use Rattle.rolefile.specs.Decimal.{digits}
 use Rattle.policy.specs.Tables.{clearancesAt}
+use Rattle.rolefile.proofs.Decimals.{few-digits, padded-length}
 use Rattle.text.specs.Text.{ascii}
 use Rattle.monitor.specs.Review.{knownLabels, knownUsers, isUser, clearanceOf, mayOpen, mayTake}
 use Rattle.monitor.proofs.Known.{few-labels, few-users}
@@ -17,7 +18,7 @@ use Rattle.report.specs.Lists.{piece, pieces, ranges, sizeOf, listed, ra
 use Rattle.report.specs.Rights.{row, head, noRole, clearanceLine, userLines, listsBy, labelLines, labelsLines, userText, anyoneTakes, nobodyText}
 use Rattle.report.proofs.Few.{few}
 use Rattle.text.proofs.Each.{each-most}
-use Rattle.text.proofs.Lengths.{one-most, where-most, few-digits, five-columns}
+use Rattle.text.proofs.Lengths.{one-most, where-most}
 
 module _ (p : ℕ → Bool) where
   piece-most : (k : ℕ) → k < 100000 → length (piece p k) ≤ 6
@@ -55,14 +56,14 @@ module _ (xs : List ℕ) where
   label-most : (u l : ℕ) → l < 100000 → length (labelLines xs u l) ≤ 9295
   unfolding labelLines head
   label-most u l m =
-      where-most (mayOpen xs u l) _ (λ e. simp length-append (omega (arith, five-columns l m, by-most (mayTake xs u l))))
+      where-most (mayOpen xs u l) _ (λ e. simp length-append (omega (arith, padded-length l m, by-most (mayTake xs u l))))
 
   labels-most : (u : ℕ) → length (labelsLines xs u) ≤ knownLabels xs * 9295
   labels-most u = each-most (knownLabels xs) 9295 (labelLines xs u) (λ l w. label-most u l (omega (arith, few-labels xs)))
 
   clearance-most : (u : ℕ) → u < 100000 → clearanceOf xs u < 100000 → length (clearanceLine xs u) ≤ 29
   unfolding clearanceLine head
-  clearance-most u l m = simp length-append (omega (arith, five-columns u l, few-digits 4 (clearanceOf xs u) m))
+  clearance-most u l m = simp length-append (omega (arith, padded-length u l, few-digits 4 (clearanceOf xs u) m))
 
   lines-most : (u : ℕ) → u < 100000 → clearanceOf xs u < 100000 → length (userLines xs u) ≤ 6219
   unfolding userLines

@@ -14,7 +14,7 @@ use Rattle.policy.specs.Flow.{flows}
 use Rattle.policy.specs.Tables.{rLevelsAt, wLevelsAt, levelIn, flowsIn}
 use Rattle.policy.specs.Image.{Describes}
 use Rattle.policy.proofs.Flowing.{a-state}
-use Rattle.policy.proofs.Meaning.{counts-known, role-count-file, flow-file, circle-file}
+use Rattle.policy.proofs.Meaning.{role-few, role-count-file, flow-file, circle-file}
 use Rattle.text.proofs.Each.{each-agree}
 use Rattle.rolecheck.specs.Report.{line, flowLine, flowsFrom, policyLines, fileLines, stateLines}
 
@@ -23,12 +23,9 @@ unfolding flowLine
 line-agrees flow flow₂ r q e = rw e
 
 module _ (f : List ℕ) (form : WellFormed f) (xs : List ℕ) (long : 65536 ≤ length xs) (tables : Describes f xs) where
-  role : (r : ℕ) → Among (roles f) r → Among 128 r
-  role r w = let few = counts-known f form .roles in omega arith
-
   pub levels-file : (r : ℕ) → Among (roles f) r → (levelIn xs rLevelsAt r ≡ levelNumber (rLevel f r)) × (levelIn xs wLevelsAt r ≡ levelNumber (wLevel f r))
   levels-file r w =
-      rw (a-state xs long, among-iff 128 r .1 (role r w)) (tables .levelled .reads r (role r w), tables .levelled .writes r (role r w))
+      rw (a-state xs long, among-iff 128 r .1 (role-few f form r w)) (tables .levelled .reads r (role-few f form r w), tables .levelled .writes r (role-few f form r w))
 
   pub lines-file : stateLines xs ≡ fileLines f
   unfolding policyLines
@@ -39,5 +36,5 @@ module _ (f : List ℕ) (form : WellFormed f) (xs : List ℕ) (long : 65536 ≤ 
         each-agree (roles f) (λ r. line 82 3 r (levelIn xs rLevelsAt r) (levelIn xs wLevelsAt r)) (λ r. line 82 3 r (levelNumber (rLevel f r)) (levelNumber (wLevel f r)))
             (λ r w. rw (levels-file r w .0, levels-file r w .1)),
         each-agree (roles f) (flowsFrom (flowsIn xs) (roles f)) (flowsFrom (flows f) (roles f))
-            (λ r v. each-agree (roles f) (flowLine (flowsIn xs) r) (flowLine (flows f) r) (λ q w. line-agrees (flowsIn xs) (flows f) r q (flow-file f form xs tables long r q (role r v) (role q w)))),
+            (λ r v. each-agree (roles f) (flowLine (flowsIn xs) r) (flowLine (flows f) r) (λ q w. line-agrees (flowsIn xs) (flows f) r q (flow-file f form xs tables long r q (role-few f form r v) (role-few f form q w)))),
       )

@@ -25,25 +25,32 @@ isDigit-iff b = (
 
 -- ---- the digits of n, by those of n / 10
 
+pub last-single : (k n : ℕ) → n < 10 → lastDigits (suc k) n ≡ (48 + n) ∷ []
+unfolding lastDigits
+last-single k n l = rw (lt-ltb n 10 l)
+
+pub last-more : (k n : ℕ) → 10 ≤ n → lastDigits (suc k) n ≡ lastDigits k (n / 10) ++ ((48 + n % 10) ∷ [])
+unfolding lastDigits
+last-more k n l = rw (le-ltb n 10 l)
+
 -- more places than n has digits change nothing
 enough : (k m n : ℕ) → n < k → n < m → lastDigits k n ≡ lastDigits m n
-unfolding lastDigits
 enough zero m n p q = absurd (omega arith)
 enough (suc k) zero n p q = absurd (omega arith)
 enough (suc k) (suc m) n p q = elim (decLt n 10) [
-  | yes l ↦ rw (lt-ltb n 10 l)
-  | no l ↦ rw (le-ltb n 10 (omega arith), enough k m (n / 10) (omega arith) (omega arith))
+  | yes l ↦ last-single k n l ∙ sym (last-single m n l)
+  | no l ↦ rw (last-more k n (omega arith), last-more m n (omega arith), enough k m (n / 10) (omega arith) (omega arith))
 ]
 
 single-digit : (n : ℕ) → n < 10 → digits n ≡ (48 + n) ∷ []
-unfolding digits lastDigits
-single-digit n l = rw (lt-ltb n 10 l)
+unfolding digits
+single-digit n l = last-single n n l
 
 more-digits : (n : ℕ) → 10 ≤ n → digits n ≡ digits (n / 10) ++ ((48 + n % 10) ∷ [])
-unfolding digits lastDigits
-more-digits n l = rw (le-ltb n 10 l, enough n (suc (n / 10)) (n / 10) (omega arith) (omega arith))
+unfolding digits
+more-digits n l = rw (last-more n n l, enough n (suc (n / 10)) (n / 10) (omega arith) (omega arith))
 
-few-digits : (k n : ℕ) → n < 10 ^ suc k → length (digits n) ≤ suc k
+pub few-digits : (k n : ℕ) → n < 10 ^ suc k → length (digits n) ≤ suc k
 few-digits zero n p = rw (single-digit n p) (omega arith)
 few-digits (suc k) n p = elim (decLt n 10) [
   | yes l ↦ rw (single-digit n l) (omega arith)

@@ -9,7 +9,7 @@ use native.Mathlib.Omega.{arith}
 use lib.Dec.{leb, ltb, eqb}
 use lib.ListN.{length}
 use borrow.Author.Tests.{eqb-true, eq-eqb, leb-true, le-leb, ltb-true, lt-ltb, not-true, not-false}
-use Rattle.search.specs.Search.{Among, first, implies, LowestOf}
+use Rattle.search.specs.Search.{Among, first, implies}
 use Rattle.search.proofs.Truth.{and-iff, or-iff, implies-iff, among-iff, untrue, both}
 use Rattle.search.proofs.Found.{first-none}
 use Rattle.rolefile.specs.declared.Line.{Line}
@@ -18,7 +18,7 @@ use Rattle.rolefile.specs.Line.{H, U, O, P, lineAt, lines}
 use Rattle.rolefile.specs.Form.{refusal, sized, header, counted, firstLimit, secondLimit, ranged, before, rises}
 use Rattle.rolefile.specs.Form.{headVerdict, bodyVerdict, lineVerdict, count, about, unlabelled, found, unlabelledVerdict, linesVerdict, formVerdict, fine, unless, scan}
 use Rattle.rolefile.specs.Said.{users, cards}
-use Rattle.rolefile.specs.WellFormed.{Sized, GoodCounts, GoodNumbers, Before, Rises, GoodHead, GoodBody, GoodLine, One, WellFormed}
+use Rattle.rolefile.specs.WellFormed.{Sized, GoodCounts, GoodNumbers, Before, Rises, GoodHead, GoodBody, GoodLine, One, LowestUnlabelled, WellFormed}
 use Rattle.rolefile.proofs.Verdicts.{Clean, then-joined}
 use Rattle.rolefile.proofs.Decides.{Decides, Fails, Else, Earliest, decides-fine, decides-clean, decides-when}
 use Rattle.rolefile.proofs.Decides.{then-decides, cond-decides, test-decides, unless-decides, search-decides, scan-decides}
@@ -140,12 +140,8 @@ module _ (f : List ℕ) (k : ℕ) where
         λ o. eq-eqb (count (lines f) (about f k x)) 1 (t .1 (o .line, (o .inside, o .tells, o .only))),
       )
 
-  -- the lowest of n things that has no line of the letter k or more than one
-  abbrev pub LowestWithout : ℕ → ℕ → Type 0
-  LowestWithout n = LowestOf n (λ x. One f k x → ⊥) (One f k)
-
   pub unlabelled-decides : (n place : ℕ) → Decides (found (unlabelled f k n) (refusal 6 place (unlabelled f k n)))
-      ((x : ℕ) → Among n x → One f k x) (λ v. (x : ℕ) × LowestWithout n x × (v ≡ refusal 6 place x))
+      ((x : ℕ) → Among n x → One f k x) (λ v. (x : ℕ) × LowestUnlabelled f k n x × (v ≡ refusal 6 place x))
   unfolding unlabelled
   unlabelled-decides n place = search-decides n bad none has hasNot (refusal 6 place) (λ x. omega arith)
     where
@@ -170,8 +166,8 @@ abbrev pub FormRefusal : List ℕ → Verdict → Type 0
 FormRefusal f =
     Else (Fails (Sized f) (refusal 1 0 0)) (Sized f)
     (Else (Earliest (GoodLine f) (LineRefusal f) (lines f)) ((k : ℕ) → Among (lines f) k → GoodLine f k)
-    (Else (λ v. (u : ℕ) × LowestWithout f U (users f) u × (v ≡ refusal 6 1 u)) ((u : ℕ) → Among (users f) u → One f U u)
-    (λ v. (o : ℕ) × LowestWithout f O (cards f) o × (v ≡ refusal 6 2 o))))
+    (Else (λ v. (u : ℕ) × LowestUnlabelled f U (users f) u × (v ≡ refusal 6 1 u)) ((u : ℕ) → Among (users f) u → One f U u)
+    (λ v. (o : ℕ) × LowestUnlabelled f O (cards f) o × (v ≡ refusal 6 2 o))))
 
 pub form-decides : (f : List ℕ) → Decides (formVerdict f) (WellFormed f) (FormRefusal f)
 unfolding formVerdict linesVerdict unlabelledVerdict

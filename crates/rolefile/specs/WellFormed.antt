@@ -5,7 +5,7 @@ use mathlib.Core.Logic.{_⊎_}
 use mathlib.Core.List.{List}
 use mathlib.Core.Bool.{true}
 use lib.ListN.{length}
-use Rattle.search.specs.Search.{Among}
+use Rattle.search.specs.Search.{Among, LowestOf}
 use Rattle.rolefile.specs.declared.Line.{Line}
 use Rattle.rolefile.specs.Line.{H, U, O, P, lineAt, lines}
 use Rattle.rolefile.specs.Form.{header, firstLimit, secondLimit, about}
@@ -62,6 +62,10 @@ pub record One (f : List ℕ) (k x : ℕ) : Type 0 where
 -- so for each of n things
 abbrev pub OneEach : List ℕ → ℕ → ℕ → Type 0
 OneEach f k n = (x : ℕ) → Among n x → One f k x
+
+-- the lowest of n things that has not
+abbrev pub LowestUnlabelled : List ℕ → ℕ → ℕ → ℕ → Type 0
+LowestUnlabelled f k n = LowestOf n (λ x. One f k x → ⊥) (One f k)
 
 pub record WellFormed (f : List ℕ) : Type 0 where
   pub sized : Sized f

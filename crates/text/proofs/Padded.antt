@@ -12,27 +12,20 @@ use lib.ListN.{length, take, drop, replicate, length-append, length-drop, length
 use lib.Seq.{take-all, drop-at}
 use borrow.Author.Tests.{lt-ltb, le-ltb}
 use Rattle.rolefile.specs.Decimal.{lastDigits, digits, padded}
+use Rattle.rolefile.proofs.Decimals.{last-single, last-more}
 use Rattle.text.specs.Text.{lastFive}
 
--- ---- the last digits of n, by those of n / 10
-
-single-digit : (k n : ℕ) → n < 10 → lastDigits (suc k) n ≡ (48 + n) ∷ []
-unfolding lastDigits
-single-digit k n l = rw (lt-ltb n 10 l)
-
-more-digits : (k n : ℕ) → 10 ≤ n → lastDigits (suc k) n ≡ lastDigits k (n / 10) ++ ((48 + n % 10) ∷ [])
-unfolding lastDigits
-more-digits k n l = rw (le-ltb n 10 l)
+-- ---- the last digits of n
 
 -- more places than n has digits change nothing
 same-digits : (k m n : ℕ) → n < 10 ^ suc k → n < m → lastDigits (suc k) n ≡ lastDigits m n
 same-digits k zero n high l = absurd (omega arith)
-same-digits zero (suc m) n high l = single-digit 0 n high ∙ sym (single-digit m n high)
+same-digits zero (suc m) n high l = last-single 0 n high ∙ sym (last-single m n high)
 same-digits (suc k) (suc m) n high l = elim (decLt n 10) [
-  | yes s ↦ rw (single-digit (suc k) n s, single-digit m n s)
+  | yes s ↦ rw (last-single (suc k) n s, last-single m n s)
   | no s ↦
       let p : 10 ≤ n = omega arith in
-      rw (more-digits (suc k) n p, more-digits m n p, same-digits k m (n / 10) (omega arith) (omega arith))
+      rw (last-more (suc k) n p, last-more m n p, same-digits k m (n / 10) (omega arith) (omega arith))
 ]
 
 pub all-digits : (n : ℕ) → n < 100000 → lastDigits 5 n ≡ digits n
@@ -52,7 +45,7 @@ last-count zero n low = elim (decLt n 10) [
 ]
 last-count (suc j) n low =
     let least : 10 ^ suc j ≤ n = low (omega arith) in
-    rw (more-digits (suc j) n (omega (arith, power-some j)), length-append, last-count j (n / 10) (λ m. omega arith)) (omega arith)
+    rw (last-more (suc j) n (omega (arith, power-some j)), length-append, last-count j (n / 10) (λ m. omega arith)) (omega arith)
 
 pub digit-count : (j n : ℕ) → (1 ≤ j → 10 ^ j ≤ n) → n < 10 ^ suc j → length (digits n) ≡ suc j
 unfolding digits
@@ -90,8 +83,8 @@ last-filled k n before = elim (decLt n 10) [
       let none : n / 10 ≡ 0 = omega arith in
       let whole : n % 10 ≡ n = omega arith in
       let one : suc k - length ((48 + n) ∷ []) ≡ k = omega arith in
-      rw (single-digit k n s, none, whole, blank-places k, one)
-  | no s ↦ rw (more-digits k n (omega arith), before (omega arith)) (filled-more k (48 + n % 10) (lastDigits k (n / 10)))
+      rw (last-single k n s, none, whole, blank-places k, one)
+  | no s ↦ rw (last-more k n (omega arith), before (omega arith)) (filled-more k (48 + n % 10) (lastDigits k (n / 10)))
 ]
 
 places-filled : (k n : ℕ) → 1 ≤ n → places k n ≡ filled k (lastDigits k n)
