@@ -1,4 +1,4 @@
--- The two days of `Worked`, computed: they fall under demand 3 for label 2, which is shown the same on both; label 4 is not. Assumes nothing.
+-- The two runs of `Worked`, computed: they fall under demand 3 for label 2, which is shown the same in both; label 4 is not. Assumes nothing.
 use Prim.Native.Nat.{ℕ, _+_, _*_, _-_}
 use mathlib.Core.Path.{_≡_, refl, sym, ap, _∙_}
 use mathlib.Core.List.{List, [], map}

@@ -1,4 +1,4 @@
--- Two runs worked out: a file of two rival makers, the calls of two days that differ only in what the second maker's translator does, and what each label is shown. The
+-- Two runs worked out: a file of two rival makers, the calls of two runs that differ only in what the second maker's translator does, and what each label is shown. The
 -- numbers and bytes are written by hand from document 01. Assumes nothing.
 use Prim.Native.Nat.{ℕ}
 use mathlib.Core.List.{List, [], _∷_, _++_}
@@ -39,7 +39,7 @@ firstStore = replicate 192 46
 unfoldable pub secondStore : List ℕ
 secondStore = replicate 128 46 ++ replicate 64 47
 
--- user 1 sits at place 1, for the first maker; user 2 at place 2, for the second, and writes one wording the first day and another the second
+-- user 1 is at place 1, for the first maker; user 2 at place 2, for the second, and writes one wording in the first run and another in the second
 unfoldable pub firstRun : List Call
 firstRun =
     opens 1 1 2
@@ -80,7 +80,7 @@ gave given = record { number = 0; bytes = given }
 abbrev pub refused : ℕ → Answer
 refused n = record { number = n; bytes = [] }
 
--- what label 2, the first maker's, is shown on either day: the openings, user 1's role, write and reads, of which the one of card 3 is refused, and the closing
+-- what label 2, the first maker's, is shown in either run: the openings, user 1's role, write and reads, of which the one of card 3 is refused, and the closing
 unfoldable pub low : List Answer
 low = done ∷ done ∷ done ∷ done ∷ gave (65 ∷ 46 ∷ []) ∷ gave (46 ∷ []) ∷ refused 29 ∷ done ∷ []
 
