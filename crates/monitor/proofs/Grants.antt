@@ -16,7 +16,7 @@ use Rattle.order.specs.Bound.{converse}
 use Rattle.rolefile.specs.declared.Verdict.{Verdict}
 use Rattle.rolefile.specs.Said.{labels, roles, users, cards, assigned}
 use Rattle.policy.specs.Policy.{dominates, senior, may, mayAt, rLevel, wLevel, passes}
-use Rattle.policy.specs.Accepted.{Accepted, Passing}
+use Rattle.policy.specs.Accepted.{ReadsUnder, WritesOver, Accepted, Passing}
 use Rattle.policy.specs.Image.{Loaded}
 use Rattle.policy.proofs.Levels.{converse-order, passes-iff}
 use Rattle.monitor.specs.Calls.{unless}
@@ -108,7 +108,7 @@ module _ (f : List ℕ) (cs : List Call) where
 
   module _ (order : PartialOrder (labels f) (dominates f)) where
     fitting-by-file-iff : (l r : ℕ) → (fittingByFile f l r ≡ true)
-        ↔ (Passing (labels f) (dominates f) (mayAt f 1 r) (dominates f l) × Passing (labels f) (converse (dominates f)) (mayAt f 2 r) (λ a. dominates f a l))
+        ↔ (ReadsUnder f l r × WritesOver f l r)
     unfolding fittingByFile rLevel wLevel
     fitting-by-file-iff l r =
         let reads = passes-iff (labels f) (dominates f) (mayAt f 1 r) order (dominates f l) in

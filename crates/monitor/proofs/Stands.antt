@@ -12,9 +12,8 @@ use lib.ListN.{length, getD, replicate, getD-replicate, length-set}
 use borrow.Author.Tests.{eq-eqb, ne-eqb}
 use Rattle.search.specs.Search.{Among}
 use Rattle.search.proofs.Truth.{among-iff}
-use Rattle.roleset.specs.Row.{member, Placed, added, removed}
+use Rattle.roleset.specs.Row.{member, Kept, Placed, added, removed}
 use Rattle.roleset.proofs.Rows.{member-of, same-bytes, no-bits}
-use Rattle.policy.specs.Tables.{Kept}
 use Rattle.policy.specs.Image.{Describes, Image}
 use Rattle.policy.proofs.Builds.{describes-stays}
 use Rattle.monitor.specs.Session.{placeAt, heldAt}

@@ -7,10 +7,9 @@ use mathlib.Core.Bool.{Bool, true, false, _&&_}
 use lib.Dec.{eqb}
 use lib.ListN.{length}
 use Rattle.search.specs.Search.{Among}
-use Rattle.order.specs.Bound.{converse}
 use Rattle.rolefile.specs.Said.{labels, roles, users, cards, clearance, assigned}
-use Rattle.policy.specs.Policy.{dominates, senior, may, mayAt}
-use Rattle.policy.specs.Accepted.{Passing}
+use Rattle.policy.specs.Policy.{dominates, senior, may}
+use Rattle.policy.specs.Accepted.{ReadsUnder, WritesOver}
 use Rattle.monitor.specs.Runs.{Call, opens, closes, takes, drops, reads, writes}
 use Rattle.monitor.specs.Rules.{Sessions, noSessions, rule, sessions}
 
@@ -65,8 +64,8 @@ pub record MayTake (f : List ℕ) (cs : List Call) (p r : ℕ) : Type 0 where
   pub session : OpenPlace f cs p
   pub role : Among (roles f) r
   pub member : (q : ℕ) × Among (roles f) q × (assigned f (session .user) q ≡ true) × (senior f q r ≡ true)
-  pub reads : Passing (labels f) (dominates f) (mayAt f 1 r) (dominates f (session .label))
-  pub writes : Passing (labels f) (converse (dominates f)) (mayAt f 2 r) (λ a. dominates f a (session .label))
+  pub reads : ReadsUnder f (session .label) r
+  pub writes : WritesOver f (session .label) r
 
 pub record MayDrop (f : List ℕ) (cs : List Call) (p r : ℕ) : Type 0 where
   pub session : OpenPlace f cs p

@@ -10,7 +10,7 @@ use mathlib.Core.Bool.{Bool, false}
 use mathlib.Core.List.{List, []}
 use lib.ListN.{length, getD}
 use Rattle.search.specs.Search.{Among}
-use Rattle.roleset.specs.Row.{member}
+use Rattle.roleset.specs.Row.{member, Kept}
 use Rattle.order.specs.Closure.{Relation}
 
 abbrev pub marks : List Bool → ℕ → Bool
@@ -31,5 +31,5 @@ related xs at a b = member xs (at + 16 * (a - 1)) b
 -- ys is xs with the rows 1 to n of the table at `at` as h says, and nothing else changed; a table that does not lie wholly in xs is left alone
 pub record Tabled (at n : ℕ) (h : Relation) (xs ys : List ℕ) : Type 0 where
   pub rows : at + 2048 ≤ length xs → Rows 128 n h (related xs at) (related ys at)
-  pub rest : (i : ℕ) → (at ≤ i → at + 16 * n ≤ i) → getD ys i 0 ≡ getD xs i 0
+  pub rest : Kept at (at + 16 * n) xs ys
   pub none : length xs < at + 2048 → ys ≡ xs

@@ -17,7 +17,7 @@ use Rattle.rolefile.specs.Line.{A, lineAt, lines}
 use Rattle.rolefile.specs.Form.{refusal, header, scan}
 use Rattle.rolefile.specs.Said.{labels, roles, users, over, clearance}
 use Rattle.rolefile.specs.Section.{one, two}
-use Rattle.rolefile.specs.WellFormed.{GoodCounts}
+use Rattle.rolefile.specs.WellFormed.{GoodCounts, GoodLines}
 use Rattle.rolefile.proofs.Verdicts.{Clean, unless-clean}
 use Rattle.rolefile.proofs.Sections.{part, Section, told}
 use Rattle.rolefile.proofs.Within.{scan-within}
@@ -26,7 +26,7 @@ use Rattle.policy.specs.Policy.{dominates, mayAt, level, rLevel, wLevel,
 use Rattle.policy.specs.Tables.{dominanceAt, clearancesAt, rLevelsAt, wLevelsAt, byteOf, marked, assignByTables}
 use Rattle.policy.specs.Image.{Labelled, Dominating, Levelled}
 use Rattle.policy.specs.Verdict.{assignVerdict, assignmentVerdict}
-use Rattle.policy.proofs.Readying.{Good, one-within, two-within, limits-a}
+use Rattle.policy.proofs.Readying.{one-within, two-within, limits-a}
 use Rattle.policy.proofs.Inside.{Between, closure-between}
 use Rattle.policy.proofs.Levels.{Tells, level-tells}
 use Rattle.policy.proofs.Checks.{assignment-clean}
@@ -119,7 +119,7 @@ module _ (f ys : List ℕ) (counts : GoodCounts (header f)) (between : Between (
 
 -- ---- the assignments of a file, by the section of its A lines
 
-module _ (f : List ℕ) (good : Good f) (counts : GoodCounts (header f)) {j m : ℕ} (s : Section f A j m) where
+module _ (f : List ℕ) (good : GoodLines f) (counts : GoodCounts (header f)) {j m : ℕ} (s : Section f A j m) where
   pub numbers-within : (i : ℕ) → Among m i → Among 256 (one (part f j) i) × Among 128 (two (part f j) i)
   numbers-within i w =
       let u = rw (limits-a (header f) .0) at (one-within f good s (omega arith) i w) in

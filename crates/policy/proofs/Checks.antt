@@ -115,7 +115,7 @@ module _ (f : List ℕ) (o : PartialOrder (labels f) (dominates f)) where
 
       Why : Verdict → Type 0
       Why = Else (Fails (NoWriteLevel f r → ⊥) (refusal 14 u r)) (NoWriteLevel f r → ⊥)
-          (Else (Fails (ReadsUnder f u r) (refusal 15 u r)) (ReadsUnder f u r) (Fails (WritesOver f u r) (refusal 16 u r)))
+          (Else (Fails (ReadsUnder f (clearance f u) r) (refusal 15 u r)) (ReadsUnder f (clearance f u) r) (Fails (WritesOver f (clearance f u) r) (refusal 16 u r)))
 
       to : (v : Verdict) → Why v → AssignRefusal f u r v
       to v (inl (d, e)) = (14, noLevel (without-bound (labels f) (converse (dominates f)) (mayAt f 2 r) d), e)

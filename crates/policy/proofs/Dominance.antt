@@ -20,27 +20,21 @@ use Rattle.rolefile.specs.Form.{refusal, found, header}
 use Rattle.rolefile.specs.Said.{labels, over}
 use Rattle.rolefile.specs.Section.{one, two}
 use Rattle.rolefile.proofs.Sections.{part, Section, says-two}
+use Rattle.rolefile.specs.WellFormed.{GoodLines}
 use Rattle.policy.specs.Policy.{dominates}
 use Rattle.policy.specs.Tables.{pairs}
 use Rattle.policy.specs.Verdict.{orderVerdict, labelVerdict}
 use Rattle.policy.specs.Stages.{Paths, Closed}
 use Rattle.policy.proofs.Marked.{Marking}
-use Rattle.policy.proofs.Readying.{Good, one-within, limits-d}
+use Rattle.policy.proofs.Inside.{over-between}
+use Rattle.policy.proofs.Ranks.{pairs-say}
 
 -- ---- the tables
 
-module _ (f : List ℕ) (good : Good f) (few : labels f ≤ 32) {j m : ℕ} (s : Section f D j m) where
+module _ (f : List ℕ) (good : GoodLines f) (few : labels f ≤ 32) {j m : ℕ} (s : Section f D j m) where
   pairs-over : (a b : ℕ) → pairs (part f j) m a b ≡ over f a b
-  unfolding pairs fields
-  pairs-over a b = sym (says-two f good s refl a b)
-
-  -- only a label is over another
-  over-label : (a b : ℕ) → over f a b ≡ true → a ≤ labels f
-  unfolding pairs
-  over-label a b e =
-      let (i, w, h) = some-iff (λ i. eqb (one (part f j) i) a && eqb (two (part f j) i) b) m .0 (pairs-over a b ∙ e) in
-      let named = eqb-true (one (part f j) i) a (and-iff (eqb (one (part f j) i) a) (eqb (two (part f j) i) b) .0 h .0) in
-      omega (arith, one-within f good s (omega arith) i w, limits-d (header f) .0)
+  unfolding fields
+  pairs-over a b = pairs-say f good s refl a b
 
   -- t has the marks of the D lines, and u its paths
   pub paths-of : (t u : List (List Bool)) → Marking (part f j) m t → Rows 32 (labels f) (path (labels f) (mark t)) (mark t) (mark u) → Paths f u
@@ -48,7 +42,7 @@ module _ (f : List ℕ) (good : Good f) (few : labels f ≤ 32) {j m : ℕ} (s :
     inside = λ a b v w. rows .done a b v w
         ∙ via-agree (labels f) 32 (mark t) (over f) few (λ a b v w. said a b (omega arith) w ∙ pairs-over a b) (labels f) (omega arith) a b v w;
     outside = λ a b l v w. rows .left a b l v w
-        ∙ said a b (omega arith) w ∙ pairs-over a b ∙ untrue (over f a b) (λ e. let k = over-label a b e in omega arith);
+        ∙ said a b (omega arith) w ∙ pairs-over a b ∙ untrue (over f a b) (λ e. let k = over-between f good a b e in omega arith);
   }
 
 pub closed-of : (f : List ℕ) (t c : List (List Bool)) → Paths f t

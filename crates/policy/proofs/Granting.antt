@@ -13,7 +13,7 @@ use borrow.Author.Tests.{eqb-true, eq-eqb, le-leb}
 use Rattle.search.specs.Search.{Among, among, some}
 use Rattle.search.proofs.Truth.{and-iff, among-iff, untrue, same}
 use Rattle.search.proofs.Found.{some-of, some-iff, some-none, some-agree}
-use Rattle.roleset.specs.Row.{member}
+use Rattle.roleset.specs.Row.{member, Kept}
 use Rattle.roleset.proofs.Rows.{member-of, no-bits, same-bytes}
 use Rattle.order.specs.Closure.{Relation}
 use Rattle.order.specs.Bound.{converse}
@@ -25,15 +25,15 @@ use Rattle.rolefile.specs.Line.{P}
 use Rattle.rolefile.specs.Form.{header}
 use Rattle.rolefile.specs.Said.{labels, roles, cards, above, permits, cardLabel}
 use Rattle.rolefile.specs.Section.{one, two, three}
-use Rattle.rolefile.specs.WellFormed.{GoodCounts}
+use Rattle.rolefile.specs.WellFormed.{GoodCounts, GoodLines}
 use Rattle.rolefile.proofs.Sections.{part, Section, says-three}
 use Rattle.policy.specs.declared.build.Parts.{Parts}
 use Rattle.policy.specs.Policy.{dominates, senior, may, mayAt, level, rLevel, wLevel, levelNumber}
-use Rattle.policy.specs.Tables.{dominanceAt, cardLabelsAt, rLevelsAt, wLevelsAt, seniorsAt, readersAt, writersAt, byteOf, rowOf, Kept}
+use Rattle.policy.specs.Tables.{dominanceAt, cardLabelsAt, rLevelsAt, wLevelsAt, seniorsAt, readersAt, writersAt, byteOf, rowOf}
 use Rattle.policy.specs.Tables.{grantedByLines, gathered, Bytes, GrantedRows}
 use Rattle.policy.specs.Image.{Labelled, Seniors, Permitting}
 use Rattle.policy.specs.Stages.{Ready, Zeros, Closed, Granting}
-use Rattle.policy.proofs.Readying.{Good, good-of, counts-of, section-p, one-within, limits-p}
+use Rattle.policy.proofs.Readying.{good-of, counts-of, section-p, one-within, limits-p}
 use Rattle.policy.proofs.Inside.{Between, closure-between, above-between}
 use Rattle.policy.proofs.Gathering.{level-empty, level-same-set}
 
@@ -79,7 +79,7 @@ by-line n m x t u inside = same (some m line) (some n thing) (λ h. to (some-iff
 abbrev pub Allows : List ℕ → ℕ → ℕ → List ℕ → Type 0
 Allows f d at xs = (o r : ℕ) → Among 512 o → Among 128 r → member xs (rowOf at o) r ≡ may f d r o
 
-module _ (f xs : List ℕ) (good : Good f) (few : roles f ≤ 128) (seniors : Seniors f xs) {j m : ℕ} (s : Section f P j m) where
+module _ (f xs : List ℕ) (good : GoodLines f) (few : roles f ≤ 128) (seniors : Seniors f xs) {j m : ℕ} (s : Section f P j m) where
   role-within : (i : ℕ) → Among m i → Among (roles f) (one (part f j) i)
   role-within i w = rw (limits-p (header f) .0) at (one-within f good s (omega arith) i w)
 
@@ -187,7 +187,7 @@ module _ (f : List ℕ) (q : Parts) (h : Line) (t up : List (List Bool)) (x₀ x
     (read-levels : Bytes rLevelsAt (h .b) (λ r. levelNumber (level (h .a) (converse (mark up)) (λ l. member reading (rowOf 0 l) r))) x₂ x₃)
     (writes : (l r : ℕ) → Among 32 l → Among 128 r → member writing (rowOf 0 l) r ≡ gathered x₃ writersAt (h .d) l r)
     (write-levels : Bytes wLevelsAt (h .b) (λ r. levelNumber (level (h .a) (converse (mark t)) (λ l. member writing (rowOf 0 l) r))) x₃ x₄) where
-  good : Good f
+  good : GoodLines f
   good = good-of f (ready .lines)
 
   counts : GoodCounts (header f)

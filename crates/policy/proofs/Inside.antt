@@ -15,8 +15,8 @@ use Rattle.order.specs.Closure.{Relation, via, path, closure}
 use Rattle.rolefile.specs.Line.{H, D, S, O, A, lineAt, lines}
 use Rattle.rolefile.specs.Form.{header, firstLimit, secondLimit, about}
 use Rattle.rolefile.specs.Said.{labels, roles, users, is, says, over, above, assigned, last, labelBy, cardLabel}
-use Rattle.rolefile.specs.WellFormed.{GoodNumbers, One}
-use Rattle.policy.proofs.Readying.{Good, limits-d, limits-s, limits-o, limits-a}
+use Rattle.rolefile.specs.WellFormed.{GoodNumbers, One, GoodLines}
+use Rattle.policy.proofs.Readying.{limits-d, limits-s, limits-o, limits-a}
 
 -- a relation between the things 1 to n alone
 abbrev pub Between : ℕ → Relation → Type 0
@@ -49,7 +49,7 @@ last-of (suc n) p v Q h i w e = by (p (suc n)) refl (λ u. last-of n p v Q (λ j
     by true k earlier = h (suc n) (omega arith) k
     by false k earlier = earlier (⊎-elim (λ same. absurd (both e (rw same k))) (λ u. u) (last-or n i w))
 
-module _ (f : List ℕ) (good : Good f) where
+module _ (f : List ℕ) (good : GoodLines f) where
   -- a line of a letter after H is not the first
   numbers-known : (k : ℕ) → H < k → (i : ℕ) → Among (lines f) i → lineAt f i .letter ≡ k → GoodNumbers (header f) (lineAt f i)
   numbers-known k after i w e = elim (ℕ-discrete i 1) [

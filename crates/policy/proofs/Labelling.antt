@@ -11,6 +11,7 @@ use lib.Dec.{leb, eqb}
 use borrow.Author.Tests.{eqb-true, not-false, le-leb, lt-leb, ne-eqb}
 use Rattle.search.specs.Search.{Among, first}
 use Rattle.search.proofs.Found.{first-none, first-agree}
+use Rattle.roleset.specs.Row.{Kept}
 use Rattle.rolefile.specs.declared.Verdict.{Verdict}
 use Rattle.rolefile.specs.Line.{H, U, O, lines}
 use Rattle.rolefile.specs.Form.{fine, refusal, header, firstLimit, secondLimit, count, about, unlabelled, linesVerdict, unlabelledVerdict}
@@ -18,10 +19,11 @@ use Rattle.rolefile.specs.Said.{users, cards, last, labelBy}
 use Rattle.rolefile.specs.Section.{one, two}
 use Rattle.rolefile.proofs.Within.{count-within}
 use Rattle.rolefile.proofs.Sections.{part, Section, count-about, label-section}
+use Rattle.rolefile.specs.WellFormed.{GoodLines}
 use Rattle.policy.specs.declared.build.Parts.{Parts}
-use Rattle.policy.specs.Tables.{clearancesAt, cardLabelsAt, byteOf, Bytes, Kept, noted, notes, unlabelledByte}
+use Rattle.policy.specs.Tables.{clearancesAt, cardLabelsAt, byteOf, Bytes, noted, notes, unlabelledByte}
 use Rattle.policy.specs.Stages.{Laid, Zeros, Noting}
-use Rattle.policy.proofs.Readying.{Good, good-of, counts-of, section-u, section-o, one-within, two-within, limits-u, limits-o}
+use Rattle.policy.proofs.Readying.{good-of, counts-of, section-u, section-o, one-within, two-within, limits-u, limits-o}
 
 -- ---- one byte
 
@@ -73,7 +75,7 @@ pub record Table (f : List ℕ) (k n at size : ℕ) (ys : List ℕ) : Type 0 whe
   pub lowest : first n (λ x. unlabelledByte (byteOf ys at x)) ≡ unlabelled f k n
   pub all : unlabelled f k n ≡ 0 → (x : ℕ) → Among size x → byteOf ys at x ≡ labelBy f k x
 
-module _ (f : List ℕ) (good : Good f) {k j m : ℕ} (s : Section f k j m) (after : H < k)
+module _ (f : List ℕ) (good : GoodLines f) {k j m : ℕ} (s : Section f k j m) (after : H < k)
     (n : ℕ) (most : firstLimit (header f) k ≡ n) (small : secondLimit (header f) k ≤ 32) where
   module _ (x : ℕ) where
     abbrev lineCount : ℕ

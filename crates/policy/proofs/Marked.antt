@@ -14,9 +14,10 @@ use borrow.Author.Tests.{eqb-true, eq-eqb, ne-eqb}
 use Rattle.search.specs.Search.{Among, some}
 use Rattle.search.proofs.Truth.{and-iff, untrue}
 use Rattle.search.proofs.Found.{last-or, some-more}
+use Rattle.roleset.specs.Row.{Kept}
 use Rattle.order.specs.Table.{marks, mark}
 use Rattle.rolefile.specs.Section.{one, two}
-use Rattle.policy.specs.Tables.{Kept, dominanceAt, pairs}
+use Rattle.policy.specs.Tables.{dominanceAt, pairs}
 
 -- the table r is t with a mark for a over b
 abbrev pub WithPair : ℕ → ℕ → List (List Bool) → List (List Bool) → Type 0

@@ -17,6 +17,7 @@ use Rattle.order.proofs.Closure.{circle-finds, circle-lowest, circle-agree}
 use Rattle.rolefile.specs.Form.{header}
 use Rattle.rolefile.specs.Said.{labels, roles, cards}
 use Rattle.rolefile.specs.WellFormed.{GoodCounts, WellFormed}
+use Rattle.rolefile.proofs.Formed.{header-counts}
 use Rattle.policy.specs.Policy.{dominates, may}
 use Rattle.policy.specs.Flow.{flows, flowCircle}
 use Rattle.policy.specs.Tables.{readersAt, writersAt, stateSize, rowOf, marked, flowing, rolesUpTo, cardsUpTo, roleCount, flowsIn, circleIn}
@@ -28,7 +29,7 @@ use Rattle.policy.proofs.Flowing.{a-state}
 
 module _ (f : List ℕ) (form : WellFormed f) where
   pub counts-known : GoodCounts (header f)
-  counts-known = let s = form .sized in form .good 1 (omega (arith, s .some, s .whole)) .head refl .counts
+  counts-known = header-counts f (form .sized) (form .good)
 
   pub role-few : (r : ℕ) → Among (roles f) r → Among 128 r
   role-few r w = let few = counts-known .roles in omega arith

@@ -1,7 +1,6 @@
--- Tables of one byte for each thing: bytes that a loop stores from the front, and labels that the lines of a part note. Assumes nothing.
-use Prim.Native.Nat.{ℕ, _+_, _-_, _≤_, _<_}
+-- Tables of one byte for each thing: bytes that a loop writes from the front, and labels that the lines of a part note. Assumes nothing.
+use Prim.Native.Nat.{ℕ, _+_, _-_, _≤_}
 use mathlib.Core.Path.{_≡_, refl, _∙_}
-use mathlib.Core.Logic.{⊎-elim}
 use mathlib.Core.Bool.{cond}
 use mathlib.Core.List.{List}
 use native.Mathlib.Omega.{arith}
@@ -12,30 +11,16 @@ use lib.ListN.{length, set}
 use lib.Seq.{getD-set-same, getD-set-other}
 use borrow.Author.Tests.{eq-eqb, ne-eqb}
 use Rattle.search.specs.Search.{Among}
-use Rattle.search.proofs.Found.{last-or}
-use Rattle.order.proofs.Stored.{place}
+use Rattle.roleset.proofs.Rows.{Written, kept-more}
 use Rattle.rolefile.specs.Section.{one, two}
-use Rattle.policy.specs.Tables.{byteOf, Bytes, Kept, noted, notes}
+use Rattle.policy.specs.Tables.{byteOf, Bytes, noted, notes}
 
--- what stands outside a part is kept by a store in it
-pub kept-more : (a b i v : ℕ) (xs ys : List ℕ) → a ≤ i → i < b → Kept a b xs ys → Kept a b xs (set ys i v)
-kept-more a b i v xs ys l m k j o = getD-set-other ys i j v 0 (λ e. omega (arith, o (omega arith))) ∙ k j o
-
--- i bytes of a table are stored, and then one more
-module _ (at : ℕ) (v : ℕ → ℕ) (xs : List ℕ) where
-  pub store-none : Bytes at 0 v xs xs
-  store-none = record { bytes = λ x w. absurd (omega arith); rest = λ i o. refl }
-
-  pub store-more : (i byte : ℕ) (ys : List ℕ) → Bytes at i v xs ys → at + i < length ys → byte ≡ v (i + 1)
-      → Bytes at (i + 1) v xs (set ys (at + i) byte)
-  store-more i byte ys b l e = record {
-    bytes = λ x w. ⊎-elim
-        (λ q. let r : x ≡ i + 1 = omega arith in rw (r, place i) (getD-set-same ys (at + i) byte 0 l ∙ e))
-        (λ u. getD-set-other ys (at + i) (at + (x - 1)) byte 0 (λ q. omega arith) ∙ b .bytes x u)
-        (last-or i x (rw add-one at w));
-    rest =
-        kept-more at (at + (i + 1)) (at + i) byte xs ys (omega arith) (omega arith) (λ k o. b .rest k (λ m. omega (arith, o m)));
-  }
+-- a table's bytes, all written one by one
+pub all-stored : {at i size : ℕ} (v : ℕ → ℕ) {xs ys : List ℕ} → Written at i (λ k. v (k + 1)) xs ys → i ≡ size → Bytes at size v xs ys
+all-stored v w e = record {
+  bytes = λ x l. let s : x - 1 + 1 ≡ x = omega arith in rw s at (w .done (x - 1) (omega arith));
+  rest = λ k o. w .rest k (λ m. omega (arith, o m));
+}
 
 -- thing y's byte when a label is noted for thing x
 abbrev pub afterNote : List ℕ → ℕ → ℕ → ℕ → ℕ → ℕ

@@ -10,34 +10,17 @@ use Rattle.rolefile.specs.declared.Verdict.{Verdict}
 use Rattle.rolefile.specs.Line.{lines}
 use Rattle.rolefile.specs.Form.{fine, refusal, _then_, scan, found}
 use Rattle.rolefile.specs.Said.{labels, roles, over, above}
-use Rattle.rolefile.specs.WellFormed.{WellFormed}
+use Rattle.rolefile.specs.WellFormed.{WellFormed, LineRefused, noHeader, badCounts, malformed, badNumbers, unordered}
 use Rattle.rolefile.proofs.Verdicts.{then-joined}
 use Rattle.rolefile.proofs.Decides.{Decides, Else, Earliest, decides-zero, decides-fine, decides-when, then-decides, scan-decides}
-use Rattle.rolefile.proofs.Formed.{LineRefusal, FormRefusal, form-decides}
+use Rattle.rolefile.proofs.Formed.{FormRefusal, form-decides}
 use Rattle.policy.specs.Policy.{dominates, senior}
 use Rattle.policy.specs.Verdict.{orderVerdict, labelVerdict, roleVerdict, assignmentVerdict, policyVerdict, verdict}
-use Rattle.policy.specs.Accepted.{GoodOrder, LabelOrder, GoodAssignment, Accepted, LineRefused, AssignRefused, Outcome}
-use Rattle.policy.specs.Accepted.{noHeader, badCounts, malformed, badNumbers, unordered, noLevel, readsMore, writesLess}
+use Rattle.policy.specs.Accepted.{GoodOrder, LabelOrder, GoodAssignment, Accepted, AssignRefused, Outcome}
+use Rattle.policy.specs.Accepted.{noLevel, readsMore, writesLess}
 use Rattle.policy.specs.Accepted.{accepted, badSize, badLine, badUser, badCard, labelCircle, noBound, roleCircle, badAssignment}
 use Rattle.policy.proofs.Checks.{CircleRefusal, PairRefusal, AssignmentRefusal}
 use Rattle.policy.proofs.Checks.{circle-decides, pair-decides, assignment-decides}
-
--- ---- why a line is refused
-
-module _ (f : List ℕ) (k : ℕ) where
-  line-refused : (v : Verdict) → LineRefusal f k v → (n : ℕ) × LineRefused f k n × (v ≡ refusal n k 0)
-  line-refused v (inl (i, inl (h, e))) = (2, noHeader i (rw i h), rw i e)
-  line-refused v (inl (i, inr (l, (h, e)))) = (3, badCounts i (rw i l) (rw i h), rw i e)
-  line-refused v (inr (i, inl (h, e))) = (2, malformed i (omega arith), e)
-  line-refused v (inr (i, inr (l, inl (h, e)))) = (4, badNumbers i l h, e)
-  line-refused v (inr (i, inr (l, inr (g, (h, e))))) = (5, unordered i l g h, e)
-
-  line-refusal : {n : ℕ} → LineRefused f k n → LineRefusal f k (refusal n k 0)
-  line-refusal (noHeader i h) = inl (i, inl (rw i at h, rw i))
-  line-refusal (badCounts i l h) = inl (i, inr (rw i at l, (rw i at h, rw i)))
-  line-refusal (malformed i h) = inr (i, inl (omega arith, refl))
-  line-refusal (badNumbers i l h) = inr (i, inr (l, inl (h, refl)))
-  line-refusal (unordered i l g h) = inr (i, inr (l, inr (g, (h, refl))))
 
 -- ---- the whole verdict
 
@@ -70,7 +53,7 @@ verdict-decides f =
 module _ (f : List ℕ) where
   meant : (v : Verdict) → Refusal f v → Outcome f v
   meant v (inl (inl (h, e))) = rw e (badSize h)
-  meant v (inl (inr (s, inl (k, w, low, r)))) = let (n, l, e) = line-refused f k v r in rw e (badLine s w low l)
+  meant v (inl (inr (s, inl (k, w, low, r)))) = let (n, l, e) = r in rw e (badLine s w low l)
   meant v (inl (inr (s, inr (g, inl (u, l, e))))) = rw e (badUser s g l)
   meant v (inl (inr (s, inr (g, inr (us, (o, l, e)))))) = rw e (badCard s g us l)
   meant v (inr (w, inl (a, l, e))) = rw e (labelCircle w l)
@@ -92,7 +75,7 @@ module _ (f : List ℕ) where
       only : {v : Verdict} → Outcome f v → v ≡ verdict f
       only (accepted a) = sym (verdict-decides f .good a)
       only (badSize h) = refused (inl (inl (h, refl)))
-      only (badLine {n} {k} s w low l) = refused (inl (inr (s, inl (k, w, low, line-refusal f k l))))
+      only (badLine {n} {k} s w low l) = refused (inl (inr (s, inl (k, w, low, (n, l, refl)))))
       only (badUser {u} s g l) = refused (inl (inr (s, inr (g, inl (u, l, refl)))))
       only (badCard {o} s g us l) = refused (inl (inr (s, inr (g, inr (us, (o, l, refl))))))
       only (labelCircle {a} w l) = refused (inr (w, inl (a, l, refl)))

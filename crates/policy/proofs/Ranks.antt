@@ -7,11 +7,11 @@ use native.Mathlib.Omega.{arith}
 use native.Mathlib.Decide.{decLe}
 use lib.Dec.{leb, eqb}
 use lib.ListN.{length, drop}
-use borrow.Author.Tests.{ne-eqb, eqb-true, le-leb, lt-leb}
+use borrow.Author.Tests.{ne-eqb, le-leb, lt-leb}
 use Rattle.search.specs.Search.{Among}
-use Rattle.search.proofs.Truth.{and-iff, untrue, eqb-swap}
-use Rattle.search.proofs.Found.{some-iff, first-agree}
-use Rattle.roleset.specs.Row.{member}
+use Rattle.search.proofs.Truth.{untrue, eqb-swap}
+use Rattle.search.proofs.Found.{first-agree}
+use Rattle.roleset.specs.Row.{member, Kept}
 use Rattle.roleset.proofs.Rows.{member-of, no-bits}
 use Rattle.order.specs.Closure.{path, loop, circle, reflexive}
 use Rattle.order.specs.Table.{related, Tabled}
@@ -23,47 +23,33 @@ use Rattle.rolefile.specs.Form.{fine, refusal, header}
 use Rattle.rolefile.specs.Said.{roles, above}
 use Rattle.rolefile.specs.Section.{one, two}
 use Rattle.rolefile.proofs.Sections.{part, Section, says-two}
+use Rattle.rolefile.specs.WellFormed.{GoodLines}
 use Rattle.policy.specs.Policy.{senior}
-use Rattle.policy.specs.Tables.{rowOf, seniorsAt, Kept, pairs, Related}
+use Rattle.policy.specs.Tables.{rowOf, seniorsAt, pairs, Related}
 use Rattle.policy.specs.Image.{Seniors}
 use Rattle.policy.specs.Verdict.{roleVerdict}
 use Rattle.policy.specs.Stages.{Ready, Zeros, Ranking}
 use Rattle.policy.specs.declared.build.Parts.{Parts}
-use Rattle.policy.proofs.Readying.{Good, good-of, counts-of, section-s, one-within, two-within, limits-s}
+use Rattle.policy.proofs.Readying.{good-of, counts-of, section-s}
+use Rattle.policy.proofs.Inside.{above-between}
 
 -- a row of zeros holds no role
 pub empty-row : (a b at : ℕ) (xs : List ℕ) → Zeros a b xs → a ≤ at → at + 16 ≤ b → (r : ℕ) → member xs at r ≡ false
 empty-row a b at xs z l m r = member-of xs at (λ k. 0) (λ k n. z (at + k) (omega arith) (omega arith)) r ∙ no-bits r
 
--- what two fields of a letter's section say, and that its numbers are within the counts
-module _ (f : List ℕ) (good : Good f) {k j m : ℕ} (s : Section f k j m) (two-fields : fields k ≡ 2) where
+-- what two fields of a letter's section say
+module _ (f : List ℕ) (good : GoodLines f) {k j m : ℕ} (s : Section f k j m) (two-fields : fields k ≡ 2) where
   pub pairs-say : (x y : ℕ) → pairs (part f j) m x y ≡ Rattle.rolefile.specs.Said.says f k x y 0
   unfolding pairs
   pairs-say x y = sym (says-two f good s two-fields x y)
 
-pub pairs-within : (p : List ℕ) (m a b x y : ℕ) → ((i : ℕ) → Among m i → Among a (one p i)) → ((i : ℕ) → Among m i → Among b (two p i))
-    → pairs p m x y ≡ true → Among a x × Among b y
-unfolding pairs
-pairs-within p m a b x y first second e =
-    let (i, w, h) = some-iff (λ i. eqb (one p i) x && eqb (two p i) y) m .0 e in
-    let (p₁, p₂) = and-iff (eqb (one p i) x) (eqb (two p i) y) .0 h in
-    (rw (eqb-true (one p i) x p₁) at (first i w), rw (eqb-true (two p i) y p₂) at (second i w))
-
-module _ (f : List ℕ) (good : Good f) {j m : ℕ} (s : Section f S j m) (few : roles f ≤ 128) where
+module _ (f : List ℕ) (good : GoodLines f) {j m : ℕ} (s : Section f S j m) (few : roles f ≤ 128) where
   two-fields : fields S ≡ 2
   unfolding fields
   two-fields = refl
 
   said : (r q : ℕ) → pairs (part f j) m r q ≡ above f r q
   said r q = pairs-say f good s two-fields r q
-
-  -- only roles of the file are above one another
-  pub above-within : (r q : ℕ) → above f r q ≡ true → Among (roles f) r × Among (roles f) q
-  above-within r q e =
-      pairs-within (part f j) m (roles f) (roles f) r q
-      (λ i w. rw (limits-s (header f) .0) at (one-within f good s (omega arith) i w))
-      (λ i w. rw (limits-s (header f) .1) at (two-within f good s (omega arith) i w))
-      (said r q ∙ e)
 
   module _ (xs ys zs ws : List ℕ) (long : 65536 ≤ length xs) (ys-long : length ys ≡ length xs) (zs-long : length zs ≡ length xs)
       (zeros : Zeros 2064 4112 xs) (filled : Related seniorsAt 128 (λ x r. pairs (part f j) m r x) xs ys)
@@ -97,7 +83,7 @@ module _ (f : List ℕ) (good : Good f) {j m : ℕ} (s : Section f S j m) (few :
             (closed .rows (omega arith) .left q r (omega arith) (v .1) w
             ∙ pathed .rows (omega arith) .left q r (omega arith) (v .1) w
             ∙ direct q r v w
-            ∙ untrue (above f r q) (λ e. let u = above-within r q e .1 in omega arith))
+            ∙ untrue (above f r q) (λ e. let u = above-between f good r q e .1 in omega arith))
       ]
 
       pub seniors-kept : Kept 2064 4112 xs ws
@@ -125,7 +111,7 @@ module _ (f : List ℕ) (q : Parts) (h : Line) (ready : Ready f q h) (xs ys zs p
   count : min (h .b) 128 ≡ roles f
   count = let e : h .b ≡ roles f = ap (λ (l : Line). l .b) (ready .head) in let l = few in omega arith
 
-  good : Good f
+  good : GoodLines f
   good = good-of f (ready .lines)
 
   s-lines : Section f S (q .s .start) (q .s .count)

@@ -9,16 +9,13 @@ use Rattle.rolefile.specs.declared.Line.{Line}
 use Rattle.rolefile.specs.Line.{H, D, S, U, O, P, A, lineAt, lines}
 use Rattle.rolefile.specs.Form.{fine, refusal, unless, sized, header, firstLimit, secondLimit, scan, lineVerdict, linesVerdict}
 use Rattle.rolefile.specs.Section.{one, two}
-use Rattle.rolefile.specs.WellFormed.{Sized, GoodCounts, GoodNumbers, GoodLine}
+use Rattle.rolefile.specs.WellFormed.{Sized, GoodCounts, GoodNumbers, GoodLine, GoodLines}
 use Rattle.rolefile.specs.Decimal.{letterByte}
 use Rattle.rolefile.proofs.Verdicts.{then-zero, unless-zero, scan-zero}
-use Rattle.rolefile.proofs.Formed.{sized-iff, line-iff, line-clean}
+use Rattle.rolefile.proofs.Formed.{sized-iff, header-counts, line-iff, line-clean}
 use Rattle.rolefile.proofs.Sections.{part, Cut, Section, cut-first, cut-next, section-of, told}
 use Rattle.policy.specs.declared.build.Parts.{Parts}
 use Rattle.policy.specs.Stages.{Laid, Ready}
-
-abbrev pub Good : List ℕ → Type 0
-Good f = (k : ℕ) → Among (lines f) k → GoodLine f k
 
 -- what no refusal among 1 to 5 means
 module _ (f : List ℕ) (e : linesVerdict f .number ≡ 0) where
@@ -29,18 +26,18 @@ module _ (f : List ℕ) (e : linesVerdict f .number ≡ 0) where
   pub sized-of : Sized f
   sized-of = sized-iff f .0 (unless-zero (refusal 1 0 0) fine (sized f) (λ z. omega arith) .0 (both .0) .0)
 
-  pub good-of : Good f
+  pub good-of : GoodLines f
   good-of k w = line-iff f k .0 (line-clean f k (scan-zero (lineVerdict f) (lines f) .0 (both .1) k w))
 
   pub some-line : 1 ≤ lines f
   some-line = let s = sized-of in omega (arith, s .some, s .whole)
 
   pub counts-of : GoodCounts (lineAt f 1)
-  counts-of = let l = some-line in good-of 1 (omega arith) .head refl .counts
+  counts-of = header-counts f sized-of good-of
 
 -- the sections, one after the other
 module _ (f : List ℕ) (q : Parts) (e : linesVerdict f .number ≡ 0) (laid : Laid f q) where
-  good : Good f
+  good : GoodLines f
   good = good-of f e
 
   bytes : (letterByte D ≡ 68) × (letterByte S ≡ 83) × (letterByte U ≡ 85) × (letterByte O ≡ 79) × (letterByte P ≡ 80) × (letterByte A ≡ 65)
@@ -87,7 +84,7 @@ pub head-counts : (f : List ℕ) (q : Parts) (h : Line) → Ready f q h → Good
 head-counts f q h ready = rw (ready .head) (counts-of f (ready .lines))
 
 -- a section of a letter after H: its numbers are within the counts
-module _ (f : List ℕ) (good : Good f) {k j m : ℕ} (s : Section f k j m) (after : H < k) where
+module _ (f : List ℕ) (good : GoodLines f) {k j m : ℕ} (s : Section f k j m) (after : H < k) where
   numbers : (i : ℕ) → Among m i → GoodNumbers (header f) (lineAt f (j + i))
   numbers i w =
       let fits = s .fits in

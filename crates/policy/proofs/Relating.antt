@@ -2,7 +2,7 @@
 use Prim.Native.Nat.{ℕ, _+_, _*_, _≤_}
 use mathlib.Core.Path.{_≡_, refl, sym, ap, _∙_}
 use mathlib.Core.Logic.{_⊎_, inl, inr, ⊎-elim}
-use mathlib.Core.Bool.{Bool, true, false, _&&_, _||_, or-false, or-assoc, and-comm}
+use mathlib.Core.Bool.{Bool, false, _&&_, _||_, or-false, or-assoc, and-comm, and-false}
 use mathlib.Core.List.{List}
 use native.Mathlib.Omega.{arith}
 use native.Mathlib.Decide.{decLt, ℕ-discrete}
@@ -10,13 +10,13 @@ use lib.Dec.{eqb}
 use lib.ListN.{length}
 use borrow.Author.Tests.{eq-eqb, ne-eqb, eqb-true}
 use Rattle.search.specs.Search.{among, Among}
-use Rattle.search.proofs.Truth.{and-iff, and-when, among-iff, untrue, same}
+use Rattle.search.proofs.Truth.{and-iff, and-when, and-right, among-iff, untrue, same}
 use Rattle.search.proofs.Found.{some-more}
-use Rattle.roleset.specs.Row.{member, added, joined, Placed}
+use Rattle.roleset.specs.Row.{member, added, joined, Kept, Placed}
 use Rattle.roleset.proofs.Rows.{other-row, same-bytes, whole-true}
 use Rattle.order.specs.Closure.{Relation}
 use Rattle.rolefile.specs.Section.{one, two, three}
-use Rattle.policy.specs.Tables.{rowOf, seniorsAt, readersAt, writersAt, Kept, pairs, grantedByLines, Related, GrantedRows}
+use Rattle.policy.specs.Tables.{rowOf, seniorsAt, readersAt, writersAt, pairs, grantedByLines, Related, GrantedRows}
 
 -- two rows of one table do not overlap
 rows-apart : (at x y : ℕ) → 1 ≤ x → 1 ≤ y → (y ≡ x → ⊥) → (rowOf at y + 16 ≤ rowOf at x) ⊎ (rowOf at x + 16 ≤ rowOf at y)
@@ -132,17 +132,13 @@ module _ (base other role card : ℕ) (xs ys : List ℕ) (fits : 28688 ≤ lengt
 abbrev pub lineGrants : List ℕ → ℕ → ℕ → ℕ → Said
 lineGrants xs role card mode d o r = eqb card o && (eqb mode d && (among 128 role && member xs (rowOf seniorsAt role) r))
 
-unsaid : (a b : Bool) → b ≡ false → (a && b) ≡ false
-unsaid true b e = e
-unsaid false b e = refl
-
 module _ (role card mode : ℕ) (xs ys : List ℕ) (fits : 28688 ≤ length xs) (v : Among 128 role) (w : Among 512 card) where
   -- in the mode's table, and in the other
   here : (d o r : ℕ) → mode ≡ d → (eqb card o && member xs (rowOf seniorsAt role) r) ≡ lineGrants xs role card mode d o r
   here d o r e = rw (eq-eqb mode d e, among-iff 128 role .1 v)
 
   there : (d o r : ℕ) (b : Bool) → (mode ≡ d → ⊥) → b ≡ (b || lineGrants xs role card mode d o r)
-  there d o r b ne = rw (ne-eqb mode d ne, unsaid (eqb card o) false refl) (sym (or-false b))
+  there d o r b ne = rw (ne-eqb mode d ne, and-false (eqb card o)) (sym (or-false b))
 
   pub granted-read : mode ≡ 1 → Placed (rowOf readersAt card) (joined xs (rowOf readersAt card) (rowOf seniorsAt role)) xs ys
       → GrantedRows (lineGrants xs role card mode) xs ys
@@ -164,13 +160,13 @@ module _ (role card mode : ℕ) (xs ys : List ℕ) (fits : 28688 ≤ length xs) 
 module _ (role card mode : ℕ) (xs : List ℕ) where
   pub no-role : (Among 128 role → ⊥) → GrantedRows (lineGrants xs role card mode) xs xs
   no-role h = granted-none _ xs (λ d o r u t.
-      unsaid (eqb card o) _ (unsaid (eqb mode d) _ (rw (untrue (among 128 role) (λ e. h (among-iff 128 role .0 e))))))
+      and-right (eqb card o) (and-right (eqb mode d) (rw (untrue (among 128 role) (λ e. h (among-iff 128 role .0 e))))))
 
   pub no-card : (Among 512 card → ⊥) → GrantedRows (lineGrants xs role card mode) xs xs
   no-card h = granted-none _ xs (λ d o r u t. rw (ne-eqb card o (λ e. h (rw e t))))
 
   pub no-mode : (Among 2 mode → ⊥) → GrantedRows (lineGrants xs role card mode) xs xs
-  no-mode h = granted-none _ xs (λ d o r u t. unsaid (eqb card o) _ (rw (ne-eqb mode d (λ e. h (rw e u)))))
+  no-mode h = granted-none _ xs (λ d o r u t. and-right (eqb card o) (rw (ne-eqb mode d (λ e. h (rw e u)))))
 
 -- one line more; the seniors' rows are as they were
 pub granted-line : (xs ys p : List ℕ) (i a b c d o r : ℕ) → a ≡ one p (i + 1) → b ≡ two p (i + 1) → c ≡ three p (i + 1) → Kept readersAt 28688 xs ys

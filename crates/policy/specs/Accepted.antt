@@ -12,7 +12,7 @@ use Rattle.rolefile.specs.declared.Verdict.{Verdict}
 use Rattle.rolefile.specs.Line.{H, U, O, A, lineAt, lines}
 use Rattle.rolefile.specs.Form.{header, fine, refusal}
 use Rattle.rolefile.specs.Said.{labels, roles, users, cards, over, above, clearance}
-use Rattle.rolefile.specs.WellFormed.{Sized, GoodCounts, GoodNumbers, Rises, GoodLine, GoodLines, OneEach, LowestUnlabelled, WellFormed}
+use Rattle.rolefile.specs.WellFormed.{Sized, GoodLine, GoodLines, OneEach, LineRefused, LowestUnlabelled, WellFormed}
 use Rattle.policy.specs.Policy.{dominates, senior, mayAt}
 
 -- ---- levels, 003 Definitions 6 and 7
@@ -29,22 +29,22 @@ UndefinedLevel n ge s = Some n s × ((c : ℕ) → IsLub n ge s c → ⊥)
 abbrev pub Passing : ℕ → Relation → (ℕ → Bool) → (ℕ → Bool) → Type 0
 Passing n ge s p = (Some n s → ⊥) ⊎ ((c : ℕ) × Some n s × IsLub n ge s c × (p c ≡ true))
 
--- "the clearance must dominate the r-level": a bound of the labels read
+-- label l dominates the r-level of r: a bound of the labels read
 abbrev pub ReadsUnder : List ℕ → ℕ → ℕ → Type 0
-ReadsUnder f u r = Passing (labels f) (dominates f) (mayAt f 1 r) (λ c. dominates f (clearance f u) c)
+ReadsUnder f l r = Passing (labels f) (dominates f) (mayAt f 1 r) (dominates f l)
 
--- "the w-level must dominate the clearance": a bound of the labels written, in the order turned round
+-- the w-level of r dominates label l: a bound of the labels written, in the order turned round
 abbrev pub WritesOver : List ℕ → ℕ → ℕ → Type 0
-WritesOver f u r = Passing (labels f) (converse (dominates f)) (mayAt f 2 r) (λ c. dominates f c (clearance f u))
+WritesOver f l r = Passing (labels f) (converse (dominates f)) (mayAt f 2 r) (λ c. dominates f c l)
 
 -- 14: an undefined w-level: there are writes and no greatest lower bound
 abbrev pub NoWriteLevel : List ℕ → ℕ → Type 0
 NoWriteLevel f r = UndefinedLevel (labels f) (converse (dominates f)) (mayAt f 2 r)
 
--- 003, Theorem 3, for an A line
+-- 003, Theorem 3, for an A line: "the clearance must dominate the r-level, and the w-level must dominate the clearance"
 pub record WithinLevels (f : List ℕ) (u r : ℕ) : Type 0 where
-  pub reads : ReadsUnder f u r
-  pub writes : WritesOver f u r
+  pub reads : ReadsUnder f (clearance f u) r
+  pub writes : WritesOver f (clearance f u) r
 
 -- ---- an accepted file
 
@@ -73,15 +73,6 @@ pub record Accepted (f : List ℕ) : Type 0 where
 
 -- ---- the outcomes
 
--- why line k is not good
-pub data LineRefused (f : List ℕ) (k : ℕ) : ℕ → Type 0 where
-  noHeader : k ≡ 1 → (lineAt f k .letter ≡ H → ⊥) → LineRefused f k 2
-  badCounts : k ≡ 1 → lineAt f k .letter ≡ H → (GoodCounts (lineAt f k) → ⊥) → LineRefused f k 3
-  malformed : (k ≡ 1 → ⊥) → lineAt f k .letter ≤ H → LineRefused f k 2
-  badNumbers : (k ≡ 1 → ⊥) → H < lineAt f k .letter → (GoodNumbers (header f) (lineAt f k) → ⊥) → LineRefused f k 4
-  unordered : (k ≡ 1 → ⊥) → H < lineAt f k .letter → GoodNumbers (header f) (lineAt f k)
-      → (Rises (lineAt f (k - 1)) (lineAt f k) → ⊥) → LineRefused f k 5
-
 -- the lowest thing on a circle
 abbrev pub LowestOnCircle : ℕ → Relation → ℕ → Type 0
 LowestOnCircle n e = LowestOf n (OnCircle n e) (λ a. OnCircle n e a → ⊥)
@@ -89,8 +80,8 @@ LowestOnCircle n e = LowestOf n (OnCircle n e) (λ a. OnCircle n e a → ⊥)
 -- why the assignment of u to r is refused
 pub data AssignRefused (f : List ℕ) (u r : ℕ) : ℕ → Type 0 where
   noLevel : NoWriteLevel f r → AssignRefused f u r 14
-  readsMore : (NoWriteLevel f r → ⊥) → (ReadsUnder f u r → ⊥) → AssignRefused f u r 15
-  writesLess : (NoWriteLevel f r → ⊥) → ReadsUnder f u r → (WritesOver f u r → ⊥) → AssignRefused f u r 16
+  readsMore : (NoWriteLevel f r → ⊥) → (ReadsUnder f (clearance f u) r → ⊥) → AssignRefused f u r 15
+  writesLess : (NoWriteLevel f r → ⊥) → ReadsUnder f (clearance f u) r → (WritesOver f (clearance f u) r → ⊥) → AssignRefused f u r 16
 
 pub data Outcome (f : List ℕ) : Verdict → Type 0 where
   accepted : Accepted f → Outcome f fine

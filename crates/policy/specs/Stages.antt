@@ -6,6 +6,7 @@ use mathlib.Core.Bool.{Bool, false, _&&_}
 use lib.Dec.{leb}
 use lib.ListN.{getD, drop}
 use Rattle.search.specs.Search.{Among}
+use Rattle.roleset.specs.Row.{Kept}
 use Rattle.order.specs.Closure.{path}
 use Rattle.order.specs.Table.{mark}
 use Rattle.rolefile.specs.declared.Line.{Line}
@@ -16,7 +17,6 @@ use Rattle.rolefile.specs.Said.{labels, over}
 use Rattle.rolefile.specs.Section.{Leads}
 use Rattle.policy.specs.declared.build.Parts.{Parts}
 use Rattle.policy.specs.Policy.{dominates}
-use Rattle.policy.specs.Tables.{Kept}
 use Rattle.policy.specs.Verdict.{roleVerdict, verdict}
 use Rattle.policy.specs.Image.{Labelled, Dominating, Seniors, Permitting, Levelled, Assigning, Counts, Counted, Image}
 

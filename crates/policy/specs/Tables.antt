@@ -1,12 +1,12 @@
 -- The tables of a policy in a list of bytes: where each stands, how it is read, and what the lines of a part put into it. Assumes nothing.
-use Prim.Native.Nat.{ℕ, zero, suc, _+_, _*_, _-_, _%_, _≤_, min}
+use Prim.Native.Nat.{ℕ, zero, suc, _+_, _*_, _-_, _%_, min}
 use mathlib.Core.Path.{_≡_}
 use mathlib.Core.List.{List}
 use mathlib.Core.Bool.{Bool, not, _&&_, _||_, cond}
 use lib.Dec.{leb, eqb}
 use lib.ListN.{length, getD}
 use Rattle.search.specs.Search.{among, some, Among}
-use Rattle.roleset.specs.Row.{member}
+use Rattle.roleset.specs.Row.{member, Kept}
 use Rattle.order.specs.Closure.{Relation, circle}
 use Rattle.rolefile.specs.declared.Verdict.{Verdict}
 use Rattle.rolefile.specs.Form.{fine, refusal, unless}
@@ -62,10 +62,6 @@ rowOf at x = at + 16 * (x - 1)
 -- the marks of dominance
 abbrev pub marked : List ℕ → Relation
 marked xs a b = among 32 a && (among 32 b && eqb (getD xs (dominanceAt + (32 * (a - 1) + (b - 1))) 0) 1)
-
--- every byte but those from a up to b is as it was
-abbrev pub Kept : ℕ → ℕ → List ℕ → List ℕ → Type 0
-Kept a b xs ys = (i : ℕ) → (a ≤ i → b ≤ i) → getD ys i 0 ≡ getD xs i 0
 
 -- ---- what the first m lines of a part put into them
 

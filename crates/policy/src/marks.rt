@@ -6,9 +6,10 @@ ghost use Prim.Native.Nat.{ℕ, _+_, _*_, _-_, _≤_};
 ghost use lib.Dec.{eqb};
 ghost use lib.ListN.{length, getD};
 ghost use Rattle.search.specs.Search.{Among};
+ghost use Rattle.roleset.specs.Row.{Kept};
 ghost use Rattle.order.specs.Table.{marks, mark};
 ghost use Rattle.rolefile.specs.Line.{lines};
-ghost use Rattle.policy.specs.Tables.{pairs, dominanceAt, Kept};
+ghost use Rattle.policy.specs.Tables.{pairs, dominanceAt};
 
 // The row with a mark at thing b.
 fn with_mark(row: [bool; 32], b: usize) -> [bool; 32]

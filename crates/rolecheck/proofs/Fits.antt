@@ -9,10 +9,9 @@ use lib.ListN.{length, length-append}
 use borrow.Author.Tests.{eqb-true}
 use Rattle.search.proofs.Found.{first-within}
 use Rattle.order.specs.Closure.{Relation, path}
-use Rattle.rolefile.specs.Decimal.{columnsOf}
 use Rattle.rolefile.specs.Said.{labels, roles}
 use Rattle.rolefile.specs.WellFormed.{WellFormed}
-use Rattle.rolefile.proofs.Decimals.{padded-length}
+use Rattle.rolefile.proofs.Written.{columns-length}
 use Rattle.policy.specs.Policy.{Level, Free, Label, Undefined}
 use Rattle.policy.specs.Policy.{dominates, mayAt, level, rLevel, wLevel, levelNumber}
 use Rattle.policy.specs.Flow.{flows, flowCircle}
@@ -20,19 +19,16 @@ use Rattle.policy.specs.Verdict.{verdict}
 use Rattle.policy.proofs.Levels.{Tells, level-tells}
 use Rattle.policy.proofs.Meaning.{counts-known}
 use Rattle.policy.proofs.Outcomes.{accepted-iff}
+use Rattle.text.proofs.Lengths.{one-most}
 use Rattle.text.proofs.Each.{each-most}
 use Rattle.rolecheck.specs.Report.{line, roleLines, flowLine, flowsFrom, flowLines, policyLines, fileLines, report}
 use Rattle.rolecheck.proofs.Places.{verdict-written}
-
-columns-length : (used : Bool) (n : ℕ) → n < 100000 → length (columnsOf used n) ≡ 5
-columns-length true n l = padded-length n l
-columns-length false n l = refl
 
 module _ (letter used a b c : ℕ) (p : a < 100000) (q : b < 100000) (r : c < 100000) where
   line-length : length (line letter used a b c) ≡ 22
   unfolding line
   line-length =
-      simp length-append (omega (arith, columns-length (leb 1 used) a p, columns-length (leb 2 used) b q, columns-length (leb 3 used) c r))
+      simp length-append (omega (arith, columns-length (leb 1 used) a (λ e. p), columns-length (leb 2 used) b (λ e. q), columns-length (leb 3 used) c (λ e. r)))
 
 module _ (reads writes : ℕ → ℕ) (r : (i : ℕ) → reads i < 100000) (w : (i : ℕ) → writes i < 100000) where
   role-lines-most : (n : ℕ) → n ≤ 128 → length (roleLines reads writes n) ≤ n * 22
@@ -42,11 +38,8 @@ module _ (reads writes : ℕ → ℕ) (r : (i : ℕ) → reads i < 100000) (w : 
 module _ (flow : Relation) where
   flow-line-length : (from to : ℕ) → from ≤ 128 → to ≤ 128 → length (flowLine flow from to) ≤ 22
   unfolding flowLine
-  flow-line-length from to p q = go (flow from to)
-    where
-      go : (t : Bool) → length (cond t (line 70 2 from to 0) []) ≤ 22
-      go true = omega (arith, line-length 70 2 from to 0 (omega arith) (omega arith) (omega arith))
-      go false = omega arith
+  flow-line-length from to p q =
+      one-most (flow from to) (line 70 2 from to 0) [] (omega (arith, line-length 70 2 from to 0 (omega arith) (omega arith) (omega arith))) (omega arith)
 
   flow-lines-most : (n : ℕ) → n ≤ 128 → length (flowLines flow n) ≤ n * 2816
   flow-lines-most n l =

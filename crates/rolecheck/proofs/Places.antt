@@ -3,8 +3,8 @@ use Prim.Native.Nat.{ℕ, _+_, _<_}
 use mathlib.Core.Path.{_≡_, refl}
 use mathlib.Core.Logic.{⊎-elim}
 use mathlib.Core.List.{List}
-use mathlib.Core.Bool.{Bool, true, false, cond}
 use native.Mathlib.Omega.{arith}
+use Rattle.search.proofs.Truth.{either}
 use Rattle.rolefile.specs.declared.Field.{Field}
 use Rattle.rolefile.specs.declared.Field.the-variants.{Blank, Number, Bad}
 use Rattle.rolefile.specs.declared.Line.{Line}
@@ -32,14 +32,12 @@ pub record Few (l : Line) : Type 0 where
   pub c : l .c < 100000
   pub d : l .d < 100000
 
-few-of : (t : Bool) (l : Line) → Few l → Few (cond t l noLine)
-few-of true l w = w
-few-of false l w = record { a = omega arith; b = omega arith; c = omega arith; d = omega arith }
-
 line-of-few : (k end : ℕ) (p q r s : Field) → value p < 100000 → value q < 100000 → value r < 100000 → value s < 100000 → Few (lineOf k end p q r s)
 unfolding lineOf
 line-of-few k end p q r s a b c d =
-    few-of (formed k end p q r s) (record { letter = k; a = value p; b = value q; c = value r; d = value s }) (record { a = a; b = b; c = c; d = d })
+    either Few (formed k end p q r s) (record { letter = k; a = value p; b = value q; c = value r; d = value s }) noLine
+    (record { a = a; b = b; c = c; d = d })
+    (record { a = omega arith; b = omega arith; c = omega arith; d = omega arith })
 
 pub line-few : (f : List ℕ) (k : ℕ) → Few (lineAt f k)
 unfolding lineAt

@@ -17,7 +17,7 @@ use Rattle.rolefile.specs.declared.Field.the-variants.{Blank, Number, Ba
 use Rattle.rolefile.specs.Field.{isBlank, isDigit, column, columns, five, fieldAt}
 use Rattle.rolefile.specs.Decimal.{lastDigits, digits, padded, blanks}
 
-isDigit-iff : (b : ℕ) → (isDigit b ≡ true) ↔ ((48 ≤ b) × (b ≤ 57))
+pub isDigit-iff : (b : ℕ) → (isDigit b ≡ true) ↔ ((48 ≤ b) × (b ≤ 57))
 isDigit-iff b = (
   λ e. let s = and-iff (leb 48 b) (leb b 57) .0 e in (leb-true 48 b (s .0), leb-true b 57 (s .1)),
   λ w. and-iff (leb 48 b) (leb b 57) .1 (le-leb 48 b (w .0), le-leb b 57 (w .1)),
@@ -34,13 +34,19 @@ unfolding lastDigits
 last-more k n l = rw (le-ltb n 10 l)
 
 -- more places than n has digits change nothing
-enough : (k m n : ℕ) → n < k → n < m → lastDigits k n ≡ lastDigits m n
-enough zero m n p q = absurd (omega arith)
-enough (suc k) zero n p q = absurd (omega arith)
-enough (suc k) (suc m) n p q = elim (decLt n 10) [
-  | yes l ↦ last-single k n l ∙ sym (last-single m n l)
-  | no l ↦ rw (last-more k n (omega arith), last-more m n (omega arith), enough k m (n / 10) (omega arith) (omega arith))
+pub same-digits : (k m n : ℕ) → n < 10 ^ suc k → n < m → lastDigits (suc k) n ≡ lastDigits m n
+same-digits k zero n high l = absurd (omega arith)
+same-digits zero (suc m) n high l = last-single 0 n high ∙ sym (last-single m n high)
+same-digits (suc k) (suc m) n high l = elim (decLt n 10) [
+  | yes s ↦ rw (last-single (suc k) n s, last-single m n s)
+  | no s ↦
+      let p : 10 ≤ n = omega arith in
+      rw (last-more (suc k) n p, last-more m n p, same-digits k m (n / 10) (omega arith) (omega arith))
 ]
+
+power-above : (n : ℕ) → n < 10 ^ suc n
+power-above zero = omega arith
+power-above (suc n) = omega (arith, power-above n)
 
 single-digit : (n : ℕ) → n < 10 → digits n ≡ (48 + n) ∷ []
 unfolding digits
@@ -48,7 +54,7 @@ single-digit n l = last-single n n l
 
 more-digits : (n : ℕ) → 10 ≤ n → digits n ≡ digits (n / 10) ++ ((48 + n % 10) ∷ [])
 unfolding digits
-more-digits n l = rw (last-more n n l, enough n (suc (n / 10)) (n / 10) (omega arith) (omega arith))
+more-digits n l = rw (last-more n n l, same-digits (n / 10) n (n / 10) (power-above (n / 10)) (omega arith))
 
 pub few-digits : (k n : ℕ) → n < 10 ^ suc k → length (digits n) ≤ suc k
 few-digits zero n p = rw (single-digit n p) (omega arith)

@@ -1,7 +1,7 @@
 -- The tests of a role file's form as properties: a file has none of the refusals 1 to 6 just where it is well-formed, and else the one that is told.
 -- Assumes nothing.
 use Prim.Native.Nat.{ℕ, _-_, _%_, _≤_, _<_}
-use mathlib.Core.Path.{_≡_}
+use mathlib.Core.Path.{_≡_, refl}
 use mathlib.Core.Logic.{_↔_, _⊎_, inl, inr, ⊎-elim}
 use mathlib.Core.List.{List}
 use mathlib.Core.Bool.{Bool, true, false, not, _&&_, _||_}
@@ -18,9 +18,9 @@ use Rattle.rolefile.specs.Line.{H, U, O, P, lineAt, lines}
 use Rattle.rolefile.specs.Form.{refusal, sized, header, counted, firstLimit, secondLimit, ranged, before, rises}
 use Rattle.rolefile.specs.Form.{headVerdict, bodyVerdict, lineVerdict, count, about, unlabelled, found, unlabelledVerdict, linesVerdict, formVerdict, fine, unless, scan}
 use Rattle.rolefile.specs.Said.{users, cards}
-use Rattle.rolefile.specs.WellFormed.{Sized, GoodCounts, GoodNumbers, Before, Rises, GoodHead, GoodBody, GoodLine, One, LowestUnlabelled, WellFormed}
+use Rattle.rolefile.specs.WellFormed.{Sized, GoodCounts, GoodNumbers, Before, Rises, GoodHead, GoodBody, GoodLine, GoodLines, LineRefused, noHeader, badCounts, malformed, badNumbers, unordered, One, OneEach, LowestUnlabelled, WellFormed}
 use Rattle.rolefile.proofs.Verdicts.{Clean, then-joined}
-use Rattle.rolefile.proofs.Decides.{Decides, Fails, Else, Earliest, decides-fine, decides-clean, decides-when}
+use Rattle.rolefile.proofs.Decides.{Decides, Fails, Else, Earliest, decides-as, decides-fine, decides-clean, decides-when}
 use Rattle.rolefile.proofs.Decides.{then-decides, cond-decides, test-decides, unless-decides, search-decides, scan-decides}
 use Rattle.rolefile.proofs.Counts.{count-one}
 
@@ -86,7 +86,7 @@ unfolding rises
 rises-iff p l = before-iff (p .letter) (l .letter) (before-iff (p .a) (l .a) (before-iff (p .b) (l .b) (ltb-iff (p .c) (l .c))))
 
 -- why line 1 is refused, and why another line is
-abbrev pub HeadRefusal : Line → Verdict → Type 0
+abbrev HeadRefusal : Line → Verdict → Type 0
 HeadRefusal l = Else (Fails (l .letter ≡ H) (refusal 2 1 0)) (l .letter ≡ H) (Fails (GoodCounts l) (refusal 3 1 0))
 
 head-decides : (l : Line) → Decides (headVerdict l) (GoodHead l) (HeadRefusal l)
@@ -97,7 +97,7 @@ head-decides l =
     test-decides (counted-iff l) (refusal 3 1 0) (omega arith)))
     (λ (e, c). record { letter = e; counts = c }, λ g. (g .letter, g .counts))
 
-abbrev pub BodyRefusal : Line → Line → ℕ → Line → Verdict → Type 0
+abbrev BodyRefusal : Line → Line → ℕ → Line → Verdict → Type 0
 BodyRefusal h p k l =
     Else (Fails (H < l .letter) (refusal 2 k 0)) (H < l .letter)
     (Else (Fails (GoodNumbers h l) (refusal 4 k 0)) (GoodNumbers h l)
@@ -113,16 +113,39 @@ body-decides h p k l =
     (λ (e, (n, r)). record { letter = e; numbers = n; order = r }, λ g. (g .letter, (g .numbers, g .order)))
 
 abbrev pub LineRefusal : List ℕ → ℕ → Verdict → Type 0
-LineRefusal f k x =
-    ((k ≡ 1) × HeadRefusal (lineAt f 1) x)
-    ⊎ ((k ≡ 1 → ⊥) × BodyRefusal (header f) (lineAt f (k - 1)) k (lineAt f k) x)
+LineRefusal f k x = (n : ℕ) × LineRefused f k n × (x ≡ refusal n k 0)
 
-pub line-decides : (f : List ℕ) (k : ℕ) → Decides (lineVerdict f k) (GoodLine f k) (LineRefusal f k)
-unfolding lineVerdict
-line-decides f k =
-    decides-when
-    (cond-decides (head-decides (lineAt f 1)) (eqb-iff k 1) (body-decides (header f) (lineAt f (k - 1)) k (lineAt f k)))
-    (λ (h, b). record { head = h; body = b }, λ g. (g .head, g .body))
+module _ (f : List ℕ) (k : ℕ) where
+  abbrev Either : Verdict → Type 0
+  Either x =
+      ((k ≡ 1) × HeadRefusal (lineAt f 1) x)
+      ⊎ ((k ≡ 1 → ⊥) × BodyRefusal (header f) (lineAt f (k - 1)) k (lineAt f k) x)
+
+  refused : (x : Verdict) → Either x → LineRefusal f k x
+  refused x (inl (i, inl (h, e))) = (2, noHeader i (rw i h), rw i e)
+  refused x (inl (i, inr (l, (h, e)))) = (3, badCounts i (rw i l) (rw i h), rw i e)
+  refused x (inr (i, inl (h, e))) = (2, malformed i (omega arith), e)
+  refused x (inr (i, inr (l, inl (h, e)))) = (4, badNumbers i l h, e)
+  refused x (inr (i, inr (l, inr (g, (h, e))))) = (5, unordered i l g h, e)
+
+  refusing : {n : ℕ} → LineRefused f k n → Either (refusal n k 0)
+  refusing (noHeader i h) = inl (i, inl (rw i at h, rw i))
+  refusing (badCounts i l h) = inl (i, inr (rw i at l, (rw i at h, rw i)))
+  refusing (malformed i h) = inr (i, inl (omega arith, refl))
+  refusing (badNumbers i l h) = inr (i, inr (l, inl (h, refl)))
+  refusing (unordered i l g h) = inr (i, inr (l, inr (g, (h, refl))))
+
+  pub line-decides : Decides (lineVerdict f k) (GoodLine f k) (LineRefusal f k)
+  unfolding lineVerdict
+  line-decides =
+      decides-as
+      (cond-decides (head-decides (lineAt f 1)) (eqb-iff k 1) (body-decides (header f) (lineAt f (k - 1)) k (lineAt f k)))
+      (λ (h, b). record { head = h; body = b }, λ g. (g .head, g .body))
+      (λ x. (refused x, λ (n, l, e). rw e (refusing l)))
+
+-- the counts of a file whose lines are good
+pub header-counts : (f : List ℕ) → Sized f → GoodLines f → GoodCounts (header f)
+header-counts f s good = good 1 (omega (arith, s .some, s .whole)) .head refl .counts
 
 pub line-iff : (f : List ℕ) (k : ℕ) → (lineVerdict f k ≡ fine) ↔ GoodLine f k
 line-iff f k = decides-fine (line-decides f k)
@@ -141,7 +164,7 @@ module _ (f : List ℕ) (k : ℕ) where
       )
 
   pub unlabelled-decides : (n place : ℕ) → Decides (found (unlabelled f k n) (refusal 6 place (unlabelled f k n)))
-      ((x : ℕ) → Among n x → One f k x) (λ v. (x : ℕ) × LowestUnlabelled f k n x × (v ≡ refusal 6 place x))
+      (OneEach f k n) (λ v. (x : ℕ) × LowestUnlabelled f k n x × (v ≡ refusal 6 place x))
   unfolding unlabelled
   unlabelled-decides n place = search-decides n bad none has hasNot (refusal 6 place) (λ x. omega arith)
     where
@@ -156,7 +179,7 @@ module _ (f : List ℕ) (k : ℕ) where
       hasNot : (x : ℕ) → Among n x → (bad x ≡ false) ↔ One f k x
       hasNot x w = (λ e. one-iff x .0 (not-false (eqb (count (lines f) (about f k x)) 1) e), λ o. rw (one-iff x .1 o))
 
-      none : (first n bad ≡ 0) ↔ ((x : ℕ) → Among n x → One f k x)
+      none : (first n bad ≡ 0) ↔ OneEach f k n
       none = (λ e x w. hasNot x w .0 (first-none bad n .0 e x w), λ h. first-none bad n .1 (λ x w. hasNot x w .1 (h x w)))
 
 -- ---- the whole form
@@ -165,8 +188,8 @@ module _ (f : List ℕ) (k : ℕ) where
 abbrev pub FormRefusal : List ℕ → Verdict → Type 0
 FormRefusal f =
     Else (Fails (Sized f) (refusal 1 0 0)) (Sized f)
-    (Else (Earliest (GoodLine f) (LineRefusal f) (lines f)) ((k : ℕ) → Among (lines f) k → GoodLine f k)
-    (Else (λ v. (u : ℕ) × LowestUnlabelled f U (users f) u × (v ≡ refusal 6 1 u)) ((u : ℕ) → Among (users f) u → One f U u)
+    (Else (Earliest (GoodLine f) (LineRefusal f) (lines f)) (GoodLines f)
+    (Else (λ v. (u : ℕ) × LowestUnlabelled f U (users f) u × (v ≡ refusal 6 1 u)) (OneEach f U (users f))
     (λ v. (o : ℕ) × LowestUnlabelled f O (cards f) o × (v ≡ refusal 6 2 o))))
 
 pub form-decides : (f : List ℕ) → Decides (formVerdict f) (WellFormed f) (FormRefusal f)

@@ -10,7 +10,7 @@ use lib.Dec.{leb, eqb}
 use lib.ListN.{length, getD, List·getD-eq-default}
 use borrow.Author.Tests.{eqb-true, eq-eqb, ne-eqb, le-leb, lt-leb}
 use denote.Enum.Declared
-use Rattle.search.proofs.Truth.{and-iff, same}
+use Rattle.search.proofs.Truth.{and-iff, and-right, same}
 use types.Run
 use Rattle.rolefile.specs.declared.Field.{Field}
 use Rattle.rolefile.specs.declared.Field.the-variants.{Blank, Number, Bad}
@@ -101,10 +101,6 @@ got x used f n taking seen = go (fits used f) refl
     go : (b : Bool) → fits used f ≡ b → (b ≡ true) × (value f ≡ n)
     go true q = let m : Number n ≡ Number (value f) = e ∙ rw q in (refl, cc)
     go false q = let m : Number n ≡ Bad = e ∙ rw q in let z : _≡_ {A = ℕ} 0 1 = cc in absurd (omega arith)
-
-and-right : (a : Bool) {b : Bool} → b ≡ false → (a && b) ≡ false
-and-right true e = e
-and-right false e = refl
 
 module _ (k end : ℕ) (p q r s : Field) where
   none : formed k end p q r s ≡ false → noLine ≡ lineOf k end p q r s

@@ -19,7 +19,7 @@ use Rattle.rolefile.specs.Field.{fieldAt}
 use Rattle.rolefile.specs.Line.{P, letterOf, fields, start, lineAt, lines}
 use Rattle.rolefile.specs.Form.{count, about}
 use Rattle.rolefile.specs.Said.{is, says, last, labelBy}
-use Rattle.rolefile.specs.WellFormed.{GoodLine}
+use Rattle.rolefile.specs.WellFormed.{GoodLines}
 use Rattle.rolefile.specs.Decimal.{letterByte, inUse}
 use Rattle.rolefile.specs.Section.{one, two, three, letterAt, Leads}
 use Rattle.rolefile.proofs.Decimals.{figures}
@@ -63,7 +63,7 @@ between {f} {k} {j} m c d = record {
     ends : (i : ℕ) → Among (lines f) i → lineAt f i .letter ≡ k → i ≤ j + m
     ends i w e = elim (decLt (j + m) i) [ yes l ↦ absurd (omega (arith, d .rest i l (w .1))) | no l ↦ omega arith ]
 
-module _ (f : List ℕ) (good : (k : ℕ) → Among (lines f) k → GoodLine f k) where
+module _ (f : List ℕ) (good : GoodLines f) where
   -- ---- the letters
 
   some-letter : (i : ℕ) → Among (lines f) i → 1 ≤ lineAt f i .letter
@@ -153,7 +153,7 @@ pub record Told (p : List ℕ) (l : ℕ → Line) (m : ℕ) : Type 0 where
   pub mode : (i : ℕ) → Among m i → l i .letter ≡ P → three p i ≡ l i .c
   pub none : (i : ℕ) → Among m i → fields (l i .letter) ≡ 2 → l i .c ≡ 0
 
-module _ (f : List ℕ) (good : (k : ℕ) → Among (lines f) k → GoodLine f k) {k j m : ℕ} (s : Section f k j m) where
+module _ (f : List ℕ) (good : GoodLines f) {k j m : ℕ} (s : Section f k j m) where
   line-reads : (i : ℕ) → Among m i → Reads (part f j) (start i) (lineAt f (j + i))
   line-reads i w =
       let fits = s .fits in

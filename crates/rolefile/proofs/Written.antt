@@ -1,5 +1,5 @@
 -- A line reads as l just where its 22 bytes are l as it is written. Assumes nothing.
-use Prim.Native.Nat.{ℕ, zero, suc, _+_, _≤_}
+use Prim.Native.Nat.{ℕ, zero, suc, _+_, _≤_, _<_}
 use mathlib.Core.Path.{_≡_, refl, sym, ap, ap₂, subst, _∙_}
 use mathlib.Core.Logic.{_↔_}
 use mathlib.Core.List.{List, [], _∷_, _++_}
@@ -76,16 +76,17 @@ stands-iff : (used : Bool) (f : List ℕ) (at n : ℕ) → Stands used (fieldAt 
 stands-iff true f at n = (λ e. let (l, s) = field-number f at n .0 e in (s, l), λ (s, l). field-number f at n .1 (l, s))
 stands-iff false f at n = (λ (e, z). (field-blank f at .0 e, z), λ (s, z). (field-blank f at .1 s, z))
 
-five-long : (used : Bool) (n : ℕ) → Held used n → length (columnsOf used n) ≡ 5
-five-long true n h = padded-length n h
-five-long false n h = refl
+pub columns-length : (used : Bool) (n : ℕ) → (used ≡ true → n < 100000) → length (columnsOf used n) ≡ 5
+columns-length true n l = padded-length n (l refl)
+columns-length false n l = refl
 
 -- a field and then the rest of its line
 split : (used : Bool) (f : List ℕ) (at n : ℕ) {rest more : List ℕ} → Held used n → five f at ++ rest ≡ columnsOf used n ++ more
     → Stands used (fieldAt f at) n × (rest ≡ more)
 split used f at n {rest} {more} h e =
-    let same : five f at ≡ columnsOf used n = ap (take 5) e ∙ take-at (columnsOf used n) more 5 (five-long used n h) in
-    (stands-iff used f at n .1 (same, h), ap (drop 5) e ∙ drop-at (columnsOf used n) more 5 (five-long used n h))
+    let long = columns-length used n (λ u. rw u at h) in
+    let same : five f at ≡ columnsOf used n = ap (take 5) e ∙ take-at (columnsOf used n) more 5 long in
+    (stands-iff used f at n .1 (same, h), ap (drop 5) e ∙ drop-at (columnsOf used n) more 5 long)
 
 -- ---- the line
 

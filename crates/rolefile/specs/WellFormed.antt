@@ -52,6 +52,15 @@ pub record GoodLine (f : List ℕ) (k : ℕ) : Type 0 where
 abbrev pub GoodLines : List ℕ → Type 0
 GoodLines f = (k : ℕ) → Among (lines f) k → GoodLine f k
 
+-- why line k is not good
+pub data LineRefused (f : List ℕ) (k : ℕ) : ℕ → Type 0 where
+  noHeader : k ≡ 1 → (lineAt f k .letter ≡ H → ⊥) → LineRefused f k 2
+  badCounts : k ≡ 1 → lineAt f k .letter ≡ H → (GoodCounts (lineAt f k) → ⊥) → LineRefused f k 3
+  malformed : (k ≡ 1 → ⊥) → lineAt f k .letter ≤ H → LineRefused f k 2
+  badNumbers : (k ≡ 1 → ⊥) → H < lineAt f k .letter → (GoodNumbers (header f) (lineAt f k) → ⊥) → LineRefused f k 4
+  unordered : (k ≡ 1 → ⊥) → H < lineAt f k .letter → GoodNumbers (header f) (lineAt f k)
+      → (Rises (lineAt f (k - 1)) (lineAt f k) → ⊥) → LineRefused f k 5
+
 -- "Each user has one U line and each card one O line": there is a line of the letter k about x, and no other
 pub record One (f : List ℕ) (k x : ℕ) : Type 0 where
   pub line : ℕ
@@ -59,11 +68,11 @@ pub record One (f : List ℕ) (k x : ℕ) : Type 0 where
   pub tells : about f k x line ≡ true
   pub only : (i : ℕ) → Among (lines f) i → about f k x i ≡ true → i ≡ line
 
--- so for each of n things
+-- each of n things has one line of the letter k
 abbrev pub OneEach : List ℕ → ℕ → ℕ → Type 0
 OneEach f k n = (x : ℕ) → Among n x → One f k x
 
--- the lowest of n things that has not
+-- the lowest of n things that has no such line, or more than one
 abbrev pub LowestUnlabelled : List ℕ → ℕ → ℕ → ℕ → Type 0
 LowestUnlabelled f k n = LowestOf n (λ x. One f k x → ⊥) (One f k)
 

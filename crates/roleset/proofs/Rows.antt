@@ -14,7 +14,7 @@ use borrow.Author.Count.{below-more}
 use borrow.Author.Tests.{le-leb, eq-eqb, ne-eqb}
 use Rattle.search.specs.Search.{among, Among}
 use Rattle.search.proofs.Truth.{and-iff, and-when, among-iff, both}
-use Rattle.roleset.specs.Row.{bit, whole, member, Outside, Placed, PlacedRows}
+use Rattle.roleset.specs.Row.{bit, whole, member, Kept, Placed, PlacedRows}
 use Rattle.roleset.proofs.Bits.{bit-zero, same-bits}
 
 pub whole-true : (xs : List ℕ) (at : ℕ) → at + 16 ≤ length xs → whole xs at ≡ true
@@ -54,7 +54,7 @@ unfolding member
 same-bytes xs ys a b = member-of ys b (λ k. getD xs (a + k) 0)
 
 -- a byte is one of the row's 16 or outside it
-inside-or : (at i : ℕ) → ((k : ℕ) × (k < 16) × (i ≡ at + k)) ⊎ Outside at i
+inside-or : (at i : ℕ) → ((k : ℕ) × (k < 16) × (i ≡ at + k)) ⊎ (at ≤ i → at + 16 ≤ i)
 inside-or at i = elim (decLe at i) [
   | yes l ↦ elim (decLt i (at + 16)) [ yes m ↦ inl (i - at, omega arith, omega arith) | no m ↦ inr (λ n. omega arith) ]
   | no l ↦ inr (λ n. omega arith)
@@ -74,7 +74,7 @@ module _ (at : ℕ) (s : ℕ → Bool) (xs ys zs : List ℕ) (p : Placed at s xs
       same-bits 8 _ _ (ys-bytes (at + k)) (zs-bytes (at + k))
       (λ j m. bit-member ys at k j l m ∙ p .row fits _ ∙ sym (q .row fits _) ∙ sym (bit-member zs at k j l m))
 
-  other-byte : (i : ℕ) → Outside at i → getD ys i 0 ≡ getD zs i 0
+  other-byte : Kept at (at + 16) zs ys
   other-byte i o = p .rest i o ∙ sym (q .rest i o)
 
   pub placed-once : ys ≡ zs
@@ -151,30 +151,32 @@ module _ (xs : List ℕ) (at role byte : ℕ) (b : Bool) (fits : at + 16 ≤ len
     none = λ l. absurd (omega arith);
   }
 
+-- what stands outside a part is kept by a store in it
+pub kept-more : (a b i v : ℕ) (xs ys : List ℕ) → a ≤ i → i < b → Kept a b xs ys → Kept a b xs (set ys i v)
+kept-more a b i v xs ys l m k j o = getD-set-other ys i j v 0 (λ e. omega (arith, o (omega arith))) ∙ k j o
+
 -- the bytes are written one by one: i of them are done, and are now f's
 pub record Written (at i : ℕ) (f : ℕ → ℕ) (xs ys : List ℕ) : Type 0 where
-  pub upto : i ≤ 16
   pub long : length ys ≡ length xs
   pub done : (k : ℕ) → k < i → getD ys (at + k) 0 ≡ f k
-  pub rest : (k : ℕ) → (at ≤ k → at + i ≤ k) → getD ys k 0 ≡ getD xs k 0
+  pub rest : Kept at (at + i) xs ys
 
 module _ {at : ℕ} {f : ℕ → ℕ} {xs : List ℕ} where
   pub write-none : Written at 0 f xs xs
-  write-none = record { upto = omega arith; long = refl; done = λ k l. absurd (omega arith); rest = λ k o. refl }
+  write-none = record { long = refl; done = λ k l. absurd (omega arith); rest = λ k o. refl }
 
-  pub write-more : {i byte : ℕ} {ys : List ℕ} → Written at i f xs ys → i < 16 → at + 16 ≤ length xs → byte ≡ f i
+  pub write-more : {i byte : ℕ} {ys : List ℕ} → Written at i f xs ys → at + i < length xs → byte ≡ f i
       → Written at (i + 1) f xs (set ys (at + i) byte)
-  write-more {i} {byte} {ys} w l fits e = record {
-    upto = omega arith;
+  write-more {i} {byte} {ys} w l e = record {
     long = length-set ys (at + i) byte ∙ w .long;
     done =
         below-more _ i
         (λ k m. getD-set-other ys (at + i) (at + k) byte 0 (λ j. omega arith) ∙ w .done k m)
         (getD-set-same ys (at + i) byte 0 (omega arith) ∙ e);
-    rest = λ k o. getD-set-other ys (at + i) k byte 0 (λ j. omega (arith, o (omega arith))) ∙ w .rest k (λ m. omega (arith, o m));
+    rest = kept-more at (at + (i + 1)) (at + i) byte xs ys (omega arith) (omega arith) (λ k o. w .rest k (λ m. omega (arith, o m)));
   }
 
-  pub write-all : {s : ℕ → Bool} {i : ℕ} {ys : List ℕ} → Written at i f xs ys → 16 ≤ i → at + 16 ≤ length xs
+  pub write-all : {s : ℕ → Bool} {i : ℕ} {ys : List ℕ} → Written at i f xs ys → i ≡ 16 → at + 16 ≤ length xs
       → ((r : ℕ) → (among 128 r && bit (f (byteOf r)) (bitOf r)) ≡ s r) → Placed at s xs ys
   write-all {s} {i} {ys} w l fits h = record {
     row = λ m r. member-of ys at f (λ k n. w .done k (omega arith)) r ∙ h r;

@@ -3,6 +3,7 @@
 --     member xs at r            the row of xs at `at` holds role r
 --     common xs a b             the rows at a and at b have a role in common
 --     nextMember xs at after    the lowest role above `after` that the row holds, or 0
+--     Kept a b xs ys            every byte of ys but those from a up to b is xs's
 --     Placed at s xs ys         ys is xs with the set s in the row at `at`, and nothing else changed
 --     PlacedRows at n s xs ys   the same for n rows from `at` on
 --     littleEndian n f          n bytes as one number
@@ -54,21 +55,21 @@ unitedWhere xs at k other r = member xs at r || (member xs at k && member other 
 abbrev pub joined : List ℕ → ℕ → ℕ → ℕ → Bool
 joined xs into from r = member xs into r || (whole xs from && member xs from r)
 
--- byte i is none of the row at `at`
-abbrev pub Outside : ℕ → ℕ → Type 0
-Outside at i = at ≤ i → at + 16 ≤ i
+-- every byte but those from a up to b is as it was
+abbrev pub Kept : ℕ → ℕ → List ℕ → List ℕ → Type 0
+Kept a b xs ys = (i : ℕ) → (a ≤ i → b ≤ i) → getD ys i 0 ≡ getD xs i 0
 
 -- a row that does not lie wholly in xs is left alone
 pub record Placed (at : ℕ) (s : ℕ → Bool) (xs ys : List ℕ) : Type 0 where
   pub row : at + 16 ≤ length xs → (r : ℕ) → member ys at r ≡ s r
-  pub rest : (i : ℕ) → Outside at i → getD ys i 0 ≡ getD xs i 0
+  pub rest : Kept at (at + 16) xs ys
   pub none : length xs < at + 16 → ys ≡ xs
 
 -- ys is xs with the set s i in each row i of the n from `at` on, the first being row 0, and nothing else changed; where not all of them lie in xs,
 -- all are left alone
 pub record PlacedRows (at n : ℕ) (s : ℕ → ℕ → Bool) (xs ys : List ℕ) : Type 0 where
   pub rows : at + 16 * n ≤ length xs → (i : ℕ) → i < n → (r : ℕ) → member ys (at + 16 * i) r ≡ s i r
-  pub rest : (i : ℕ) → (at ≤ i → at + 16 * n ≤ i) → getD ys i 0 ≡ getD xs i 0
+  pub rest : Kept at (at + 16 * n) xs ys
   pub none : length xs < at + 16 * n → ys ≡ xs
 
 -- the number whose n bytes are f's, the first of them lowest

@@ -1,9 +1,10 @@
--- Tests that are true: what a conjunction, a disjunction, an implication and a range test tell, and two tests that say the same.
+-- Tests that are true: what a conjunction, a disjunction, an implication and a range test tell, two tests that say the same, and what holds
+-- whichever way a test goes.
 -- Assumes nothing.
 use Prim.Native.Nat.{ℕ}
 use mathlib.Core.Path.{_≡_, refl, sym, _∙_}
 use mathlib.Core.Logic.{_↔_, _⊎_, inl, inr, ⊎-elim}
-use mathlib.Core.Bool.{Bool, true, false, not, _&&_, _||_, false≢true, true≢false}
+use mathlib.Core.Bool.{Bool, true, false, not, _&&_, _||_, cond, false≢true, true≢false}
 use lib.Dec.{leb, eqb}
 use borrow.Author.Tests.{leb-true, le-leb, eqb-true, eq-eqb, not-true, not-false}
 use Rattle.search.specs.Search.{among, implies, Among}
@@ -20,6 +21,10 @@ and-iff false b = (λ e. absurd (false≢true e), λ s. s .0)
 pub and-when : (a : Bool) {b c : Bool} → (a ≡ true → b ≡ c) → (a && b) ≡ (a && c)
 and-when true h = h refl
 and-when false h = refl
+
+pub and-right : (a : Bool) {b : Bool} → b ≡ false → (a && b) ≡ false
+and-right true e = e
+and-right false e = refl
 
 pub implies-iff : (a b : Bool) → (implies a b ≡ true) ↔ (a ≡ true → b ≡ true)
 implies-iff true b = (λ e h. e, λ h. h refl)
@@ -56,3 +61,8 @@ same false b f g = sym (untrue b (λ e. false≢true (g e)))
 
 pub eqb-swap : (a b : ℕ) → eqb a b ≡ eqb b a
 eqb-swap a b = same (eqb a b) (eqb b a) (λ e. eq-eqb b a (sym (eqb-true a b e))) (λ e. eq-eqb a b (sym (eqb-true b a e)))
+
+-- what holds of two things holds of the one that a test picks
+pub either : {A : Type 0} (P : A → Type 0) (b : Bool) (x y : A) → P x → P y → P (cond b x y)
+either P true x y p q = p
+either P false x y p q = q

@@ -6,11 +6,11 @@ use mathlib.Core.Bool.{Bool, true, false, cond}
 use native.Mathlib.Omega.{arith}
 use lib.Dec.{lit≤}
 use lib.ListN.{length}
+use Rattle.search.proofs.Truth.{either}
 
 -- one of two texts
 pub one-most : (b : Bool) (x y : List ℕ) {m : ℕ} → length x ≤ m → length y ≤ m → length (cond b x y) ≤ m
-one-most true x y l k = l
-one-most false x y l k = k
+one-most b x y {m} = either (λ (l : List ℕ). length l ≤ m) b x y
 
 -- a text where a test holds
 pub where-most : (b : Bool) (x : List ℕ) {m : ℕ} → (b ≡ true → length x ≤ m) → length (cond b x []) ≤ m

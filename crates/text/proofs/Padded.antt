@@ -1,7 +1,7 @@
 -- The columns of a number, made digit by digit, are its last five digits with blanks before them; below 100,000 they are the number as it is written.
 -- The digits are what is left of the columns after the blanks. Assumes nothing.
 use Prim.Native.Nat.{ℕ, zero, suc, _+_, _-_, _/_, _%_, _^_, _≤_, _<_}
-use mathlib.Core.Path.{_≡_, refl, sym, _∙_}
+use mathlib.Core.Path.{_≡_, refl, _∙_}
 use mathlib.Core.List.{List, [], _∷_, _++_, append-assoc}
 use mathlib.Core.Bool.{cond}
 use native.Mathlib.Omega.{arith}
@@ -12,21 +12,10 @@ use lib.ListN.{length, take, drop, replicate, length-append, length-drop, length
 use lib.Seq.{take-all, drop-at}
 use borrow.Author.Tests.{lt-ltb, le-ltb}
 use Rattle.rolefile.specs.Decimal.{lastDigits, digits, padded}
-use Rattle.rolefile.proofs.Decimals.{last-single, last-more}
+use Rattle.rolefile.proofs.Decimals.{last-single, last-more, same-digits}
 use Rattle.text.specs.Text.{lastFive}
 
 -- ---- the last digits of n
-
--- more places than n has digits change nothing
-same-digits : (k m n : ℕ) → n < 10 ^ suc k → n < m → lastDigits (suc k) n ≡ lastDigits m n
-same-digits k zero n high l = absurd (omega arith)
-same-digits zero (suc m) n high l = last-single 0 n high ∙ sym (last-single m n high)
-same-digits (suc k) (suc m) n high l = elim (decLt n 10) [
-  | yes s ↦ rw (last-single (suc k) n s, last-single m n s)
-  | no s ↦
-      let p : 10 ≤ n = omega arith in
-      rw (last-more (suc k) n p, last-more m n p, same-digits k m (n / 10) (omega arith) (omega arith))
-]
 
 pub all-digits : (n : ℕ) → n < 100000 → lastDigits 5 n ≡ digits n
 unfolding digits

@@ -1,23 +1,19 @@
 -- There are fewer turns than arguments, or no more than users, so the next number fits.
 use Prim.Native.Nat.{ℕ, _-_, _≤_}
 use mathlib.Core.List.{List}
-use mathlib.Core.Bool.{Bool, true, false, cond}
 use native.Mathlib.Omega.{arith}
 use borrow.Author.Needs.{needs}
 use denote.Ref.{now}
+use Rattle.search.proofs.Truth.{either}
 use Rattle.monitor.specs.Review.{knownUsers}
 use Rattle.monitor.proofs.Known.{few-users}
 use Rattle.rights.specs.Arguments.{namesUsers, turns}
 use Rattle.rights.proofs.user_in_turn.Statement.{statement}
 use Rattle.rights.proofs.user_in_turn.Tie as tie
 
-either : (b : Bool) (v w : ℕ) {m : ℕ} → v ≤ m → w ≤ m → cond b v w ≤ m
-either true v w l k = l
-either false v w l k = k
-
 few-turns : (xs : List ℕ) (count m : ℕ) → 256 ≤ m → count - 2 ≤ m → turns xs count ≤ m
 unfolding turns
-few-turns xs count m l k = either (namesUsers count) (count - 2) (knownUsers xs) k (omega (arith, few-users xs))
+few-turns xs count m l k = either (λ (n : ℕ). n ≤ m) (namesUsers count) (count - 2) (knownUsers xs) k (omega (arith, few-users xs))
 
 add-arg : tie.Need-add-arg
 add-arg c =

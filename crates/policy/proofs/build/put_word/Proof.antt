@@ -7,7 +7,8 @@ use borrow.Author.Needs.{needs}
 use denote.Ref.{now}
 use lib.ListN.{length, set, length-set}
 use lib.Seq.{getD-set-same, getD-set-other}
-use Rattle.policy.specs.Tables.{word, Kept}
+use Rattle.roleset.specs.Row.{Kept}
+use Rattle.policy.specs.Tables.{word}
 use Rattle.policy.proofs.build.put_word.Statement.{statement}
 use Rattle.policy.proofs.build.put_word.Tie as tie
 

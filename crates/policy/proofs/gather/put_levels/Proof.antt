@@ -1,23 +1,23 @@
 -- Each turn stores the level of one role more.
-use Prim.Native.Nat.{_≤_, _-_}
-use mathlib.Core.Path.{_≡_, ap, _∙_}
+use Prim.Native.Nat.{_+_, _≤_, _-_}
+use mathlib.Core.Path.{ap, _∙_}
 use native.Mathlib.Omega.{arith}
 use borrow.Author.Needs.{needs}
 use denote.Ref.{now}
-use lib.ListN.{length}
 use Rattle.roleset.specs.Row.{member}
+use Rattle.roleset.proofs.Rows.{Written, write-none, write-more}
 use Rattle.order.specs.Bound.{converse}
 use Rattle.order.specs.Table.{mark}
 use Rattle.policy.specs.Policy.{level, levelNumber}
-use Rattle.policy.specs.Tables.{rowOf, Bytes}
-use Rattle.policy.proofs.Noted.{store-none, store-more}
+use Rattle.policy.specs.Tables.{rowOf}
+use Rattle.policy.proofs.Noted.{all-stored}
 use Rattle.policy.proofs.Gathering.{level-same-set}
 use Rattle.policy.proofs.gather.put_levels.Statement.{statement}
 use Rattle.policy.proofs.gather.put_levels.Tie as tie
 
 abbrev Inv-loop : tie.InvT-loop
 Inv-loop s₀ at t n roles g i₀ s i =
-    (i ≤ roles) × (length s ≡ length s₀) × Bytes at i (λ r. levelNumber (level n (converse (mark t)) (λ l. member g (rowOf 0 l) r))) s₀ s
+    (i ≤ roles) × Written at i (λ k. levelNumber (level n (converse (mark t)) (λ l. member g (rowOf 0 l) (k + 1)))) s₀ s
 
 abbrev μ-loop : tie.MeasureT-loop
 μ-loop s₀ at t n roles g i₀ s i = roles - i
@@ -27,17 +27,14 @@ loop-again c =
     let w = c .before .before .before .before .before .loop in
     let t = c .before .before .before .before .before .before .before .args .t in (
       search needs,
-      search needs,
-      store-more _ _ _ (w .i) _ (w .s) (w .inv .2) (search needs)
+      write-more (w .inv .1) (search needs)
           (c .level-of .ensures
           ∙ ap levelNumber (level-same-set _ (converse (mark (now t))) _ _ (λ l v. c .before .before .labels-of .ensures l (omega arith)))),
     )
 
 returns : tie.Need-returns Inv-loop μ-loop
 returns c =
-    let w = c .before .loop in
-    let q : w .i ≡ c .before .before .before .args .roles = omega arith in
-    rw q at (w .inv .2)
+    all-stored _ (c .before .loop .inv .1) (omega arith)
 
 pub put-levels-spec : {M : Type 1} → statement M
 put-levels-spec =
@@ -45,7 +42,7 @@ put-levels-spec =
     (tie.spec
     Inv-loop
     μ-loop
-    (λ c. (search needs, search needs, store-none _ _ _))
+    (λ c. (search needs, write-none))
     (λ c. search needs)
     (λ c κs. search needs)
     (λ c κs. search needs)

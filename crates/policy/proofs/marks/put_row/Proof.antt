@@ -1,15 +1,13 @@
 -- Each turn stores one byte more.
-use Prim.Native.Nat.{ℕ, _≤_, _-_}
-use mathlib.Core.Path.{_≡_}
+use Prim.Native.Nat.{ℕ, _+_, _≤_, _-_}
 use mathlib.Core.Bool.{Bool, cond}
 use mathlib.Core.List.{List}
 use native.Mathlib.Omega.{arith}
 use borrow.Author.Needs.{needs}
-use lib.ListN.{length}
+use Rattle.roleset.proofs.Rows.{Written, write-none, write-more}
 use Rattle.order.specs.Table.{marks}
 use Rattle.order.proofs.Stored.{place}
-use Rattle.policy.specs.Tables.{Bytes}
-use Rattle.policy.proofs.Noted.{store-none, store-more}
+use Rattle.policy.proofs.Noted.{all-stored}
 use Rattle.policy.proofs.marks.put_row.Statement.{statement}
 use Rattle.policy.proofs.marks.put_row.Tie as tie
 
@@ -17,7 +15,7 @@ abbrev byteAt : List Bool → ℕ → ℕ
 byteAt row b = cond (marks row b) 1 0
 
 abbrev Inv-loop : tie.InvT-loop
-Inv-loop s₀ at row j₀ s j = (j ≤ 32) × (length s ≡ length s₀) × Bytes at j (byteAt row) s₀ s
+Inv-loop s₀ at row j₀ s j = (j ≤ 32) × Written at j (λ k. byteAt row (k + 1)) s₀ s
 
 abbrev μ-loop : tie.MeasureT-loop
 μ-loop s₀ at row j₀ s j = 32 - j
@@ -25,18 +23,11 @@ abbrev μ-loop : tie.MeasureT-loop
 loop-again : tie.Need-loop-again Inv-loop μ-loop
 loop-again c =
     let w = c .before .before .loop in
-    let a = c .before .before .before .before .args in (
-      search needs,
-      search needs,
-      store-more (a .at) (byteAt (a .t3)) (a .s .now) (w .j) (c .byte .result) (w .s) (w .inv .2) (omega arith)
-          (simp (place (w .j)) (c .byte .ensures)),
-    )
+    (search needs, write-more (w .inv .1) (search needs) (simp (place (w .j)) (c .byte .ensures)))
 
 returns : tie.Need-returns Inv-loop μ-loop
 returns c =
-    let w = c .before .loop in
-    let q : w .j ≡ 32 = omega arith in
-    let b = rw q at (w .inv .2) in
+    let b = all-stored {size = 32} (byteAt (c .before .before .before .args .t3)) (c .before .loop .inv .1) (omega arith) in
     (b .bytes, b .rest)
 
 pub put-row-spec : {M : Type 1} → statement M
@@ -45,7 +36,7 @@ put-row-spec =
     (tie.spec
     Inv-loop
     μ-loop
-    (λ c. (search needs, search needs, store-none _ _ _))
+    (λ c. (search needs, write-none))
     (λ c. search needs)
     (λ c κs. search needs)
     (λ c. search needs)

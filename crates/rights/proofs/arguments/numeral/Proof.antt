@@ -6,13 +6,14 @@ use mathlib.Core.Bool.{Bool, true, false}
 use native.Mathlib.Omega.{arith}
 use native.Mathlib.Numerals.{add-one}
 use borrow.Author.Needs.{needs}
-use borrow.Author.Tests.{le-leb, lt-leb, leb-true}
+use borrow.Author.Tests.{le-leb, lt-leb}
 use denote.Ref.{now}
 use lib.ListN.{length, getD}
 use Rattle.search.specs.Search.{every}
-use Rattle.search.proofs.Truth.{and-iff, passed, failed}
+use Rattle.search.proofs.Truth.{passed, failed}
 use Rattle.search.proofs.Found.{every-yet, every-more, every-fails}
 use Rattle.rolefile.specs.Field.{isDigit}
+use Rattle.rolefile.proofs.Decimals.{isDigit-iff}
 use Rattle.rights.specs.Arguments.{valueOf, numeral}
 use Rattle.rights.proofs.arguments.numeral.Statement.{statement}
 use Rattle.rights.proofs.arguments.numeral.Tie as tie
@@ -68,9 +69,6 @@ loop-holds : tie.Need-loop-holds Inv-loop μ-loop
 loop-holds c = (search needs, search needs, begun _, every-yet _, omega arith, omega arith)
 
 -- a byte that is a digit, and one that is none
-bounds : (b : ℕ) → isDigit b ≡ true → (48 ≤ b) × (b ≤ 57)
-bounds b h = let a = and-iff _ _ .0 h in (leb-true 48 b (a .0), leb-true b 57 (a .1))
-
 module _ (t : List ℕ) (i : ℕ) where
   here : digit t (i + 1) ≡ isDigit (getD t i 0)
   here = let same : i + 1 - 1 ≡ i = omega arith in rw same
@@ -82,7 +80,7 @@ module _ (t : List ℕ) (i : ℕ) where
   fails l d = every-fails (digit t) (length t) i l (here ∙ d)
 
   step : (v : ℕ) → v < tenTo i → isDigit (getD t i 0) ≡ true → 10 * v + (getD t i 0 - 48) < tenTo (i + 1)
-  step v l d = let b = bounds (getD t i 0) d in rw (add-one i) (omega arith)
+  step v l d = let b = isDigit-iff (getD t i 0) .0 d in rw (add-one i) (omega arith)
 
 -- the byte that is read, and what it is known to be
 abbrev byte : tie.Else2 Inv-loop μ-loop → ℕ
@@ -101,13 +99,13 @@ mul-value : tie.Need-mul-value Inv-loop μ-loop
 mul-value c = let w = c .before .before .before .before .loop in omega (arith, w .inv .4, w .inv .5)
 
 sub-value : tie.Need-sub-value Inv-loop μ-loop
-sub-value c = bounds (byte (c .before)) (digit-here (c .before)) .0
+sub-value c = isDigit-iff (byte (c .before)) .0 (digit-here (c .before)) .0
 
 cast-value : tie.Need-cast-value Inv-loop μ-loop
-cast-value c = omega (arith, bounds (byte (c .before)) (digit-here (c .before)) .1)
+cast-value c = omega (arith, isDigit-iff (byte (c .before)) .0 (digit-here (c .before)) .1)
 
 add-value : tie.Need-add-value Inv-loop μ-loop
-add-value c = let w = c .before .before .before .before .before .loop in omega (arith, w .inv .4, w .inv .5, bounds (byte (c .before)) (digit-here (c .before)) .1)
+add-value c = let w = c .before .before .before .before .before .loop in omega (arith, w .inv .4, w .inv .5, isDigit-iff (byte (c .before)) .0 (digit-here (c .before)) .1)
 
 loop-again : tie.Need-loop-again Inv-loop μ-loop
 loop-again c =
