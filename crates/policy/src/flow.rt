@@ -40,10 +40,7 @@ fn level(s: &[u8], at: usize, role: usize) -> u8
     if s.len() < 65536 {
         return 0;
     }
-    if role < 1 {
-        return 0;
-    }
-    if 128 < role {
+    if !search::among(128, role as u64) {
         return 0;
     }
     s[at + (role - 1)]

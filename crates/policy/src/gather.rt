@@ -17,10 +17,7 @@ fn gather_one(g: &mut [u8; 512], s: &[u8], at: usize, o: usize)
     ensures { λ _. ⌜ ((l r : ℕ) → Among 32 l → Among 128 r → member (now (g .exit)) (rowOf 0 l) r ≡ (member (now (g .entry)) (rowOf 0 l) r || (eqb (byteOf (now (s .entry)) cardLabelsAt (o + 1)) l && member (now (s .entry)) (rowOf at (o + 1)) r))) ⌝ }
 {
     let label = s[1296 + o] as usize;
-    if label < 1 {
-        return;
-    }
-    if 32 < label {
+    if !search::among(32, label as u64) {
         return;
     }
     let row = roleset::row(s, at + 16 * o);

@@ -24,10 +24,7 @@ fn note(s: &mut [u8], at: usize, size: usize, x: usize, label: usize)
     requires { ⌜ (at + size ≤ length (now s)) × (size ≤ 512) ⌝ }
     ensures { λ _. ⌜ Bytes at size (λ y. cond (eqb x y) (noted (byteOf (now (s .entry)) at y) label) (byteOf (now (s .entry)) at y)) (now (s .entry)) (now (s .exit)) ⌝ }
 {
-    if x < 1 {
-        return;
-    }
-    if size < x {
+    if !search::among(size as u64, x as u64) {
         return;
     }
     let i = at + (x - 1);

@@ -26,16 +26,10 @@ fn add_pair(t: &mut [[bool; 32]; 32], a: usize, b: usize)
     requires { ⌜ length (now t) ≡ 32 ⌝ }
     ensures { λ _. ⌜ (length (now (t .exit)) ≡ 32) × ((x y : ℕ) → Among 32 x → Among 32 y → mark (now (t .exit)) x y ≡ (mark (now (t .entry)) x y || (eqb a x && eqb b y))) ⌝ }
 {
-    if a < 1 {
+    if !search::among(32, a as u64) {
         return;
     }
-    if 32 < a {
-        return;
-    }
-    if b < 1 {
-        return;
-    }
-    if 32 < b {
+    if !search::among(32, b as u64) {
         return;
     }
     let i = a - 1;

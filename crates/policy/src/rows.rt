@@ -14,10 +14,7 @@ fn relate(s: &mut [u8], at: usize, size: usize, x: usize, role: usize)
     requires { ⌜ (at + 16 * size ≤ length (now s)) × (size ≤ 512) ⌝ }
     ensures { λ _. ⌜ Related at size (λ y r. eqb x y && eqb role r) (now (s .entry)) (now (s .exit)) ⌝ }
 {
-    if x < 1 {
-        return;
-    }
-    if size < x {
+    if !search::among(size as u64, x as u64) {
         return;
     }
     roleset::add(s, at + 16 * (x - 1), role);
@@ -56,16 +53,10 @@ fn grant(s: &mut [u8], role: usize, card: usize, mode: usize)
     requires { ⌜ 28688 ≤ length (now s) ⌝ }
     ensures { λ _. ⌜ GrantedRows (λ d o r. eqb card o && (eqb mode d && (among 128 role && member (now (s .entry)) (rowOf seniorsAt role) r))) (now (s .entry)) (now (s .exit)) ⌝ }
 {
-    if role < 1 {
+    if !search::among(128, role as u64) {
         return;
     }
-    if 128 < role {
-        return;
-    }
-    if card < 1 {
-        return;
-    }
-    if 512 < card {
+    if !search::among(512, card as u64) {
         return;
     }
     if mode == 1 {

@@ -59,10 +59,7 @@ fn belongs(s: &[u8], list: Listed, user: u64, roles: [u8; 16], k: u64) -> bool
 fn stands(s: &[u8], list: Listed, user: u64, roles: [u8; 16], k: u64) -> bool
     ensures { λ r. ⌜ r ≡ lists.listed (now (s .entry)) list user (member roles 0) k ⌝ }
 {
-    if k < 1 {
-        return false;
-    }
-    if size_of(s, list) < k {
+    if !search::among(size_of(s, list), k) {
         return false;
     }
     belongs(s, list, user, roles, k)

@@ -1,20 +1,13 @@
 // What the program is asked.
+use rolefile::read;
 ghost use mathlib.Core.Path.{_≡_};
 ghost use Prim.Native.Nat.{_<_};
-ghost use Rattle.rolefile.specs.Field.{isDigit};
 ghost use Rattle.rights.specs.Arguments as arguments;
 
 // The usage; or of the file that argument `file` names the picture, where `drawn`, or its users' rights.
 pub enum Request {
     Usage,
     Of { file: usize, drawn: bool },
-}
-
-// Whether the byte is a digit.
-fn is_digit(b: u8) -> bool
-    ensures { λ r. ⌜ r ≡ isDigit b ⌝ }
-{
-    (48 <= b) & (b <= 57)
 }
 
 // What one to five digits come to, or 0 for any other text.
@@ -27,7 +20,7 @@ fn numeral(t: &[u8]) -> u64
     let mut value = 0u64;
     let mut i = 0;
     while i < t.len() {
-        if !is_digit(t[i]) {
+        if !read::is_digit(t[i]) {
             return 0;
         }
         value = 10 * value + (t[i] - 48) as u64;

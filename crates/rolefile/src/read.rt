@@ -5,24 +5,25 @@ ghost use mathlib.Core.Path.{_≡_};
 ghost use mathlib.Core.Bool.{true, false};
 ghost use Prim.Native.Nat.{_+_, _*_, _-_, _%_, _≤_, _<_};
 ghost use lib.ListN.{length, drop};
-ghost use Rattle.rolefile.specs.Field.{column, fieldAt};
+ghost use Rattle.rolefile.specs.Field.{isDigit, column, fieldAt};
 ghost use Rattle.rolefile.specs.Section.{figure, figureOf, one, two, three, Leads};
 ghost use Rattle.rolefile.specs.Line.{letterOf, fields, fits, taken, noLine, lineOf, lineFrom, lineAt, textAt};
+
+// Whether the byte is a digit.
+pub fn is_digit(b: u8) -> bool
+    ensures { λ r. ⌜ r ≡ isDigit b ⌝ }
+{
+    (48 <= b) & (b <= 57)
+}
 
 // The number n with the digit b after it, unless n is 0 or has five digits.
 fn next_digit(n: u64, b: u8) -> Field
     ensures { λ r. ⌜ r ≡ column (Field.Number n) b ⌝ }
 {
-    if b < 48 {
+    if !is_digit(b) {
         return Field::Bad;
     }
-    if 57 < b {
-        return Field::Bad;
-    }
-    if n < 1 {
-        return Field::Bad;
-    }
-    if 9999 < n {
+    if !search::among(9999, n) {
         return Field::Bad;
     }
     Field::Number(10 * n + (b - 48) as u64)
@@ -35,10 +36,7 @@ fn first_digit(b: u8) -> Field
     if b == 32 {
         return Field::Blank;
     }
-    if b < 48 {
-        return Field::Bad;
-    }
-    if 57 < b {
+    if !is_digit(b) {
         return Field::Bad;
     }
     Field::Number((b - 48) as u64)
@@ -241,10 +239,7 @@ pub fn line(f: &[u8], k: usize) -> Line
 pub fn text(f: &[u8], k: usize) -> &[u8]
     ensures { λ t. ⌜ now t ≡ textAt (now (f .entry)) k ⌝ }
 {
-    if k < 1 {
-        return &f[..0];
-    }
-    if f.len() / 22 < k {
+    if !search::among((f.len() / 22) as u64, k as u64) {
         return &f[..0];
     }
     let at = 22 * (k - 1);

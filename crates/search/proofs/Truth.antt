@@ -54,6 +54,9 @@ failed {t} e h = sym e ∙ not-true t h
 pub one-of : (n x : ℕ) {t : Bool} → t ≡ among n x → not t ≡ false → Among n x
 one-of n x e h = among-iff n x .0 (passed e h)
 
+pub none-of : (n x : ℕ) {t : Bool} → t ≡ among n x → not t ≡ true → Among n x → ⊥
+none-of n x e h w = both (among-iff n x .1 w) (failed e h)
+
 -- two tests that are true in the same cases are one
 pub same : (a b : Bool) → (a ≡ true → b ≡ true) → (b ≡ true → a ≡ true) → a ≡ b
 same true b f g = sym (f refl)

@@ -2,42 +2,63 @@
 use native.Mathlib.Omega.{arith}
 use borrow.Author.Needs.{needs}
 use denote.Ref.{now}
+use Rattle.search.specs.Search.{Among}
+use Rattle.search.proofs.Truth.{one-of, none-of}
 use Rattle.policy.proofs.Relating.{no-role, no-card, no-mode, granted-read, granted-write}
 use Rattle.policy.proofs.rows.grant.Statement.{statement}
 use Rattle.policy.proofs.rows.grant.Tie as tie
 
-returns-5 : tie.Need-returns-5
-returns-5 c =
-    let a = c .before .before .before .before .before .before .before .before .before .before .args in
-    granted-read (a .role) (a .card) (a .mode) (now (a .s)) _ (search needs) (omega arith) (omega arith) (c .before .before .before .before .if5 .taken)
+known : (c : tie.Else2) → let a = c .before .before .before .before .before .args in Among 128 (a .role) × Among 512 (a .card)
+known c =
+    let t = c .before .before in
+    (one-of 128 _ (t .before .among .ensures) (t .if1 .left), one-of 512 _ (c .before .among2 .ensures) (c .if2 .left))
+
+returns : tie.Need-returns
+returns c = no-role (c .before .before .before .args .role) _ _ _ (none-of 128 _ (c .before .among .ensures) (c .if1 .taken))
+
+returns-2 : tie.Need-returns-2
+returns-2 c =
+    let a = c .before .before .before .before .before .args in
+    no-card (a .role) (a .card) _ _ (none-of 512 _ (c .before .among2 .ensures) (c .if2 .taken))
+
+returns-3 : tie.Need-returns-3
+returns-3 c =
+    let two = c .before .before .before .before .before in
+    let a = two .before .before .before .before .before .args in
+    granted-read (a .role) (a .card) (a .mode) (now (a .s)) _ (search needs) (known two .0) (known two .1) (c .before .before .before .before .if3 .taken)
     (c .before .before .join .ensures)
 
-returns-6 : tie.Need-returns-6
-returns-6 c =
-    let a = c .before .before .before .before .before .before .before .before .before .before .before .args in
-    granted-write (a .role) (a .card) (a .mode) (now (a .s)) _ (search needs) (omega arith) (omega arith) (c .before .before .before .before .if6 .taken)
+returns-4 : tie.Need-returns-4
+returns-4 c =
+    let two = c .before .before .before .before .before .before in
+    let a = two .before .before .before .before .before .args in
+    granted-write (a .role) (a .card) (a .mode) (now (a .s)) _ (search needs) (known two .0) (known two .1) (c .before .before .before .before .if4 .taken)
     (c .before .before .join2 .ensures)
 
 pub grant-spec : {M : Type 1} → statement M
 grant-spec =
     tie.close
     (tie.spec
-    (λ c. no-role (c .before .before .args .role) _ _ _ (λ w. omega arith))
-    (λ c. no-role (c .before .before .before .args .role) _ _ _ (λ w. omega arith))
-    (λ c. no-card (c .before .before .before .before .args .role) (c .before .before .before .before .args .card) _ _ (λ w. omega arith))
-    (λ c. no-card (c .before .before .before .before .before .args .role) (c .before .before .before .before .before .args .card) _ _ (λ w. omega arith))
-    (λ c. search needs)
-    (λ c. search needs)
-    (λ c. search needs)
-    (λ c. search needs)
+    (λ c κs. search needs)
+    returns
+    (λ c κs. search needs)
+    returns-2
+    (λ c. omega (arith, known (c .before .before)))
+    (λ c. omega (arith, known (c .before .before)))
+    (λ c. omega (arith, known (c .before .before)))
+    (λ c. omega (arith, known (c .before .before)))
+    (λ c. omega (arith, known (c .before .before)))
+    (λ c. omega (arith, known (c .before .before)))
     (λ c κs. search needs)
     (λ c. search needs)
-    returns-5
-    (λ c. search needs)
-    (λ c. search needs)
-    (λ c. search needs)
-    (λ c. search needs)
+    returns-3
+    (λ c. omega (arith, known (c .before .before .before)))
+    (λ c. omega (arith, known (c .before .before .before)))
+    (λ c. omega (arith, known (c .before .before .before)))
+    (λ c. omega (arith, known (c .before .before .before)))
+    (λ c. omega (arith, known (c .before .before .before)))
+    (λ c. omega (arith, known (c .before .before .before)))
     (λ c κs. search needs)
     (λ c. search needs)
-    returns-6
+    returns-4
     (λ c. no-mode (c .before .before .before .before .before .before .before .args .role) _ (c .before .before .before .before .before .before .before .args .mode) _ (λ w. omega arith)))

@@ -1,32 +1,44 @@
 -- Each way out is by the test that `column` makes there.
+use Prim.Native.Nat.{_≤_}
+use mathlib.Core.Bool.{and-false}
+use native.Mathlib.Omega.{arith}
 use borrow.Author.Needs.{needs}
-use borrow.Author.Tests.{le-leb, lt-leb}
-use Rattle.rolefile.specs.Field.{column}
+use Rattle.search.specs.Search.{Among}
+use Rattle.search.proofs.Truth.{passed, failed, one-of}
+use Rattle.rolefile.specs.Field.{isDigit, column}
+use Rattle.rolefile.proofs.Decimals.{isDigit-iff}
 use Rattle.rolefile.proofs.read.next_digit.Statement.{statement}
 use Rattle.rolefile.proofs.read.next_digit.Tie as tie
 
+known : (c : tie.Else2) → let a = c .before .before .before .before .args in ((48 ≤ a .b) × (a .b ≤ 57)) × Among 9999 (a .n)
+known c =
+    let t = c .before .before in
+    (isDigit-iff _ .0 (passed (t .before .is-digit .ensures) (t .if1 .left)), one-of 9999 _ (c .before .among .ensures) (c .if2 .left))
+
 returns : tie.Need-returns
 unfolding column
-returns c = simp (lt-leb _ _ (c .if1 .taken))
+returns c = rw (failed (c .before .is-digit .ensures) (c .if1 .taken))
 
 returns-2 : tie.Need-returns-2
 unfolding column
-returns-2 c = simp (le-leb _ _ (c .before .if1 .left), lt-leb _ _ (c .if2 .taken))
+returns-2 c = rw (failed (c .before .among .ensures) (c .if2 .taken), and-false (isDigit (c .before .before .before .before .args .b)))
 
 returns-3 : tie.Need-returns-3
 unfolding column
-returns-3 c = simp (le-leb _ _ (c .before .before .if1 .left), le-leb _ _ (c .before .if2 .left), lt-leb _ _ (c .if3 .taken))
-
-returns-4 : tie.Need-returns-4
-unfolding column
-returns-4 c =
-    simp (le-leb _ _ (c .before .before .before .if1 .left), le-leb _ _ (c .before .before .if2 .left), le-leb _ _ (c .before .if3 .left), lt-leb _ _ (c .if4 .taken))
-
-returns-5 : tie.Need-returns-5
-unfolding column
-returns-5 c =
-    simp (le-leb _ _ (c .before .before .before .if1 .left), le-leb _ _ (c .before .before .if2 .left), le-leb _ _ (c .before .if3 .left), le-leb _ _ (c .if4 .left))
+returns-3 c =
+    let t = c .before .before in
+    rw (passed (t .before .is-digit .ensures) (t .if1 .left), passed (c .before .among .ensures) (c .if2 .left))
 
 pub next-digit-spec : {M : Type 1} → statement M
 next-digit-spec =
-    tie.close (tie.spec returns returns-2 returns-3 returns-4 (λ c. search needs) (λ c. search needs) (λ c. search needs) returns-5)
+    tie.close
+    (tie.spec
+    (λ c κs. search needs)
+    returns
+    (λ c κs. search needs)
+    returns-2
+    (λ c. omega (arith, known c))
+    (λ c. omega (arith, known c))
+    (λ c. search needs)
+    (λ c. omega (arith, known c))
+    returns-3)
