@@ -8,6 +8,7 @@ use native.Mathlib.Nat.{zero-add}
 use lib.ListN.{length, replicate, length-replicate}
 use Rattle.search.specs.Search.{Among}
 use Rattle.search.proofs.Found.{some-agree}
+use Rattle.roleset.proofs.Rows.{zero-rows}
 use Rattle.roleset.specs.Row.{member, united, Placed}
 use Rattle.order.specs.Closure.{Relation, path}
 use Rattle.order.specs.Table.{related, Tabled}
@@ -15,7 +16,6 @@ use Rattle.order.proofs.Placing.{placing-left}
 use Rattle.order.proofs.Closure.{Agree, via-agree}
 use Rattle.text.specs.Text.{ascii, each}
 use Rattle.text.proofs.Each.{each-agree}
-use Rattle.policy.proofs.Gathering.{zero-rows}
 use Rattle.policy.proofs.Flowing.{row-more}
 use Rattle.graph.specs.Graph.{past, direct, directFlow, node, orderLine, flowLine, nodes, orderLines, flowLines, rolesText}
 

@@ -3,25 +3,19 @@ use Prim.Native.Nat.{ℕ, _+_, _-_, _*_, _/_, _%_, _^_, _≤_, _<_}
 use mathlib.Core.Path.{_≡_, refl, sym, ap, _∙_}
 use mathlib.Core.Bool.{Bool, true, false, cond, or-true, or-false, and-true, and-false}
 use mathlib.Core.List.{List}
-use native.Mathlib.Nat.{one-mul}
 use native.Mathlib.Omega.{arith}
 use native.Mathlib.Decide.{ℕ-discrete}
 use borrow.Author.Tests.{eq-eqb, ne-eqb}
 use lib.Bits.{bitOr, bitXor, or-lt, xor-lt}
 use lib.ListN.{length, getD, set, length-set}
-use lib.Pow.{shl-exact}
 use lib.Seq.{getD-set-same, getD-set-other}
 use Rattle.search.specs.Search.{among, Among}
-use Rattle.search.proofs.Truth.{and-iff, among-iff}
+use Rattle.search.proofs.Truth.{among-iff, either}
 use Rattle.roleset.specs.Row.{bit, member, Placed, added, removed}
-use Rattle.roleset.proofs.Bits.{bit-on, bit-off}
-use Rattle.roleset.proofs.Rows.{one-written, placed-once, unwritten}
+use Rattle.roleset.proofs.Bits.{shifted}
+use Rattle.roleset.proofs.Rows.{added-placed, removed-placed, placed-once, unwritten}
 use Rattle.monitor.specs.Session.{heldAt}
 use Rattle.monitor.specs.Calls.{taken, dropped}
-
--- `1 << k` at a byte
-shifted : (k : ℕ) → k < 8 → 1 * 2 ^ k % 256 ≡ 2 ^ k
-shifted k l = shl-exact {a = 1} 1 k 8 (omega arith) (omega arith) ∙ one-mul (2 ^ k)
 
 shifted-byte : (k : ℕ) → k < 8 → 2 ^ k < 256
 shifted-byte k l = rw (← shifted k l) (omega arith)
@@ -37,22 +31,6 @@ module _ (xs : List ℕ) (at r : ℕ) (fits : at + 16 ≤ length xs) (w : Among 
   small : k < 8
   small = omega arith
 
-  pub added-placed : Placed at (added xs at r) xs (set xs i (bitOr (getD xs i 0) (2 ^ k)))
-  added-placed =
-      one-written xs at r _ true fits w
-      (λ j. ap (λ (y : ℕ). bit (bitOr (getD xs i 0) y) j) (sym (shifted k small)) ∙ bit-on (getD xs i 0) k small j)
-      (rw (among-iff 128 r .1 w, eq-eqb r r refl) (sym (or-true (member xs at r))))
-      (λ q n. rw (among-iff 128 r .1 w, ne-eqb q r n) (sym (or-false (member xs at q))))
-
-  held-placed : member xs at r ≡ true → Placed at (removed xs at r) xs (set xs i (bitXor (getD xs i 0) (2 ^ k)))
-  unfolding member
-  held-placed h =
-      one-written xs at r _ false fits w
-      (λ j. ap (λ (y : ℕ). bit (bitXor (getD xs i 0) y) j) (sym (shifted k small))
-      ∙ bit-off (getD xs i 0) k small (and-iff (among 128 r) (bit (getD xs i 0) k) .0 h .1) j)
-      (rw (eq-eqb r r refl) (sym (and-false (member xs at r))))
-      (λ q n. rw (ne-eqb q r n) (sym (and-true (member xs at q))))
-
   -- without the role, which the row does not hold
   none-less : member xs at r ≡ false → (q : ℕ) → member xs at q ≡ removed xs at r q
   none-less h q = elim (ℕ-discrete q r) [
@@ -63,17 +41,16 @@ module _ (xs : List ℕ) (at r : ℕ) (fits : at + 16 ≤ length xs) (w : Among 
   abbrev less : Bool → List ℕ
   less held = cond held (set xs i (bitXor (getD xs i 0) (2 ^ k))) xs
 
-  pub removed-placed : Placed at (removed xs at r) xs (less (member xs at r))
-  removed-placed = by (member xs at r) refl
+  less-placed : Placed at (removed xs at r) xs (less (member xs at r))
+  less-placed = by (member xs at r) refl
     where
       by : (b : Bool) → member xs at r ≡ b → Placed at (removed xs at r) xs (less b)
-      by true h = held-placed h
+      by true h = rw (shifted k small) at (removed-placed xs at r fits w h)
       by false h = unwritten (λ l. none-less h)
 
   -- one byte at most is written
-  pub length-less : (b : Bool) → length (less b) ≡ length xs
-  length-less true = length-set xs i _
-  length-less false = refl
+  length-less : (b : Bool) → length (less b) ≡ length xs
+  length-less b = either (λ (ys : List ℕ). length ys ≡ length xs) b _ xs (length-set xs i _) refl
 
   module _ (xs-bytes : (j : ℕ) → getD xs j 0 < 256) where
     byte-set : (b : ℕ) → b < 256 → (j : ℕ) → getD (set xs i b) j 0 < 256
@@ -83,18 +60,19 @@ module _ (xs : List ℕ) (at r : ℕ) (fits : at + 16 ≤ length xs) (w : Among 
     ]
 
     byte-less : (b : Bool) (j : ℕ) → getD (less b) j 0 < 256
-    byte-less true = byte-set (bitXor (getD xs i 0) (2 ^ k)) (xor-lt 8 _ _ (xs-bytes i) (shifted-byte k small))
-    byte-less false = xs-bytes
+    byte-less b =
+        either (λ (ys : List ℕ). (j : ℕ) → getD ys j 0 < 256) b _ xs
+        (byte-set (bitXor (getD xs i 0) (2 ^ k)) (xor-lt 8 _ _ (xs-bytes i) (shifted-byte k small))) xs-bytes
 
     module _ (ys : List ℕ) (long : length ys ≡ length xs) (ys-bytes : (j : ℕ) → getD ys j 0 < 256) where
       pub added-is : Placed at (added xs at r) xs ys → ys ≡ set xs i (bitOr (getD xs i 0) (2 ^ k))
       added-is p =
-          placed-once at (added xs at r) xs ys _ p added-placed long (length-set xs i _) ys-bytes
+          placed-once at (added xs at r) xs ys _ p (rw (shifted k small) at (added-placed xs at r fits w)) long (length-set xs i _) ys-bytes
           (byte-set (bitOr (getD xs i 0) (2 ^ k)) (or-lt 8 _ _ (xs-bytes i) (shifted-byte k small)))
 
       pub removed-is : Placed at (removed xs at r) xs ys → ys ≡ less (member xs at r)
       removed-is p =
-          placed-once at (removed xs at r) xs ys _ p removed-placed long (length-less (member xs at r)) ys-bytes (byte-less (member xs at r))
+          placed-once at (removed xs at r) xs ys _ p less-placed long (length-less (member xs at r)) ys-bytes (byte-less (member xs at r))
 
     -- a role that the row has already changes nothing
     again : member xs at r ≡ true → (q : ℕ) → member xs at q ≡ added xs at r q

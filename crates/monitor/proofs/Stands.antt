@@ -13,7 +13,7 @@ use borrow.Author.Tests.{eq-eqb, ne-eqb}
 use Rattle.search.specs.Search.{Among}
 use Rattle.search.proofs.Truth.{among-iff}
 use Rattle.roleset.specs.Row.{member, Kept, Placed, added, removed}
-use Rattle.roleset.proofs.Rows.{member-of, same-bytes, no-bits}
+use Rattle.roleset.proofs.Rows.{zero-row, same-bytes}
 use Rattle.policy.specs.Image.{Describes, Image}
 use Rattle.policy.proofs.Builds.{describes-stays}
 use Rattle.monitor.specs.Session.{placeAt, heldAt}
@@ -102,7 +102,7 @@ module _ (xs : List ℕ) (p : ℕ) (long : 65536 ≤ length xs) (w : Among 64 p)
     used = rw add-zero at (byte 0 (omega arith));
     user = rw (byte 1 (omega arith)) (omega arith);
     label = byte 2 (omega arith);
-    held = λ r. member-of ys (heldAt p) (λ k. 0) no-role r ∙ no-bits r;
+    held = zero-row ys (heldAt p) no-role;
   }
     where
       ys : List ℕ

@@ -8,7 +8,6 @@ use super::state;
 use policy::tables;
 ghost use mathlib.Core.Path.{_≡_};
 ghost use Prim.Native.Nat.{ℕ, _<_};
-ghost use Rattle.search.specs.Search.{among};
 ghost use Rattle.roleset.specs.Row.{member};
 ghost use Rattle.monitor.specs.Review as review;
 

@@ -2,7 +2,7 @@
 use policy::tables;
 use rolefile::check;
 ghost use mathlib.Core.Path.{_≡_};
-ghost use Prim.Native.Nat.{_+_, _*_, _-_, _≤_, _<_};
+ghost use Prim.Native.Nat.{_≤_, _<_};
 ghost use Rattle.search.specs.Search.{among, Among};
 ghost use Rattle.policy.specs.Tables as tables;
 ghost use Rattle.monitor.specs.Session as session;

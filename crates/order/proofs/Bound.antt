@@ -27,11 +27,12 @@ module _ (n : ℕ) (ge : Relation) (s : ℕ → Bool) where
   unfolding upper
   upper-iff c = every-in n s (ge c)
 
-  pub isLeast-iff : (c : ℕ) → (isLeast n ge s c ≡ true) ↔ ((s c ≡ true) × Upper n (converse ge) s c)
+module _ (n : ℕ) (ge : Relation) (s : ℕ → Bool) where
+  isLeast-iff : (c : ℕ) → (isLeast n ge s c ≡ true) ↔ ((s c ≡ true) × Upper n (converse ge) s c)
   unfolding isLeast
   isLeast-iff c = (
-    λ h. let (p, q) = and-iff (s c) (every n (λ x. implies (s x) (ge x c))) .0 h in (p, every-in n s (λ x. ge x c) .0 q),
-    λ (p, q). and-iff (s c) (every n (λ x. implies (s x) (ge x c))) .1 (p, every-in n s (λ x. ge x c) .1 q),
+    λ h. let (p, q) = and-iff (s c) (upper n (converse ge) s c) .0 h in (p, upper-iff n (converse ge) s c .0 q),
+    λ (p, q). and-iff (s c) (upper n (converse ge) s c) .1 (p, upper-iff n (converse ge) s c .1 q),
   )
 
 module _ (n : ℕ) (ge : Relation) (s : ℕ → Bool) where
@@ -182,7 +183,7 @@ module _ (n : ℕ) (ge : Relation) where
 
 -- among more things, a set cut to the first m has the same least
 pub least-cut : (m n : ℕ) (ge : Relation) (s t : ℕ → Bool) → m ≤ n → ((a : ℕ) → Among n a → t a ≡ (leb a m && s a)) → least n ge t ≡ least m ge s
-unfolding least isLeast
+unfolding least isLeast upper
 least-cut m n ge s t l h =
     first-cut m n l (isLeast m ge s) (isLeast n ge t) (λ c w.
     rw (every-cut m n l s t (λ x. ge x c) h, h c w) (and-assoc (leb c m) (s c) (every m (λ x. implies (s x) (ge x c)))))

@@ -12,6 +12,7 @@ use Rattle.search.specs.Search.{Among, Lowest}
 use Rattle.search.proofs.Truth.{or-iff, and-iff, untrue, both}
 use Rattle.search.proofs.Found.{last-or, first-none, first-lowest, first-agree}
 use Rattle.order.specs.Table.{Rows}
+use Rattle.order.specs.Bound.{converse}
 use Rattle.order.specs.Closure.{Relation, via, path, closure, circle, Reach, here, step, OnCircle, PartialOrder, Irreflexive, round}
 
 -- a path past one thing more: one that was there, or two that meet in it
@@ -73,7 +74,7 @@ module _ (e : Relation) where
     onward here s = s
     onward (step p w r) s = step p w (onward r s)
 
-    -- b is reached from a by one step or more
+    -- c is reached from a by one step or more, the first of them to b
     abbrev Onto : ℕ → ℕ → Type 0
     Onto a c = (b : ℕ) × Among n b × (e a b ≡ true) × Reach n e b c
 
@@ -154,7 +155,7 @@ module _ (e : Relation) where
     circle-lowest a l = first-lowest (λ a. path n e a a) n a l
 
 -- a path in the relation turned round is one the other way
-pub via-converse : (e : Relation) (k a b : ℕ) → via (λ x y. e y x) k a b ≡ via e k b a
+pub via-converse : (e : Relation) (k a b : ℕ) → via (converse e) k a b ≡ via e k b a
 unfolding via
 via-converse e zero a b = refl
 via-converse e (suc k) a b =

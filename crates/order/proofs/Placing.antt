@@ -1,25 +1,28 @@
 -- A table of role sets in a list of bytes, changed row by row from the front: what a turn does, and what the table is at the end. Assumes nothing.
 use Prim.Native.Nat.{ℕ, _+_, _*_, _-_, _≤_, _<_}
-use mathlib.Core.Path.{_≡_, refl, sym, _∙_}
+use mathlib.Core.Path.{_≡_, refl, _∙_}
 use mathlib.Core.Logic.{inl, inr}
-use mathlib.Core.Bool.{Bool, _&&_, or-comm}
+use mathlib.Core.Bool.{Bool, false, _&&_, or-comm}
 use mathlib.Core.List.{List}
+use native.Mathlib.Nat.{add-sub-cancel}
 use native.Mathlib.Omega.{arith}
 use native.Mathlib.Decide.{decLt}
 use lib.ListN.{length}
-use lib.Dec.{eqb}
+use lib.Dec.{eqb, leb}
+use borrow.Author.Tests.{leb-false}
 use Rattle.search.specs.Search.{Among}
 use Rattle.search.proofs.Truth.{among-iff, eqb-swap}
 use Rattle.roleset.specs.Row.{whole, member, added, unitedWhere, Placed, PlacedRows}
-use Rattle.roleset.proofs.Rows.{other-row, whole-true, rows-left}
+use Rattle.roleset.proofs.Rows.{row-kept, whole-true}
 use Rattle.order.specs.Closure.{Relation, via, round, reflexive}
 use Rattle.order.specs.Table.{related, Tabled}
 use Rattle.order.proofs.Closure.{RowSet, rows-none, rows-more, rounds-none, rounds-more}
-use Rattle.order.proofs.Stored.{place}
 
 -- no table is there
-pub no-table : {at n : ℕ} {h : Relation} {xs : List ℕ} → length xs < at + 2048 → Tabled at n h xs xs
-no-table l = record { rows = λ m. absurd (omega arith); rest = λ i o. refl; none = λ m. refl }
+pub no-table : {at n : ℕ} {h : Relation} {xs : List ℕ} → leb (at + 2048) (length xs) ≡ false → Tabled at n h xs xs
+no-table {at} {xs = xs} e =
+    let short = leb-false (at + 2048) (length xs) e in
+    record { rows = λ m. absurd (omega arith); rest = λ i o. refl; none = λ m. refl }
 
 module _ (at : ℕ) (h : Relation) (xs : List ℕ) (fits : at + 2048 ≤ length xs) where
   pub placing-none : Tabled at 0 h xs xs
@@ -36,9 +39,9 @@ module _ (at : ℕ) (h : Relation) (xs : List ℕ) (fits : at + 2048 ≤ length 
     where
       row : RowSet 128 (i + 1) h (related ys at) (related zs at)
       row = record {
-        own = λ b w. rw (place i) (p .row (omega arith) b ∙ new b w);
-        others = λ a b v ne w. other-row (at + 16 * i) (at + 16 * (a - 1)) s ys zs p
-            (elim (decLt (a - 1) i) [ yes k ↦ inl (omega arith) | no k ↦ inr (omega arith) ]) b;
+        own = λ b w. rw (add-sub-cancel i 1) (p .row (omega arith) b ∙ new b w);
+        others = λ a b v ne w.
+            row-kept ys zs (p .rest) (at + 16 * (a - 1)) b (elim (decLt (a - 1) i) [ yes k ↦ inl (omega arith) | no k ↦ inr (omega arith) ]);
       }
 
   -- rows that are as h says already need no turn
@@ -58,14 +61,14 @@ module _ (at : ℕ) (h : Relation) (xs : List ℕ) (fits : at + 2048 ≤ length 
 
   -- a row that has had no turn yet
   pub placing-left : (i b : ℕ) (ys : List ℕ) → i < 128 → Among 128 b → Tabled at i h xs ys → member ys (at + 16 * i) b ≡ member xs (at + 16 * i) b
-  placing-left i b ys l w t = rw (place i) at (t .rows fits .left (i + 1) b (omega arith) (omega arith) w)
+  placing-left i b ys l w t = rw (add-sub-cancel i 1) at (t .rows fits .left (i + 1) b (omega arith) (omega arith) w)
 
 -- a thing put into its own row
 module _ (at : ℕ) (xs : List ℕ) (fits : at + 2048 ≤ length xs) where
   pub reflexive-row : (i b : ℕ) (ys : List ℕ) → i < 128 → Among 128 b → Tabled at i (reflexive (related xs at)) xs ys
       → added ys (at + 16 * i) (i + 1) b ≡ reflexive (related xs at) (i + 1) b
   reflexive-row i b ys l w t =
-      rw (placing-left at (reflexive (related xs at)) xs fits i b ys l w t, among-iff 128 (i + 1) .1 (omega arith), eqb-swap b (i + 1), place i)
+      rw (placing-left at (reflexive (related xs at)) xs fits i b ys l w t, among-iff 128 (i + 1) .1 (omega arith), eqb-swap b (i + 1), add-sub-cancel i 1)
       (or-comm (member xs (at + 16 * i) b) (eqb (i + 1) b))
 
 -- a round of closing
@@ -78,8 +81,8 @@ module _ (at : ℕ) (xs : List ℕ) (fits : at + 2048 ≤ length xs) where
       → PlacedRows at n (λ i. unitedWhere xs (at + 16 * i) (k + 1) other) xs ys → Tabled at n (round e (k + 1)) xs ys
   round-rows n k ys other l m o p = record {
     rows = λ f. record {
-      done = λ a b v w. p .rows (omega arith) (a - 1) (omega arith) b ∙ rw (o b, whole-true xs (at + 16 * k) (omega arith), place k);
-      left = λ a b v u w. rows-left p (at + 16 * (a - 1)) (omega arith) b;
+      done = λ a b v w. p .rows (omega arith) (a - 1) (omega arith) b ∙ rw (o b, whole-true xs (at + 16 * k) (omega arith), add-sub-cancel k 1);
+      left = λ a b v u w. row-kept xs ys (p .rest) (at + 16 * (a - 1)) b (inr (omega arith));
     };
     rest = p .rest;
     none = λ f. absurd (omega arith);

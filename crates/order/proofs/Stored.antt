@@ -4,6 +4,7 @@ use mathlib.Core.Path.{_≡_, refl, _∙_}
 use mathlib.Core.Logic.{⊎-elim}
 use mathlib.Core.Bool.{Bool, true, false, _||_}
 use mathlib.Core.List.{List, []}
+use native.Mathlib.Nat.{add-sub-cancel}
 use native.Mathlib.Omega.{arith}
 use native.Mathlib.Numerals.{add-one}
 use native.Mathlib.Decide.{ℕ-discrete}
@@ -17,14 +18,10 @@ use Rattle.order.specs.Closure.{Relation}
 use Rattle.order.specs.Table.{marks, mark}
 use Rattle.order.proofs.Closure.{RowSet}
 
--- thing i + 1 stands at i
-pub place : (i : ℕ) → i + 1 - 1 ≡ i
-place i = omega arith
-
 -- what stands at thing a when v is stored at i
 module _ {A : Type 0} (d : A) (l : List A) (i : ℕ) (v : A) where
   pub stored-own : i < length l → getD (set l i v) (i + 1 - 1) d ≡ v
-  stored-own h = rw (place i) (getD-set-same l i v d h)
+  stored-own h = rw (add-sub-cancel i 1) (getD-set-same l i v d h)
 
   pub stored-other : (a : ℕ) → 1 ≤ a → (a ≡ i + 1 → ⊥) → getD (set l i v) (a - 1) d ≡ getD l (a - 1) d
   stored-other a h ne = getD-set-other l i (a - 1) v d (λ e. ne (omega arith))

@@ -12,22 +12,23 @@ use lib.Dec.{eqb, ltb}
 use Rattle.search.specs.Search.{every, first, implies, Among}
 use Rattle.order.specs.Closure.{Relation}
 
+-- the relation turned round
+abbrev pub converse : Relation → Relation
+converse ge a b = ge b a
+
 -- c is over each of s
 unfoldable pub upper : ℕ → Relation → (ℕ → Bool) → ℕ → Bool
 upper n ge s c = every n (λ x. implies (s x) (ge c x))
 
 -- c is in s, and each of s is over it
 unfoldable pub isLeast : ℕ → Relation → (ℕ → Bool) → ℕ → Bool
-isLeast n ge s c = s c && every n (λ x. implies (s x) (ge x c))
+isLeast n ge s c = s c && upper n (converse ge) s c
 
 unfoldable pub least : ℕ → Relation → (ℕ → Bool) → ℕ
 least n ge s = first n (isLeast n ge s)
 
 unfoldable pub lub : ℕ → Relation → (ℕ → Bool) → ℕ
 lub n ge s = least n ge (upper n ge s)
-
-abbrev pub converse : Relation → Relation
-converse ge a b = ge b a
 
 abbrev pub glb : ℕ → Relation → (ℕ → Bool) → ℕ
 glb n ge s = lub n (converse ge) s

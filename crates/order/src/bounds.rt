@@ -3,7 +3,7 @@
 // The row of a thing has the things under it. So lower bounds are what rows have in common, and
 // upper bounds are lower bounds in the order turned round: who asks for many turns the order once.
 ghost use mathlib.Core.Path.{_≡_};
-ghost use mathlib.Core.Bool.{true, false, _&&_};
+ghost use mathlib.Core.Bool.{_&&_};
 ghost use Prim.Native.Nat.{ℕ, _+_, _≤_, _<_, min};
 ghost use lib.Dec.{leb};
 ghost use Rattle.search.specs.Search.{Among, among, every, implies};

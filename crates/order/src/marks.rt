@@ -56,13 +56,15 @@ pub fn paths(t: [[bool; 32]; 32], n: usize) -> [[bool; 32]; 32]
     r
 }
 
-// The row with a mark at i + 1.
-fn marked(row: [bool; 32], i: usize) -> [bool; 32]
-    requires { ⌜ i < 32 ⌝ }
-    ensures { λ r. ⌜ ((b : ℕ) → Among 32 b → marks r b ≡ (eqb (i + 1) b || marks row b)) ⌝ }
+// The row with a mark at thing b too, if it is one of the 32.
+pub fn with_mark(row: [bool; 32], b: usize) -> [bool; 32]
+    ensures { λ r. ⌜ ((y : ℕ) → Among 32 y → marks r y ≡ (eqb b y || marks row y)) ⌝ }
 {
+    if !search::among(32, b as u64) {
+        return row;
+    }
     let mut r = row;
-    r[i] = true;
+    r[b - 1] = true;
     r
 }
 
@@ -75,7 +77,7 @@ pub fn reflected(t: [[bool; 32]; 32], n: usize) -> [[bool; 32]; 32]
     let mut i = 0;
     while i < m {
         let row = t[i];
-        r[i] = marked(row, i);
+        r[i] = with_mark(row, i + 1);
         i += 1;
     }
     r

@@ -4,7 +4,7 @@
 // A table that does not lie wholly in the slice relates nothing and stays as it is.
 ghost use mathlib.Core.Path.{_≡_};
 ghost use mathlib.Core.Bool.{cond};
-ghost use Prim.Native.Nat.{_+_, _*_, _≤_, _<_, min};
+ghost use Prim.Native.Nat.{_+_, _≤_, _<_, min};
 ghost use lib.Dec.{leb};
 ghost use lib.ListN.{length};
 ghost use Rattle.order.specs.Closure.{path, loop, round, reflexive};
@@ -23,10 +23,7 @@ fn pass(s: &mut [u8], at: usize, k: usize, n: usize)
 pub fn paths(s: &mut [u8], at: usize, n: usize)
     ensures { λ _. ⌜ Tabled at (min n 128) (path (min n 128) (related (now (s .entry)) at)) (now (s .entry)) (now (s .exit)) ⌝ }
 {
-    if s.len() < 2048 {
-        return;
-    }
-    if s.len() - 2048 < at {
+    if !roleset::rows_lie(s.len(), at, 128) {
         return;
     }
     let m = super::marks::lesser(n, 128);
@@ -41,10 +38,7 @@ pub fn paths(s: &mut [u8], at: usize, n: usize)
 pub fn reflect(s: &mut [u8], at: usize, n: usize)
     ensures { λ _. ⌜ Tabled at (min n 128) (reflexive (related (now (s .entry)) at)) (now (s .entry)) (now (s .exit)) ⌝ }
 {
-    if s.len() < 2048 {
-        return;
-    }
-    if s.len() - 2048 < at {
+    if !roleset::rows_lie(s.len(), at, 128) {
         return;
     }
     let m = super::marks::lesser(n, 128);
@@ -59,10 +53,7 @@ pub fn reflect(s: &mut [u8], at: usize, n: usize)
 pub fn lowest_loop(s: &[u8], at: usize, n: usize) -> usize
     ensures { λ r. ⌜ r ≡ cond (leb (at + 2048) (length (now (s .entry)))) (loop (min n 128) (related (now (s .entry)) at)) 0 ⌝ }
 {
-    if s.len() < 2048 {
-        return 0;
-    }
-    if s.len() - 2048 < at {
+    if !roleset::rows_lie(s.len(), at, 128) {
         return 0;
     }
     let m = super::marks::lesser(n, 128);

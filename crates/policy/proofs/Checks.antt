@@ -9,7 +9,7 @@ use native.Mathlib.Omega.{arith}
 use lib.Dec.{eqb}
 use borrow.Author.Tests.{eqb-true, eq-eqb}
 use Rattle.search.proofs.Truth.{untrue, both}
-use Rattle.order.specs.Closure.{Relation, path, closure, circle, OnCircle, PartialOrder}
+use Rattle.order.specs.Closure.{Relation, path, closure, circle, PartialOrder}
 use Rattle.order.specs.Bound.{converse, lowestWithoutBound, partnerWithoutBound, AllJoined, FirstPair}
 use Rattle.order.proofs.Closure.{circle-finds, circle-none}
 use Rattle.order.proofs.Bound.{lowest-without-none, lowest-without-first}

@@ -1,25 +1,24 @@
 -- Dominance in tables: the D lines' paths and their closure, and what 11 and 12 find in them. Assumes nothing.
 use Prim.Native.Nat.{ℕ, zero, suc, _≤_}
-use mathlib.Core.Path.{_≡_, refl, sym, _∙_}
+use mathlib.Core.Path.{_≡_, refl, _∙_}
 use mathlib.Core.List.{List}
-use mathlib.Core.Bool.{Bool, true, _&&_, cond}
+use mathlib.Core.Bool.{Bool, cond}
 use native.Mathlib.Omega.{arith}
 use native.Mathlib.Decide.{decLt}
-use lib.Dec.{ltb, eqb}
-use borrow.Author.Tests.{eqb-true, le-leb, lt-leb, lt-ltb}
+use lib.Dec.{ltb}
+use borrow.Author.Tests.{le-leb, lt-leb, lt-ltb}
 use Rattle.search.specs.Search.{Among}
-use Rattle.search.proofs.Truth.{and-iff, untrue}
-use Rattle.search.proofs.Found.{some-iff, first-agree}
+use Rattle.search.proofs.Truth.{untrue}
+use Rattle.search.proofs.Found.{first-agree}
 use Rattle.order.specs.Closure.{Relation, path, loop, circle, reflexive}
 use Rattle.order.specs.Bound.{partnerWithoutBound, lowestWithoutBound, FirstWithoutBound}
 use Rattle.order.specs.Table.{mark, Rows}
 use Rattle.order.proofs.Closure.{via-agree}
 use Rattle.order.proofs.Bound.{first-without-agree}
 use Rattle.rolefile.specs.Line.{D, fields}
-use Rattle.rolefile.specs.Form.{refusal, found, header}
+use Rattle.rolefile.specs.Form.{refusal, found}
 use Rattle.rolefile.specs.Said.{labels, over}
-use Rattle.rolefile.specs.Section.{one, two}
-use Rattle.rolefile.proofs.Sections.{part, Section, says-two}
+use Rattle.rolefile.proofs.Sections.{part, Section}
 use Rattle.rolefile.specs.WellFormed.{GoodLines}
 use Rattle.policy.specs.Policy.{dominates}
 use Rattle.policy.specs.Tables.{pairs}

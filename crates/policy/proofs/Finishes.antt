@@ -1,11 +1,12 @@
 -- The last stage: counts and assigned roles. Bytes that a store leaves alone keep what is read of them. Assumes nothing.
 use Prim.Native.Nat.{ℕ, _+_, _*_, _≤_}
-use mathlib.Core.Path.{_≡_, refl, ap, _∙_}
+use mathlib.Core.Path.{_≡_, refl, _∙_}
+use mathlib.Core.Logic.{inr}
 use mathlib.Core.List.{List}
 use native.Mathlib.Omega.{arith}
 use lib.ListN.{drop}
 use Rattle.roleset.specs.Row.{Kept}
-use Rattle.roleset.proofs.Rows.{same-bytes}
+use Rattle.roleset.proofs.Rows.{zero-row, row-kept}
 use Rattle.rolefile.specs.declared.Line.{Line}
 use Rattle.rolefile.specs.Line.{A, fields}
 use Rattle.rolefile.specs.Said.{assigned}
@@ -13,7 +14,7 @@ use Rattle.policy.specs.declared.build.Parts.{Parts}
 use Rattle.policy.specs.Tables.{word, rowOf, assignedAt, pairs, Related}
 use Rattle.policy.specs.Stages.{Ready, Zeros, Counting, Finishing}
 use Rattle.policy.proofs.Readying.{good-of, section-a}
-use Rattle.policy.proofs.Ranks.{empty-row, pairs-say}
+use Rattle.policy.proofs.Ranks.{pairs-say}
 
 -- two words one after the other
 pub word-stays : (a b at : ℕ) (xs ys : List ℕ) → Kept a b xs ys → (a ≤ at + 1 → b ≤ at) → word ys at ≡ word xs at
@@ -48,9 +49,9 @@ module _ (f : List ℕ) (q : Parts) (h : Line) (ready : Ready f q h) (xs ys zs p
   pub finished : Finishing f xs zs
   finished = record {
     assigning = λ u r v w.
-        same-bytes ys zs (rowOf assignedAt u) (rowOf assignedAt u) (λ k l. counted .rest (rowOf assignedAt u + k) (λ m. omega arith)) r
+        row-kept ys zs (counted .rest) (rowOf assignedAt u) r (inr (omega arith))
         ∙ filled .rows u r v w
-        ∙ rw (empty-row 4112 8208 (rowOf assignedAt u) xs zeros (omega arith) (omega arith) r) (said u r);
+        ∙ rw (zero-row xs (rowOf assignedAt u) (λ k l. zeros (rowOf assignedAt u + k) (omega arith) (omega arith)) r) (said u r);
     counted = rw (ready .head) at (counted .counts);
     rest = λ i l out. counted .rest i (λ m. l) ∙ filled .rest i (λ m. let far = out m in omega arith);
   }

@@ -4,7 +4,7 @@ use mathlib.Core.Path.{_≡_, sym, _∙_}
 use mathlib.Core.Bool.{Bool, true, false, not, _&&_, _||_, cond, and-true, and-false, or-false}
 use mathlib.Core.List.{List}
 use native.Mathlib.Omega.{arith}
-use native.Mathlib.Nat.{zero-add}
+use native.Mathlib.Nat.{add-sub-cancel, zero-add}
 use native.Mathlib.Decide.{ℕ-discrete}
 use lib.Dec.{leb, eqb}
 use lib.ListN.{length}
@@ -18,7 +18,6 @@ use Rattle.order.specs.Closure.{Relation, path, loop, circle}
 use Rattle.order.specs.Table.{related, Tabled}
 use Rattle.order.proofs.Closure.{circle-agree}
 use Rattle.order.proofs.Placing.{placing-more, placing-pass, placing-left}
-use Rattle.order.proofs.Stored.{place}
 use Rattle.policy.specs.Tables.{rowOf, readersAt, writersAt, stateSize, isState, flowing}
 
 -- ---- what is answered where a test holds, and where it fails
@@ -46,7 +45,7 @@ module _ (xs : List ℕ) where
 -- the row of thing o + 1 of the table at `at`, as it is tested
 pub row-tested : (xs : List ℕ) (at o r : ℕ) (b : Bool) → at + 16 * o + 16 ≤ length xs
     → b ≡ (whole xs (at + 16 * o) && member xs (at + 16 * o) r) → b ≡ member xs (rowOf at (o + 1)) r
-row-tested xs at o r b l e = rw (place o) (e ∙ rw (whole-true xs (at + 16 * o) l))
+row-tested xs at o r b l e = rw (add-sub-cancel o 1) (e ∙ rw (whole-true xs (at + 16 * o) l))
 
 -- r may write card o, and q may read it
 abbrev pub passing : List ℕ → ℕ → ℕ → ℕ → Bool
@@ -74,7 +73,7 @@ apart t r q = related t 0 r q && not (eqb q r)
 -- rows 1 to i have had their turn: row i + 1 is as it was, and has its turn
 module _ (h : Relation) (t u : List ℕ) (i : ℕ) (long : 2048 ≤ length t) (same : length u ≡ length t) (l : i < 128) (done : Tabled 0 i h t u) where
   row-left : (q : ℕ) → Among 128 q → member u (16 * i) q ≡ related t 0 (i + 1) q
-  row-left q w = rw (place i, zero-add (16 * i)) (rw (zero-add (16 * i)) at (placing-left 0 h t (omega arith) i q u l w done))
+  row-left q w = rw (add-sub-cancel i 1, zero-add (16 * i)) (rw (zero-add (16 * i)) at (placing-left 0 h t (omega arith) i q u l w done))
 
   pub row-more : (v : List ℕ) (s : ℕ → Bool) → Placed (16 * i) s u v → ((q : ℕ) → Among 128 q → s q ≡ h (i + 1) q) → Tabled 0 (i + 1) h t v
   row-more v s p new = placing-more 0 h t (omega arith) i s u v l same done (rw (zero-add (16 * i)) p) new
@@ -114,7 +113,7 @@ module _ {t u xs : List ℕ} {o i w : ℕ} (turn : Turn t u xs o i w) where
 
   -- a row that is no writer's needs no turn
   idle : (r q : ℕ) → Later r ≡ false → i < r → related t 0 r q ≡ Past r q
-  idle r q e k = rw (place o, rw (lt-leb r i k) at e) (sym (or-false (related t 0 r q)))
+  idle r q e k = rw (add-sub-cancel o 1, rw (lt-leb r i k) at e) (sym (or-false (related t 0 r q)))
 
   pub no-writer : w ≡ 0 → Tabled 0 128 Past t u
   no-writer e =
@@ -140,7 +139,7 @@ module _ {t u xs : List ℕ} {o i w : ℕ} (turn : Turn t u xs o i w) where
         rw (
           row-left Past t u (w - 1) (turn .long) (turn .same) (omega arith) passed q z,
           last,
-          place o,
+          add-sub-cancel o 1,
           and-iff (not (leb w i)) (Writes w) .0 (lowest .holds) .1,
           read q,
           whole-true xs (readersAt + 16 * o) (omega arith),

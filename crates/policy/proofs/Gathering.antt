@@ -3,19 +3,19 @@ use Prim.Native.Nat.{ℕ, zero, suc, _+_, _*_, _≤_}
 use mathlib.Core.Path.{_≡_, refl, sym, _∙_}
 use mathlib.Core.Bool.{Bool, true, false, _&&_, _||_, or-false}
 use mathlib.Core.List.{List}
+use native.Mathlib.Nat.{add-sub-cancel}
 use native.Mathlib.Omega.{arith}
 use native.Mathlib.Decide.{ℕ-discrete}
 use lib.Dec.{eqb}
-use lib.ListN.{length, getD, replicate, getD-replicate}
+use lib.ListN.{length, getD}
 use borrow.Author.Tests.{eq-eqb, ne-eqb}
 use Rattle.search.specs.Search.{Among, some}
 use Rattle.search.proofs.Found.{some-more, some-agree}
 use Rattle.roleset.specs.Row.{whole, member, united, Placed}
-use Rattle.roleset.proofs.Rows.{member-of, no-bits, whole-true}
+use Rattle.roleset.proofs.Rows.{whole-true}
 use Rattle.order.specs.Closure.{Relation}
 use Rattle.order.specs.Bound.{lub}
 use Rattle.order.proofs.Bound.{lub-same-set}
-use Rattle.order.proofs.Stored.{place}
 use Rattle.policy.specs.Policy.{levelAt, level, levelNumber}
 use Rattle.policy.specs.Tables.{byteOf, rowOf, cardLabelsAt, gathered}
 use Rattle.policy.proofs.Relating.{others-stay}
@@ -26,7 +26,7 @@ brings xs at o l r = eqb (byteOf xs cardLabelsAt (o + 1)) l && member xs (rowOf 
 
 module _ (xs : List ℕ) (at o label : ℕ) (e : label ≡ getD xs (cardLabelsAt + o) 0) where
   byte-is : byteOf xs cardLabelsAt (o + 1) ≡ label
-  byte-is = rw (place o) (sym e)
+  byte-is = rw (add-sub-cancel o 1) (sym e)
 
   -- a card with no label brings nothing
   pub brings-none : (g : List ℕ) (l r : ℕ) → (label ≡ l → ⊥) → member g (rowOf 0 l) r ≡ (member g (rowOf 0 l) r || brings xs at o l r)
@@ -38,7 +38,7 @@ module _ (xs : List ℕ) (at o label : ℕ) (e : label ≡ getD xs (cardLabelsAt
       → (l r : ℕ) → Among 32 l → member h (rowOf 0 l) r ≡ (member g (rowOf 0 l) r || brings xs at o l r)
   brings-row g h other long v fits row p l r w = elim (ℕ-discrete l label) [
     | yes q ↦
-        rw (q, byte-is, eq-eqb label label refl, place o)
+        rw (q, byte-is, eq-eqb label label refl, add-sub-cancel o 1)
         (p .row (omega arith) r ∙ rw (row r, whole-true xs (at + 16 * o) fits))
     | no q ↦ others-stay 0 32 label _ g h p v l r w q ∙ brings-none g l r (λ i. q (sym i))
   ]
@@ -46,10 +46,6 @@ module _ (xs : List ℕ) (at o label : ℕ) (e : label ≡ getD xs (cardLabelsAt
 pub gathered-more : (xs : List ℕ) (at o l r : ℕ) → (gathered xs at o l r || brings xs at o l r) ≡ gathered xs at (o + 1) l r
 unfolding gathered
 gathered-more xs at o l r = sym (some-more (λ k. eqb (byteOf xs cardLabelsAt k) l && member xs (rowOf at k) r) o)
-
--- rows of zeros hold no role
-pub zero-rows : (n at r : ℕ) → at + 16 ≤ n → member (replicate n 0) at r ≡ false
-zero-rows n at r l = member-of (replicate n 0) at (λ k. 0) (λ k m. getD-replicate n (at + k) 0 0 (omega arith)) r ∙ no-bits r
 
 pub gathered-yet : (xs : List ℕ) (at l r : ℕ) → gathered xs at 0 l r ≡ false
 unfolding gathered Rattle.search.specs.Search.some

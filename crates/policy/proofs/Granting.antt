@@ -2,7 +2,7 @@
 -- and the bounds of the labels gathered are its levels. Assumes nothing.
 use Prim.Native.Nat.{ℕ, _+_, _*_, _-_, _≤_, _<_}
 use mathlib.Core.Path.{_≡_, refl, sym, ap, _∙_}
-use mathlib.Core.Logic.{_⊎_, inr, ⊎-elim}
+use mathlib.Core.Logic.{inr, ⊎-elim}
 use mathlib.Core.List.{List}
 use mathlib.Core.Bool.{Bool, true, false, _&&_, cond, and-assoc, and-comm}
 use native.Mathlib.Omega.{arith}
@@ -14,7 +14,7 @@ use Rattle.search.specs.Search.{Among, among, some}
 use Rattle.search.proofs.Truth.{and-iff, among-iff, untrue, same}
 use Rattle.search.proofs.Found.{some-of, some-iff, some-none, some-agree}
 use Rattle.roleset.specs.Row.{member, Kept}
-use Rattle.roleset.proofs.Rows.{member-of, no-bits, same-bytes}
+use Rattle.roleset.proofs.Rows.{zero-row, row-kept}
 use Rattle.order.specs.Closure.{Relation}
 use Rattle.order.specs.Bound.{converse}
 use Rattle.order.specs.Table.{mark}
@@ -36,15 +36,6 @@ use Rattle.policy.specs.Stages.{Ready, Zeros, Closed, Granting}
 use Rattle.policy.proofs.Readying.{good-of, counts-of, section-p, one-within, limits-p}
 use Rattle.policy.proofs.Inside.{Between, closure-between, above-between}
 use Rattle.policy.proofs.Gathering.{level-empty, level-same-set}
-
--- ---- rows
-
-pub row-kept : (a b : ℕ) (xs ys : List ℕ) → Kept a b xs ys → (at r : ℕ) → (at + 16 ≤ a) ⊎ (b ≤ at) → member ys at r ≡ member xs at r
-row-kept a b xs ys kept at r far =
-    same-bytes xs ys at at (λ k l. kept (at + k) (λ m. ⊎-elim (λ h. omega arith) (λ h. omega arith) far)) r
-
-pub row-empty : (xs : List ℕ) (at r : ℕ) → Zeros at (at + 16) xs → member xs at r ≡ false
-row-empty xs at r zeros = member-of xs at (λ k. 0) (λ k l. zeros (at + k) (omega arith) (omega arith)) r ∙ no-bits r
 
 -- ---- permissions
 
@@ -112,7 +103,7 @@ module _ (f xs : List ℕ) (good : GoodLines f) (few : roles f ≤ 128) (seniors
   }
     where
       none : (at o r : ℕ) → (readersAt ≤ at) × (at + 8192 ≤ 28688) → Among 512 o → member xs (rowOf at o) r ≡ false
-      none at o r l v = row-empty xs (rowOf at o) r (λ i p q. zeros i (omega arith) (omega arith))
+      none at o r l v = zero-row xs (rowOf at o) (λ k m. zeros (rowOf at o + k) (omega arith) (omega arith)) r
 
 -- ---- levels
 
@@ -173,8 +164,8 @@ module _ (f : List ℕ) (counts : GoodCounts (header f)) (between : Between (rol
 
 permitting-kept : (f : List ℕ) (a b : ℕ) (xs ys : List ℕ) → b ≤ readersAt → Kept a b xs ys → Permitting f xs → Permitting f ys
 permitting-kept f a b xs ys l kept p = record {
-  readers = λ o r v w. row-kept a b xs ys kept (rowOf readersAt o) r (inr (omega arith)) ∙ p .readers o r v w;
-  writers = λ o r v w. row-kept a b xs ys kept (rowOf writersAt o) r (inr (omega arith)) ∙ p .writers o r v w;
+  readers = λ o r v w. row-kept xs ys kept (rowOf readersAt o) r (inr (omega arith)) ∙ p .readers o r v w;
+  writers = λ o r v w. row-kept xs ys kept (rowOf writersAt o) r (inr (omega arith)) ∙ p .writers o r v w;
 }
 
 module _ (f : List ℕ) (q : Parts) (h : Line) (t up : List (List Bool)) (x₀ x₁ x₂ x₃ x₄ reading writing : List ℕ) (ready : Ready f q h)
@@ -207,7 +198,7 @@ module _ (f : List ℕ) (q : Parts) (h : Line) (t up : List (List Bool)) (x₀ x
   permitting₂ : Permitting f x₂
   permitting₂ =
       permitted f x₁ good (counts .roles)
-      (λ r s v w. row-kept 16 1040 x₀ x₁ kept (rowOf seniorsAt r) s (inr (omega arith)) ∙ seniors r s v w)
+      (λ r s v w. row-kept x₀ x₁ kept (rowOf seniorsAt r) s (inr (omega arith)) ∙ seniors r s v w)
       (section-p f q (ready .lines) (ready .laid)) x₂ grants
       (λ i l m. kept i (λ n. omega arith) ∙ no-role i l m)
 

@@ -2,7 +2,7 @@
 use Prim.Native.Nat.{ℕ, _+_, _*_, _-_}
 use mathlib.Core.Path.{_≡_, refl, sym, _∙_}
 use mathlib.Core.Logic.{⊎-elim}
-use mathlib.Core.Bool.{Bool, false, _&&_, _||_, cond, or-false}
+use mathlib.Core.Bool.{Bool, false, _&&_, _||_, cond, or-false, or-comm}
 use mathlib.Core.List.{List, []}
 use native.Mathlib.Omega.{arith}
 use native.Mathlib.Numerals.{add-one}
@@ -10,9 +10,8 @@ use native.Mathlib.Decide.{ℕ-discrete}
 use lib.Dec.{eqb}
 use lib.ListN.{length, getD, set, replicate, getD-replicate}
 use lib.Seq.{getD-set-same, getD-set-other}
-use borrow.Author.Tests.{eqb-true, eq-eqb, ne-eqb}
+use borrow.Author.Tests.{eq-eqb, ne-eqb}
 use Rattle.search.specs.Search.{Among, some}
-use Rattle.search.proofs.Truth.{and-iff, untrue}
 use Rattle.search.proofs.Found.{last-or, some-more}
 use Rattle.roleset.specs.Row.{Kept}
 use Rattle.order.specs.Table.{marks, mark}
@@ -23,21 +22,16 @@ use Rattle.policy.specs.Tables.{dominanceAt, pairs}
 abbrev pub WithPair : ℕ → ℕ → List (List Bool) → List (List Bool) → Type 0
 WithPair a b t r = (x y : ℕ) → Among 32 x → Among 32 y → mark r x y ≡ (mark t x y || (eqb a x && eqb b y))
 
--- a pair of which one is no label makes no mark
-pub pair-none : (a b : ℕ) (t : List (List Bool)) → (Among 32 a → Among 32 b → ⊥) → WithPair a b t t
+-- a pair whose first is no label makes no mark
+pub pair-none : (a b : ℕ) (t : List (List Bool)) → (Among 32 a → ⊥) → WithPair a b t t
 pair-none a b t h x y w v =
-    rw (untrue (eqb a x && eqb b y) (λ e.
-    let s = and-iff (eqb a x) (eqb b y) .0 e in
-    let i = eqb-true a x (s .0) in
-    let j = eqb-true b y (s .1) in
-    h (omega arith) (omega arith)))
-    (sym (or-false (mark t x y)))
+    rw (ne-eqb a x (λ e. h (rw e w))) (sym (or-false (mark t x y)))
 
 -- row a with a mark at b is stored
 pub pair-one : (a b : ℕ) (t : List (List Bool)) (row : List Bool) → Among 32 a → length t ≡ 32
-    → ((y : ℕ) → Among 32 y → marks row y ≡ (mark t a y || eqb b y)) → WithPair a b t (set t (a - 1) row)
+    → ((y : ℕ) → Among 32 y → marks row y ≡ (eqb b y || mark t a y)) → WithPair a b t (set t (a - 1) row)
 pair-one a b t row w l all x y u v = elim (ℕ-discrete x a) [
-  | yes q ↦ rw (q, eq-eqb a a refl, getD-set-same t (a - 1) row [] (omega arith)) (all y v)
+  | yes q ↦ rw (q, eq-eqb a a refl, getD-set-same t (a - 1) row [] (omega arith)) (all y v ∙ or-comm (eqb b y) (mark t a y))
   | no q ↦
       rw (ne-eqb a x (λ e. q (omega arith)), getD-set-other t (a - 1) (x - 1) row [] (λ e. q (omega arith)))
       (sym (or-false (mark t x y)))

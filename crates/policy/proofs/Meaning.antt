@@ -8,7 +8,7 @@ use native.Mathlib.Omega.{arith}
 use lib.Dec.{eqb}
 use lib.ListN.{length}
 use borrow.Author.Tests.{eq-eqb}
-use Rattle.search.specs.Search.{Among, some}
+use Rattle.search.specs.Search.{Among}
 use Rattle.search.proofs.Truth.{untrue, both}
 use Rattle.search.proofs.Found.{some-agree, first-none}
 use Rattle.roleset.specs.Row.{member}

@@ -2,26 +2,26 @@
 use Prim.Native.Nat.{ℕ, _+_, _*_, _≤_, min}
 use mathlib.Core.Path.{_≡_, refl, sym, ap, _∙_}
 use mathlib.Core.List.{List}
-use mathlib.Core.Bool.{true, false, _&&_, cond}
+use mathlib.Core.Bool.{cond}
 use native.Mathlib.Omega.{arith}
 use native.Mathlib.Decide.{decLe}
-use lib.Dec.{leb, eqb}
+use lib.Dec.{leb}
 use lib.ListN.{length, drop}
 use borrow.Author.Tests.{ne-eqb, le-leb, lt-leb}
 use Rattle.search.specs.Search.{Among}
 use Rattle.search.proofs.Truth.{untrue, eqb-swap}
 use Rattle.search.proofs.Found.{first-agree}
-use Rattle.roleset.specs.Row.{member, Kept}
-use Rattle.roleset.proofs.Rows.{member-of, no-bits}
+use Rattle.roleset.specs.Row.{Kept}
+use Rattle.roleset.proofs.Rows.{zero-row}
+use Rattle.order.specs.Bound.{converse}
 use Rattle.order.specs.Closure.{path, loop, circle, reflexive}
 use Rattle.order.specs.Table.{related, Tabled}
 use Rattle.order.proofs.Closure.{via-agree, via-converse}
 use Rattle.rolefile.specs.declared.Line.{Line}
 use Rattle.rolefile.specs.declared.Verdict.{Verdict}
 use Rattle.rolefile.specs.Line.{S, fields}
-use Rattle.rolefile.specs.Form.{fine, refusal, header}
+use Rattle.rolefile.specs.Form.{fine, refusal}
 use Rattle.rolefile.specs.Said.{roles, above}
-use Rattle.rolefile.specs.Section.{one, two}
 use Rattle.rolefile.proofs.Sections.{part, Section, says-two}
 use Rattle.rolefile.specs.WellFormed.{GoodLines}
 use Rattle.policy.specs.Policy.{senior}
@@ -32,10 +32,6 @@ use Rattle.policy.specs.Stages.{Ready, Zeros, Ranking}
 use Rattle.policy.specs.declared.build.Parts.{Parts}
 use Rattle.policy.proofs.Readying.{good-of, counts-of, section-s}
 use Rattle.policy.proofs.Inside.{above-between}
-
--- a row of zeros holds no role
-pub empty-row : (a b at : ℕ) (xs : List ℕ) → Zeros a b xs → a ≤ at → at + 16 ≤ b → (r : ℕ) → member xs at r ≡ false
-empty-row a b at xs z l m r = member-of xs at (λ k. 0) (λ k n. z (at + k) (omega arith) (omega arith)) r ∙ no-bits r
 
 -- what two fields of a letter's section say
 module _ (f : List ℕ) (good : GoodLines f) {k j m : ℕ} (s : Section f k j m) (two-fields : fields k ≡ 2) where
@@ -56,13 +52,13 @@ module _ (f : List ℕ) (good : GoodLines f) {j m : ℕ} (s : Section f S j m) (
       (pathed : Tabled seniorsAt (roles f) (path (roles f) (related ys seniorsAt)) ys zs) where
     -- the lines' rows
     direct : (q r : ℕ) → Among 128 q → Among 128 r → related ys seniorsAt q r ≡ above f r q
-    direct q r v w = filled .rows q r v w ∙ rw (empty-row 2064 4112 (rowOf seniorsAt q) xs zeros (omega arith) (omega arith) r) (said r q)
+    direct q r v w = filled .rows q r v w ∙ rw (zero-row xs (rowOf seniorsAt q) (λ k l. zeros (rowOf seniorsAt q + k) (omega arith) (omega arith)) r) (said r q)
 
     -- and the paths
     paths : (q r : ℕ) → Among (roles f) q → Among 128 r → related zs seniorsAt q r ≡ path (roles f) (above f) r q
     paths q r v w =
         pathed .rows (omega arith) .done q r v w
-        ∙ via-agree (roles f) 128 (related ys seniorsAt) (λ a b. above f b a) few (λ a b x y. direct a b (omega arith) y) (roles f) (omega arith) q r v w
+        ∙ via-agree (roles f) 128 (related ys seniorsAt) (converse (above f)) few (λ a b x y. direct a b (omega arith) y) (roles f) (omega arith) q r v w
         ∙ via-converse (above f) (roles f) q r
 
     pub role-circle : loop (roles f) (related zs seniorsAt) ≡ circle (roles f) (above f)

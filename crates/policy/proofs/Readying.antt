@@ -9,7 +9,7 @@ use Rattle.rolefile.specs.declared.Line.{Line}
 use Rattle.rolefile.specs.Line.{H, D, S, U, O, P, A, lineAt, lines}
 use Rattle.rolefile.specs.Form.{fine, refusal, unless, sized, header, firstLimit, secondLimit, scan, lineVerdict, linesVerdict}
 use Rattle.rolefile.specs.Section.{one, two}
-use Rattle.rolefile.specs.WellFormed.{Sized, GoodCounts, GoodNumbers, GoodLine, GoodLines}
+use Rattle.rolefile.specs.WellFormed.{Sized, GoodCounts, GoodNumbers, GoodLines}
 use Rattle.rolefile.specs.Decimal.{letterByte}
 use Rattle.rolefile.proofs.Verdicts.{then-zero, unless-zero, scan-zero}
 use Rattle.rolefile.proofs.Formed.{sized-iff, header-counts, line-iff, line-clean}

@@ -13,7 +13,7 @@ use Rattle.search.specs.Search.{among, Among}
 use Rattle.search.proofs.Truth.{and-iff, and-when, and-right, among-iff, untrue, same}
 use Rattle.search.proofs.Found.{some-more}
 use Rattle.roleset.specs.Row.{member, added, joined, Kept, Placed}
-use Rattle.roleset.proofs.Rows.{other-row, same-bytes, whole-true}
+use Rattle.roleset.proofs.Rows.{row-kept, whole-true}
 use Rattle.order.specs.Closure.{Relation}
 use Rattle.rolefile.specs.Section.{one, two, three}
 use Rattle.policy.specs.Tables.{rowOf, seniorsAt, readersAt, writersAt, pairs, grantedByLines, Related, GrantedRows}
@@ -25,7 +25,7 @@ rows-apart at x y v w ne = elim (decLt y x) [ yes l ↦ inl (omega arith) | no l
 -- where one row of a table is placed, the others stay
 module _ (at size x : ℕ) (s : ℕ → Bool) (xs ys : List ℕ) (p : Placed (rowOf at x) s xs ys) (w : Among size x) where
   pub others-stay : (y r : ℕ) → Among size y → (y ≡ x → ⊥) → member ys (rowOf at y) r ≡ member xs (rowOf at y) r
-  others-stay y r v ne = other-row (rowOf at x) (rowOf at y) s xs ys p (rows-apart at x y (w .0) (v .0) ne) r
+  others-stay y r v ne = row-kept xs ys (p .rest) (rowOf at y) r (rows-apart at x y (w .0) (v .0) ne)
 
   pub rest-stays : Kept at (at + 16 * size) xs ys
   rest-stays i out = p .rest i (λ l. let far = out (omega arith) in omega arith)
@@ -123,7 +123,7 @@ module _ (base other role card : ℕ) (xs ys : List ℕ) (fits : 28688 ≤ lengt
 
   row-apart : (base + 8192 ≤ other) ⊎ (other + 8192 ≤ base) → (o r : ℕ) → Among 512 o → member ys (rowOf other o) r ≡ member xs (rowOf other o) r
   row-apart far o r u =
-      other-row (rowOf base card) (rowOf other o) _ xs ys p (⊎-elim (λ l. inr (omega arith)) (λ l. inl (omega arith)) far) r
+      row-kept xs ys (p .rest) (rowOf other o) r (⊎-elim (λ l. inr (omega arith)) (λ l. inl (omega arith)) far)
 
   base-kept : readersAt ≤ base → base + 8192 ≤ 28688 → Kept readersAt 28688 xs ys
   base-kept l m i out = p .rest i (λ k. let far = out (omega arith) in omega arith)
@@ -179,7 +179,7 @@ granted-line xs ys p i a b c d o r ea eb ec kept =
     seniors : (among 128 a && member ys (rowOf seniorsAt a) r) ≡ (among 128 a && member xs (rowOf seniorsAt a) r)
     seniors = and-when (among 128 a) (λ e.
         let w = among-iff 128 a .0 e in
-        same-bytes xs ys (rowOf seniorsAt a) (rowOf seniorsAt a) (λ k l. kept (rowOf seniorsAt a + k) (λ m. omega arith)) r)
+        row-kept xs ys kept (rowOf seniorsAt a) r (inl (omega arith)))
 
 pub granted-yet : (xs p : List ℕ) (d o r : ℕ) → grantedByLines xs p 0 d o r ≡ false
 unfolding grantedByLines Rattle.search.specs.Search.some

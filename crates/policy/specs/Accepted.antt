@@ -1,6 +1,6 @@
 -- What an accepted file is, as properties: `Accepted`. `Outcome f v` says what each verdict v on the file f means, place included; each file has
 -- just one outcome, its verdict (`Outcomes` under proofs/). Assumes nothing.
-use Prim.Native.Nat.{ℕ, _-_, _≤_, _<_}
+use Prim.Native.Nat.{ℕ, _<_}
 use mathlib.Core.Path.{_≡_}
 use mathlib.Core.Logic.{_⊎_}
 use mathlib.Core.List.{List}
@@ -9,8 +9,8 @@ use Rattle.search.specs.Search.{Among, LowestOf}
 use Rattle.order.specs.Closure.{Relation, OnCircle, PartialOrder, Irreflexive}
 use Rattle.order.specs.Bound.{converse, IsLub, AllJoined, FirstPair}
 use Rattle.rolefile.specs.declared.Verdict.{Verdict}
-use Rattle.rolefile.specs.Line.{H, U, O, A, lineAt, lines}
-use Rattle.rolefile.specs.Form.{header, fine, refusal}
+use Rattle.rolefile.specs.Line.{U, O, A, lineAt, lines}
+use Rattle.rolefile.specs.Form.{fine, refusal}
 use Rattle.rolefile.specs.Said.{labels, roles, users, cards, over, above, clearance}
 use Rattle.rolefile.specs.WellFormed.{Sized, GoodLine, GoodLines, OneEach, LineRefused, LowestUnlabelled, WellFormed}
 use Rattle.policy.specs.Policy.{dominates, senior, mayAt}

@@ -11,16 +11,6 @@ ghost use Rattle.order.specs.Table.{marks, mark};
 ghost use Rattle.rolefile.specs.Line.{lines};
 ghost use Rattle.policy.specs.Tables.{pairs, dominanceAt};
 
-// The row with a mark at thing b.
-fn with_mark(row: [bool; 32], b: usize) -> [bool; 32]
-    requires { ⌜ Among 32 b ⌝ }
-    ensures { λ r. ⌜ ((y : ℕ) → Among 32 y → marks r y ≡ (marks row y || eqb b y)) ⌝ }
-{
-    let mut r = row;
-    r[b - 1] = true;
-    r
-}
-
 // Marks a over b in the table, if both are labels.
 fn add_pair(t: &mut [[bool; 32]; 32], a: usize, b: usize)
     requires { ⌜ length (now t) ≡ 32 ⌝ }
@@ -29,12 +19,9 @@ fn add_pair(t: &mut [[bool; 32]; 32], a: usize, b: usize)
     if !search::among(32, a as u64) {
         return;
     }
-    if !search::among(32, b as u64) {
-        return;
-    }
     let i = a - 1;
     let row = t[i];
-    t[i] = with_mark(row, b);
+    t[i] = order::marks::with_mark(row, b);
 }
 
 // The marks of the first m lines of a part.

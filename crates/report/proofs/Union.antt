@@ -7,8 +7,8 @@ use native.Mathlib.Omega.{arith}
 use lib.ListN.{length}
 use Rattle.search.specs.Search.{some}
 use Rattle.search.proofs.Found.{some-yet, some-more}
+use Rattle.roleset.proofs.Rows.{zero-rows}
 use Rattle.roleset.specs.Row.{member, Placed, united}
-use Rattle.policy.proofs.Gathering.{zero-rows}
 use lib.ListN.{replicate}
 
 -- rows has role r in row a where p a r

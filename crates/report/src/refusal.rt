@@ -2,7 +2,7 @@
 // a line, that line.
 ghost use mathlib.Core.Path.{_≡_};
 ghost use mathlib.Core.List.{map};
-ghost use Prim.Native.Nat.{_+_, _≤_, _<_};
+ghost use Prim.Native.Nat.{_≤_, _<_};
 ghost use lib.ListN.{length, take};
 ghost use Rattle.text.specs.Text.{Puts};
 ghost use Rattle.report.specs.Refusal as refusal;

@@ -1,14 +1,15 @@
 -- How long a report can be. Assumes nothing.
 use Prim.Native.Nat.{ℕ, _*_, _≤_, _<_}
-use mathlib.Core.Path.{_≡_, refl}
-use mathlib.Core.List.{List, []}
-use mathlib.Core.Bool.{Bool, true, false, cond}
+use mathlib.Core.Path.{_≡_}
+use mathlib.Core.List.{List}
+use mathlib.Core.Bool.{Bool}
 use native.Mathlib.Omega.{arith}
 use lib.Dec.{leb, eqb}
 use lib.ListN.{length, length-append}
 use borrow.Author.Tests.{eqb-true}
 use Rattle.search.proofs.Found.{first-within}
 use Rattle.order.specs.Closure.{Relation, path}
+use Rattle.order.specs.Bound.{converse}
 use Rattle.rolefile.specs.Said.{labels, roles}
 use Rattle.rolefile.specs.WellFormed.{WellFormed}
 use Rattle.rolefile.proofs.Written.{columns-length}
@@ -19,9 +20,9 @@ use Rattle.policy.specs.Verdict.{verdict}
 use Rattle.policy.proofs.Levels.{Tells, level-tells}
 use Rattle.policy.proofs.Meaning.{counts-known}
 use Rattle.policy.proofs.Outcomes.{accepted-iff}
-use Rattle.text.proofs.Lengths.{one-most}
+use Rattle.text.proofs.Lengths.{where-most}
 use Rattle.text.proofs.Each.{each-most}
-use Rattle.rolecheck.specs.Report.{line, roleLines, flowLine, flowsFrom, flowLines, policyLines, fileLines, report}
+use Rattle.rolecheck.specs.Report.{line, roleLine, roleLines, flowLine, flowsFrom, flowLines, policyLines, fileLines, report}
 use Rattle.rolecheck.proofs.Places.{verdict-written}
 
 module _ (letter used a b c : ℕ) (p : a < 100000) (q : b < 100000) (r : c < 100000) where
@@ -33,13 +34,13 @@ module _ (letter used a b c : ℕ) (p : a < 100000) (q : b < 100000) (r : c < 10
 module _ (reads writes : ℕ → ℕ) (r : (i : ℕ) → reads i < 100000) (w : (i : ℕ) → writes i < 100000) where
   role-lines-most : (n : ℕ) → n ≤ 128 → length (roleLines reads writes n) ≤ n * 22
   role-lines-most n l =
-      each-most n 22 (λ i. line 82 3 i (reads i) (writes i)) (λ i u. omega (arith, line-length 82 3 i (reads i) (writes i) (omega arith) (r i) (w i)))
+      each-most n 22 (roleLine reads writes) (λ i u. omega (arith, line-length 82 3 i (reads i) (writes i) (omega arith) (r i) (w i)))
 
 module _ (flow : Relation) where
   flow-line-length : (from to : ℕ) → from ≤ 128 → to ≤ 128 → length (flowLine flow from to) ≤ 22
   unfolding flowLine
   flow-line-length from to p q =
-      one-most (flow from to) (line 70 2 from to 0) [] (omega (arith, line-length 70 2 from to 0 (omega arith) (omega arith) (omega arith))) (omega arith)
+      where-most (flow from to) (line 70 2 from to 0) (λ e. omega (arith, line-length 70 2 from to 0 (omega arith) (omega arith) (omega arith)))
 
   flow-lines-most : (n : ℕ) → n ≤ 128 → length (flowLines flow n) ≤ n * 2816
   flow-lines-most n l =
@@ -65,17 +66,13 @@ module _ (f : List ℕ) (form : WellFormed f) where
       (omega (
         arith,
         role-lines-most (λ r. levelNumber (rLevel f r)) (λ r. levelNumber (wLevel f r))
-            (λ r. level-few (labels f) (dominates f) (mayAt f 1 r) (counts .labels .1)) (λ r. level-few (labels f) (λ a b. dominates f b a) (mayAt f 2 r) (counts .labels .1))
+            (λ r. level-few (labels f) (dominates f) (mayAt f 1 r) (counts .labels .1)) (λ r. level-few (labels f) (converse (dominates f)) (mayAt f 2 r) (counts .labels .1))
             (roles f) (counts .roles),
         flow-lines-most (flows f) (roles f) (counts .roles),
         line-length 67 1 (flowCircle f) 0 0 (omega (arith, first-within (λ a. path (roles f) (flows f) a a) (roles f))) (omega arith) (omega arith),
       ))
 
 module _ (f : List ℕ) where
-  rest-length : (t : Bool) → eqb (verdict f .number) 0 ≡ t → length (cond t (fileLines f) []) ≤ 363286
-  rest-length true e = file-lines-length f (accepted-iff f .0 (eqb-true (verdict f .number) 0 e) .ordered .form)
-  rest-length false e = omega arith
-
   pub report-length : length (report f) ≤ 363308
   unfolding report
   report-length =
@@ -84,5 +81,6 @@ module _ (f : List ℕ) where
       (omega (
         arith,
         line-length 86 3 (verdict f .number) (verdict f .first) (verdict f .second) (v .number) (v .first) (v .second),
-        rest-length (eqb (verdict f .number) 0) refl,
+        where-most (eqb (verdict f .number) 0) (fileLines f) {363286} (λ e.
+            file-lines-length f (accepted-iff f .0 (eqb-true (verdict f .number) 0 e) .ordered .form)),
       ))

@@ -2,7 +2,6 @@
 use Prim.Native.Nat.{ℕ, _≤_}
 use mathlib.Core.Path.{_≡_}
 use mathlib.Core.List.{List}
-use native.Mathlib.Omega.{arith}
 use lib.ListN.{length}
 use Rattle.search.specs.Search.{Among}
 use Rattle.search.proofs.Truth.{among-iff}
@@ -16,7 +15,7 @@ use Rattle.policy.specs.Image.{Describes}
 use Rattle.policy.proofs.Flowing.{a-state}
 use Rattle.policy.proofs.Meaning.{role-few, role-count-file, flow-file, circle-file}
 use Rattle.text.proofs.Each.{each-agree}
-use Rattle.rolecheck.specs.Report.{line, flowLine, flowsFrom, policyLines, fileLines, stateLines}
+use Rattle.rolecheck.specs.Report.{roleLine, flowLine, flowsFrom, policyLines, fileLines, stateLines}
 
 line-agrees : (flow flow₂ : Relation) (r q : ℕ) → flow r q ≡ flow₂ r q → flowLine flow r q ≡ flowLine flow₂ r q
 unfolding flowLine
@@ -33,7 +32,7 @@ module _ (f : List ℕ) (form : WellFormed f) (xs : List ℕ) (long : 65536 ≤ 
       rw (
         role-count-file f form xs tables long,
         circle-file f form xs tables long,
-        each-agree (roles f) (λ r. line 82 3 r (levelIn xs rLevelsAt r) (levelIn xs wLevelsAt r)) (λ r. line 82 3 r (levelNumber (rLevel f r)) (levelNumber (wLevel f r)))
+        each-agree (roles f) (roleLine (levelIn xs rLevelsAt) (levelIn xs wLevelsAt)) (roleLine (λ r. levelNumber (rLevel f r)) (λ r. levelNumber (wLevel f r)))
             (λ r w. rw (levels-file r w .0, levels-file r w .1)),
         each-agree (roles f) (flowsFrom (flowsIn xs) (roles f)) (flowsFrom (flows f) (roles f))
             (λ r v. each-agree (roles f) (flowLine (flowsIn xs) r) (flowLine (flows f) r) (λ q w. line-agrees (flowsIn xs) (flows f) r q (flow-file f form xs tables long r q (role-few f form r v) (role-few f form q w)))),

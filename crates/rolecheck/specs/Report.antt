@@ -19,9 +19,13 @@ line letter used a b c = letter ∷ (columnsOf (leb 1 used) a ++ (columnsOf (leb
 
 -- ---- the lines of a policy, by its levels and its flow
 
--- the lines R of the first n roles; 82 is the byte of R
+-- the line R of a role; 82 is the byte of R
+abbrev pub roleLine : (ℕ → ℕ) → (ℕ → ℕ) → ℕ → List ℕ
+roleLine reads writes r = line 82 3 r (reads r) (writes r)
+
+-- those of the first n roles
 abbrev pub roleLines : (ℕ → ℕ) → (ℕ → ℕ) → ℕ → List ℕ
-roleLines reads writes n = each n (λ r. line 82 3 r (reads r) (writes r))
+roleLines reads writes n = each n (roleLine reads writes)
 
 -- the line F from a role to another, where the first flows to the second; 70 is the byte of F
 unfoldable pub flowLine : Relation → ℕ → ℕ → List ℕ

@@ -1,5 +1,4 @@
--- The number of the things 1 to n of which p holds is 1 just where p holds of one of them alone, and then the last of them is that one.
--- Assumes nothing.
+-- The number of the things 1 to n of which p holds is 1 just where p holds of one of them alone. Assumes nothing.
 use Prim.Native.Nat.{ℕ, zero, suc, _+_}
 use mathlib.Core.Path.{_≡_, refl}
 use mathlib.Core.Logic.{_↔_, ⊎-elim}
@@ -9,7 +8,6 @@ use Rattle.search.specs.Search.{Among}
 use Rattle.search.proofs.Truth.{untrue, both}
 use Rattle.search.proofs.Found.{last-or, None}
 use Rattle.rolefile.specs.Form.{count}
-use Rattle.rolefile.specs.Said.{last}
 
 module _ (p : ℕ → Bool) where
   -- p holds of a alone

@@ -8,13 +8,14 @@ use mathlib.Core.Bool.{Bool, true, false, _&&_, cond}
 use native.Mathlib.Omega.{arith}
 use native.Mathlib.Decide.{decLt}
 use lib.Dec.{leb}
-use lib.ListN.{length, getD, replicate, length-append, length-replicate, replicate-append-replicate}
+use lib.ListN.{length, replicate, length-append, length-replicate, replicate-append-replicate}
 use borrow.Author.Tests.{leb-true, le-leb, lt-ltb, le-ltb, eqb-true, ne-eqb}
 use Rattle.search.specs.Search.{among}
 use Rattle.search.proofs.Truth.{and-iff, among-iff}
 use Rattle.rolefile.specs.declared.Field.{Field}
 use Rattle.rolefile.specs.declared.Field.the-variants.{Blank, Number, Bad}
 use Rattle.rolefile.specs.Field.{isBlank, isDigit, column, columns, five, fieldAt}
+use Rattle.rolefile.specs.Section.{figure}
 use Rattle.rolefile.specs.Decimal.{lastDigits, digits, padded, blanks}
 
 pub isDigit-iff : (b : ℕ) → (isDigit b ≡ true) ↔ ((48 ≤ b) × (b ≤ 57))
@@ -232,8 +233,5 @@ unfolding columns
 worth-all f v [] w = w
 worth-all f v (b ∷ bs) w = worth-all (column f b) (10 * v + b % 16) bs (worth-more f v b w)
 
-pub figures : (f : List ℕ) (at n : ℕ) → fieldAt f at ≡ Number n
-    → 10000 * (getD f at 0 % 16)
-    + (1000 * (getD f (at + 1) 0 % 16) + (100 * (getD f (at + 2) 0 % 16) + (10 * (getD f (at + 3) 0 % 16) + getD f (at + 4) 0 % 16)))
-    ≡ n
+pub figures : (f : List ℕ) (at n : ℕ) → fieldAt f at ≡ Number n → figure f at ≡ n
 figures f at n e = omega (arith, rw e at (worth-all Blank 0 (five f at) refl))

@@ -9,11 +9,13 @@ use lib.ListN.{drop, length-drop}
 use lib.Seq.{getD-drop}
 use Rattle.rolefile.specs.Line.{lineAt, lines, start}
 
+-- line k of the part starts where the file's line j + k does
+pub part-start : (j k : ℕ) → 1 ≤ k → start (j + k) ≡ 22 * j + start k
+part-start j k l = omega arith
+
 pub part-line : (f : List ℕ) (j k : ℕ) → 1 ≤ k → lineAt (drop (22 * j) f) k ≡ lineAt f (j + k)
 unfolding lineAt
-part-line f j k l =
-    let from : start (j + k) ≡ 22 * j + start k = omega arith in
-    simp (getD-drop, from, add-assoc)
+part-line f j k l = simp (getD-drop, part-start j k l, add-assoc)
 
 pub part-lines : (f : List ℕ) (j : ℕ) → lines (drop (22 * j) f) ≡ lines f - j
 part-lines f j = rw length-drop (omega arith)

@@ -15,7 +15,7 @@ use types.Run
 use Rattle.rolefile.specs.declared.Field.{Field}
 use Rattle.rolefile.specs.declared.Field.the-variants.{Blank, Number, Bad}
 use Rattle.rolefile.specs.Field.{fieldAt}
-use Rattle.rolefile.specs.Line.{letterOf, fields, fits, value, taken, formed, noLine, lineOf, lineFrom}
+use Rattle.rolefile.specs.Line.{letterOf, fieldUsed, fits, value, takenOut, formed, noLine, lineOf, lineFrom}
 use Rattle.rolefile.proofs.Decimals.{field-blank}
 use Rattle.rolefile.proofs.Field as field-type
 
@@ -57,12 +57,12 @@ module _ (f : List ℕ) (at : ℕ) where
           and-iff (eqb (four f at) 538976288) (eqb (getD f (at + 4) 0) 32) .1 (eq-eqb (four f at) 538976288 (omega arith), eq-eqb (getD f (at + 4) 0) 32 e₄)
 
 -- what is taken out of a field without use
-pub taken-blank : (f : Field) → fits false f ≡ true → Number 0 ≡ taken false f
-unfolding taken
+pub taken-blank : (f : Field) → fits false f ≡ true → Number 0 ≡ takenOut false f
+unfolding takenOut
 taken-blank f e = rw (unused f e)
 
-pub taken-spoilt : (f : Field) → fits false f ≡ false → Bad ≡ taken false f
-unfolding taken
+pub taken-spoilt : (f : Field) → fits false f ≡ false → Bad ≡ takenOut false f
+unfolding takenOut
 taken-spoilt f e = rw e
 
 -- the field was not a number
@@ -79,9 +79,9 @@ pub numbered : (x f : Field) (n : ℕ) → x ≡ f → x ≡ Number n → (fits 
 numbered x f n e seen = let q : f ≡ Number n = sym e ∙ seen in (rw q, rw q)
 
 -- the field was not taken out: the match saw no number
-pub ended : (x : Field) (used : Bool) (f : Field) → x ≡ taken used f
+pub ended : (x : Field) (used : Bool) (f : Field) → x ≡ takenOut used f
     → Run.OneOf (0 ∷ 2 ∷ []) (Declared.tagOf field-type.the-type x) → fits used f ≡ false
-unfolding taken
+unfolding takenOut
 ended x used f e seen = go (fits used f) refl
   where
     go : (b : Bool) → fits used f ≡ b → b ≡ false
@@ -91,11 +91,11 @@ ended x used f e seen = go (fits used f) refl
     go false q = refl
 
 -- the field was taken out as n
-pub got : (x : Field) (used : Bool) (f : Field) (n : ℕ) → x ≡ taken used f → x ≡ Number n → (fits used f ≡ true) × (value f ≡ n)
-unfolding taken
+pub got : (x : Field) (used : Bool) (f : Field) (n : ℕ) → x ≡ takenOut used f → x ≡ Number n → (fits used f ≡ true) × (value f ≡ n)
+unfolding takenOut
 got x used f n taking seen = go (fits used f) refl
   where
-    e : Number n ≡ taken used f
+    e : Number n ≡ takenOut used f
     e = sym seen ∙ taking
 
     go : (b : Bool) → fits used f ≡ b → (b ≡ true) × (value f ≡ n)
@@ -115,16 +115,16 @@ module _ (k end : ℕ) (p q r s : Field) where
   unfolding formed
   no-second e = none (and-right (leb 1 k) (and-right (eqb end 10) (and-right (fits true p) (rw e))))
 
-  pub no-third : fits (leb 3 (fields k)) r ≡ false → noLine ≡ lineOf k end p q r s
+  pub no-third : fits (fieldUsed 3 k) r ≡ false → noLine ≡ lineOf k end p q r s
   unfolding formed
   no-third e = none (and-right (leb 1 k) (and-right (eqb end 10) (and-right (fits true p) (and-right (fits true q) (rw e)))))
 
-  pub no-fourth : fits (leb 4 (fields k)) s ≡ false → noLine ≡ lineOf k end p q r s
+  pub no-fourth : fits (fieldUsed 4 k) s ≡ false → noLine ≡ lineOf k end p q r s
   unfolding formed
   no-fourth e =
       none
       (and-right (leb 1 k)
-      (and-right (eqb end 10) (and-right (fits true p) (and-right (fits true q) (and-right (fits (leb 3 (fields k)) r) e)))))
+      (and-right (eqb end 10) (and-right (fits true p) (and-right (fits true q) (and-right (fits (fieldUsed 3 k) r) e)))))
 
   pub no-letter : k < 1 → noLine ≡ lineOf k end p q r s
   unfolding formed
@@ -135,7 +135,7 @@ module _ (k end : ℕ) (p q r s : Field) where
   no-end h = none (and-right (leb 1 k) (rw (ne-eqb end 10 h)))
 
   pub whole-line : (a b c d : ℕ) → (fits true p ≡ true) × (value p ≡ a) → (fits true q ≡ true) × (value q ≡ b)
-      → (fits (leb 3 (fields k)) r ≡ true) × (value r ≡ c) → (fits (leb 4 (fields k)) s ≡ true) × (value s ≡ d) → 1 ≤ k → end ≡ 10
+      → (fits (fieldUsed 3 k) r ≡ true) × (value r ≡ c) → (fits (fieldUsed 4 k) s ≡ true) × (value s ≡ d) → 1 ≤ k → end ≡ 10
       → record { letter = k; a = a; b = b; c = c; d = d } ≡ lineOf k end p q r s
   unfolding lineOf formed
   whole-line a b c d ep eq er es l e =

@@ -3,6 +3,7 @@ use Prim.Native.Nat.{ℕ, _+_, _-_, _%_, _≤_, _<_}
 use mathlib.Core.Path.{_≡_, refl, _∙_}
 use mathlib.Core.List.{List}
 use mathlib.Core.Bool.{Bool, true, false, _&&_}
+use native.Mathlib.Nat.{add-sub-cancel}
 use native.Mathlib.Omega.{arith}
 use lib.Dec.{eqb, leb}
 use lib.ListN.{length}
@@ -21,8 +22,7 @@ pub next-line : (f : List ℕ) (i : ℕ) (h p l : Line) → 1 ≤ i → h ≡ li
     → bodyVerdict h p (i + 1) l ≡ lineVerdict f (i + 1)
 unfolding lineVerdict
 next-line f i h p l w eh ep el =
-    let q : i + 1 - 1 ≡ i = omega arith in
-    rw (ne-eqb (i + 1) 1 (λ e. omega arith), q, eh, ep, el)
+    rw (ne-eqb (i + 1) 1 (λ e. omega arith), add-sub-cancel i 1, eh, ep, el)
 
 -- what a scan has at hand once line 1 has been looked at
 pub begun-seen : (f : List ℕ) (h : Line) (v : Verdict) → h ≡ lineAt f 1 → v ≡ headVerdict h → record { head = h; before = h; verdict = v } ≡ seen f 2
@@ -33,11 +33,10 @@ begun-seen f h v e q = rw (q, e)
 pub looked-seen : (f : List ℕ) (k : ℕ) (s : Seen) (l : Line) → 2 ≤ k → s ≡ seen f k → l ≡ lineAt f k → goesOn s f k ≡ true → looked s k l ≡ seen f (k + 1)
 looked-seen f k s l w e el g =
     let i : k - 1 + 1 ≡ k = omega arith in
-    let j : k + 1 - 1 ≡ k = omega arith in
     let z : scan (k - 1) (lineVerdict f) .number ≡ 0 = eqb-true _ 0 (and-iff _ (leb k (lines f)) .0 (rw e at g) .0) in
     let b : bodyVerdict (lineAt f 1) (lineAt f (k - 1)) k (lineAt f k) ≡ scan k (lineVerdict f) =
     rw i at (next-line f (k - 1) _ _ _ (omega arith) refl refl refl ∙ scan-last (lineVerdict f) (k - 1) z) in
-    rw (e, el, j, b)
+    rw (e, el, add-sub-cancel k 1, b)
 
 -- where it does not go on, it has the scan of all lines
 pub ended-seen : (f : List ℕ) (k : ℕ) (s : Seen) → k ≤ lines f + 1 → s ≡ seen f k → goesOn s f k ≡ false → s .verdict ≡ scan (lines f) (lineVerdict f)

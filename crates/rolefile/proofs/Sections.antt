@@ -16,15 +16,15 @@ use Rattle.search.specs.Search.{Among, some}
 use Rattle.search.proofs.Truth.{and-iff}
 use Rattle.rolefile.specs.declared.Line.{Line}
 use Rattle.rolefile.specs.Field.{fieldAt}
-use Rattle.rolefile.specs.Line.{P, letterOf, fields, start, lineAt, lines}
+use Rattle.rolefile.specs.Line.{P, letterOf, fields, start, lineAt, lines, fieldUsed}
 use Rattle.rolefile.specs.Form.{count, about}
 use Rattle.rolefile.specs.Said.{is, says, last, labelBy}
 use Rattle.rolefile.specs.WellFormed.{GoodLines}
-use Rattle.rolefile.specs.Decimal.{letterByte, inUse}
+use Rattle.rolefile.specs.Decimal.{letterByte}
 use Rattle.rolefile.specs.Section.{one, two, three, letterAt, Leads}
 use Rattle.rolefile.proofs.Decimals.{figures}
 use Rattle.rolefile.proofs.Written.{Reads, Stands, letter-iff, line-iff}
-use Rattle.rolefile.proofs.Parts.{part-line, part-lines}
+use Rattle.rolefile.proofs.Parts.{part-start, part-line, part-lines}
 use Rattle.rolefile.proofs.Within.{Within, some-within, count-within, last-within}
 
 -- the part of a file after j lines
@@ -45,9 +45,7 @@ pub record Section (f : List ℕ) (k j m : ℕ) : Type 0 where
 
 part-letter : (f : List ℕ) (j i : ℕ) → 1 ≤ i → letterAt (part f j) i ≡ letterAt f (j + i)
 unfolding letterAt
-part-letter f j i l =
-    let from : start (j + i) ≡ 22 * j + start i = omega arith in
-    rw (getD-drop, from)
+part-letter f j i l = rw (getD-drop, part-start j i l)
 
 -- a section ends where the next letter begins
 between : {f : List ℕ} {k j : ℕ} (m : ℕ) → Cut f k j → Cut f (k + 1) (j + m) → Section f k j m
@@ -159,7 +157,7 @@ module _ (f : List ℕ) (good : GoodLines f) {k j m : ℕ} (s : Section f k j m)
       let fits = s .fits in
       line-iff (part f j) i (lineAt f (j + i)) .0 (part-line f j i (w .0), some-letter f good (j + i) (omega arith))
 
-  third : (i : ℕ) → Among m i → (t : Bool) → inUse 3 (lineAt f (j + i) .letter) ≡ t
+  third : (i : ℕ) → Among m i → (t : Bool) → fieldUsed 3 (lineAt f (j + i) .letter) ≡ t
       → Stands t (fieldAt (part f j) (start i + 11)) (lineAt f (j + i) .c)
   third i w t e = rw e at (line-reads i w .c)
 

@@ -12,7 +12,7 @@ use Rattle.search.proofs.Truth.{untrue}
 use Rattle.rolefile.specs.declared.Verdict.{Verdict}
 use Rattle.rolefile.specs.Form.{fine, unless, _then_, scan, count}
 use Rattle.rolefile.specs.Said.{last}
-use Rattle.rolefile.proofs.Verdicts.{scan-clean}
+use Rattle.rolefile.proofs.Verdicts.{Clean, scan-clean}
 
 -- i is one of j + 1 to j + m
 abbrev pub Within : ℕ → ℕ → ℕ → Type 0
@@ -44,7 +44,7 @@ module _ {X : Type 0} (s t : ℕ → X) where
 
 -- ---- each search
 
-then-fine : (v : Verdict) → (v .number ≡ 0 → v ≡ fine) → (v then fine) ≡ v
+then-fine : (v : Verdict) → Clean v → (v then fine) ≡ v
 then-fine v clean = go (eqb (v .number) 0) refl
   where
     go : (t : Bool) → eqb (v .number) 0 ≡ t → unless t v fine ≡ v
@@ -78,7 +78,7 @@ module _ (n j m : ℕ) (fits : j + m ≤ n) where
         (λ i l h. rw (outside i l h))
         (λ i l e. rw (e, ← (add-suc j i), same (suc i) (omega arith), agree (suc i) (omega arith)))
 
-  pub scan-within : (v w : ℕ → Verdict) → ((i : ℕ) → Among n i → v i .number ≡ 0 → v i ≡ fine)
+  pub scan-within : (v w : ℕ → Verdict) → ((i : ℕ) → Among n i → Clean (v i))
       → ((i : ℕ) → Among n i → (Within j m i → ⊥) → v i ≡ fine) → ((i : ℕ) → Among m i → v (j + i) ≡ w i) → scan n v ≡ scan m w
   unfolding scan
   scan-within v w clean out agree =

@@ -18,8 +18,8 @@ use Rattle.rolefile.specs.declared.Field.{Field}
 use Rattle.rolefile.specs.declared.Field.the-variants.{Blank, Number, Bad}
 use Rattle.rolefile.specs.declared.Line.{Line}
 use Rattle.rolefile.specs.Field.{five, fieldAt}
-use Rattle.rolefile.specs.Line.{letterOf, fits, value, formed, noLine, lineOf, start, lineAt, lines}
-use Rattle.rolefile.specs.Decimal.{letterByte, inUse, columnsOf, written, Held, Writable}
+use Rattle.rolefile.specs.Line.{letterOf, fits, value, formed, noLine, lineOf, start, lineAt, lines, fieldUsed}
+use Rattle.rolefile.specs.Decimal.{letterByte, columnsOf, asWritten, FieldHolds, Writable}
 use Rattle.rolefile.proofs.Decimals.{padded-length, field-number, field-blank}
 
 -- ---- its letter
@@ -72,7 +72,7 @@ stands-fits : (used : Bool) (p : Field) (n : ℕ) → Stands used p n → (fits 
 stands-fits true p n e = rw e (refl, refl)
 stands-fits false p n (e, z) = rw (e, z) (refl, refl)
 
-stands-iff : (used : Bool) (f : List ℕ) (at n : ℕ) → Stands used (fieldAt f at) n ↔ ((five f at ≡ columnsOf used n) × Held used n)
+stands-iff : (used : Bool) (f : List ℕ) (at n : ℕ) → Stands used (fieldAt f at) n ↔ ((five f at ≡ columnsOf used n) × FieldHolds used n)
 stands-iff true f at n = (λ e. let (l, s) = field-number f at n .0 e in (s, l), λ (s, l). field-number f at n .1 (l, s))
 stands-iff false f at n = (λ (e, z). (field-blank f at .0 e, z), λ (s, z). (field-blank f at .1 s, z))
 
@@ -81,7 +81,7 @@ columns-length true n l = padded-length n (l refl)
 columns-length false n l = refl
 
 -- a field and then the rest of its line
-split : (used : Bool) (f : List ℕ) (at n : ℕ) {rest more : List ℕ} → Held used n → five f at ++ rest ≡ columnsOf used n ++ more
+split : (used : Bool) (f : List ℕ) (at n : ℕ) {rest more : List ℕ} → FieldHolds used n → five f at ++ rest ≡ columnsOf used n ++ more
     → Stands used (fieldAt f at) n × (rest ≡ more)
 split used f at n {rest} {more} h e =
     let long = columns-length used n (λ u. rw u at h) in
@@ -97,8 +97,8 @@ pub record Makes (k last : ℕ) (p q r s : Field) (l : Line) : Type 0 where
   pub end : last ≡ 10
   pub a : p ≡ Number (l .a)
   pub b : q ≡ Number (l .b)
-  pub c : Stands (inUse 3 (l .letter)) r (l .c)
-  pub d : Stands (inUse 4 (l .letter)) s (l .d)
+  pub c : Stands (fieldUsed 3 (l .letter)) r (l .c)
+  pub d : Stands (fieldUsed 4 (l .letter)) s (l .d)
 
 module _ (k last : ℕ) (p q r s : Field) (l : Line) where
   makes : (lineOf k last p q r s ≡ l) × (1 ≤ l .letter) → Makes k last p q r s l
@@ -112,15 +112,15 @@ module _ (k last : ℕ) (p q r s : Field) (l : Line) where
           let (e₂, t₂) = and-iff (eqb last 10) _ .0 t₁ in
           let (e₃, t₃) = and-iff (fits true p) _ .0 t₂ in
           let (e₄, t₄) = and-iff (fits true q) _ .0 t₃ in
-          let (e₅, e₆) = and-iff (fits (inUse 3 k) r) _ .0 t₄ in
+          let (e₅, e₆) = and-iff (fits (fieldUsed 3 k) r) _ .0 t₄ in
           subst (Makes k last p q r s) same record {
             letter = refl;
             some = leb-true 1 k e₁;
             end = eqb-true last 10 e₂;
             a = fits-stands true p e₃;
             b = fits-stands true q e₄;
-            c = fits-stands (inUse 3 k) r e₅;
-            d = fits-stands (inUse 4 k) s e₆;
+            c = fits-stands (fieldUsed 3 k) r e₅;
+            d = fits-stands (fieldUsed 4 k) s e₆;
           }
       go false e same = absurd (omega (arith, ap (λ x. x .letter) same))
 
@@ -129,8 +129,8 @@ module _ (k last : ℕ) (p q r s : Field) (l : Line) where
   made w =
       let (e₁, a) = stands-fits true p (l .a) (w .a) in
       let (e₂, b) = stands-fits true q (l .b) (w .b) in
-      let (e₃, c) = stands-fits (inUse 3 (l .letter)) r (l .c) (w .c) in
-      let (e₄, d) = stands-fits (inUse 4 (l .letter)) s (l .d) (w .d) in
+      let (e₃, c) = stands-fits (fieldUsed 3 (l .letter)) r (l .c) (w .c) in
+      let (e₄, d) = stands-fits (fieldUsed 4 (l .letter)) s (l .d) (w .d) in
       let good : formed (l .letter) last p q r s ≡ true = rw (le-leb 1 (l .letter) (w .some), eq-eqb last 10 (w .end), e₁, e₂, e₃, e₄) in
       (rw (w .letter, good) (λ i. record { letter = l .letter; a = a i; b = b i; c = c i; d = d i }), w .some)
 
@@ -166,32 +166,32 @@ module _ (f : List ℕ) (i : ℕ) (l : Line) (h : i + 22 ≤ length f) where
       take 22 (drop i f) ≡ getD f i 0 ∷ (five f (i + 1) ++ (five f (i + 6) ++ (five f (i + 11) ++ (five f (i + 16) ++ (getD f (i + 21) 0 ∷ [])))))
   line-bytes = take-bytes f i 22 h ∙ simp add-assoc
 
-  to-bytes : Reads f i l → (take 22 (drop i f) ≡ written l) × Writable l
-  unfolding written
+  to-bytes : Reads f i l → (take 22 (drop i f) ≡ asWritten l) × Writable l
+  unfolding asWritten
   to-bytes w =
       let (e₀, h₀) = letter-iff (getD f i 0) (l .letter) .0 (w .letter, w .some) in
       let (e₁, h₁) = stands-iff true f (i + 1) (l .a) .0 (w .a) in
       let (e₂, h₂) = stands-iff true f (i + 6) (l .b) .0 (w .b) in
-      let (e₃, h₃) = stands-iff (inUse 3 (l .letter)) f (i + 11) (l .c) .0 (w .c) in
-      let (e₄, h₄) = stands-iff (inUse 4 (l .letter)) f (i + 16) (l .d) .0 (w .d) in
+      let (e₃, h₃) = stands-iff (fieldUsed 3 (l .letter)) f (i + 11) (l .c) .0 (w .c) in
+      let (e₄, h₄) = stands-iff (fieldUsed 4 (l .letter)) f (i + 16) (l .d) .0 (w .d) in
       let tail = ap (λ b. b ∷ []) (w .end) in (
         line-bytes ∙ ap₂ _∷_ e₀ (ap₂ _++_ e₁ (ap₂ _++_ e₂ (ap₂ _++_ e₃ (ap₂ _++_ e₄ tail)))),
         record { letter = h₀; a = h₁; b = h₂; c = h₃; d = h₄ },
       )
 
-  from-bytes : (take 22 (drop i f) ≡ written l) × Writable l → Reads f i l
-  unfolding written
+  from-bytes : (take 22 (drop i f) ≡ asWritten l) × Writable l → Reads f i l
+  unfolding asWritten
   from-bytes (e, w) =
       let all = sym line-bytes ∙ e in
       let (letter, some) = letter-iff (getD f i 0) (l .letter) .1 (ap (λ x. getD x 0 0) all, w .letter) in
       let (a, t₁) = split true f (i + 1) (l .a) (w .a) (ap (drop 1) all) in
       let (b, t₂) = split true f (i + 6) (l .b) (w .b) t₁ in
-      let (c, t₃) = split (inUse 3 (l .letter)) f (i + 11) (l .c) (w .c) t₂ in
-      let (d, t₄) = split (inUse 4 (l .letter)) f (i + 16) (l .d) (w .d) t₃ in
+      let (c, t₃) = split (fieldUsed 3 (l .letter)) f (i + 11) (l .c) (w .c) t₂ in
+      let (d, t₄) = split (fieldUsed 4 (l .letter)) f (i + 16) (l .d) (w .d) t₃ in
       record { letter = letter; some = some; end = ap (λ x. getD x 0 0) t₄; a = a; b = b; c = c; d = d }
 
 pub reads-line : (f : List ℕ) (k : ℕ) (l : Line) → 1 ≤ k → k ≤ lines f
-    → ((lineAt f k ≡ l) × (1 ≤ l .letter)) ↔ ((take 22 (drop (start k) f) ≡ written l) × Writable l)
+    → ((lineAt f k ≡ l) × (1 ≤ l .letter)) ↔ ((take 22 (drop (start k) f) ≡ asWritten l) × Writable l)
 reads-line f k l p q =
     let h : start k + 22 ≤ length f = omega arith in
     (λ e. to-bytes f (start k) l h (line-iff f k l .0 e), λ w. line-iff f k l .1 (from-bytes f (start k) l h w))

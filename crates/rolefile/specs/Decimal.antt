@@ -4,11 +4,11 @@ use Prim.Native.Nat.{ℕ, zero, suc, _+_, _-_, _/_, _%_, _<_}
 use mathlib.Core.Path.{_≡_}
 use mathlib.Core.List.{List, [], _∷_, _++_}
 use mathlib.Core.Bool.{Bool, true, false, cond}
-use lib.Dec.{leb, ltb}
+use lib.Dec.{ltb}
 use lib.ListN.{length, getD, replicate}
 use Rattle.search.specs.Search.{Among}
 use Rattle.rolefile.specs.declared.Line.{Line}
-use Rattle.rolefile.specs.Line.{fields}
+use Rattle.rolefile.specs.Line.{fieldUsed}
 
 -- the last k digits of n; 48 is the byte of the digit 0
 unfoldable pub lastDigits : ℕ → ℕ → List ℕ
@@ -19,15 +19,16 @@ lastDigits (suc k) n = cond (ltb n 10) ((48 + n) ∷ []) (lastDigits k (n / 10) 
 unfoldable pub digits : ℕ → List ℕ
 digits n = lastDigits (suc n) n
 
--- five columns: digits with blanks before them, those of a number, and those of a field without use; 32 is the byte of a blank
-abbrev pub fiveColumns : List ℕ → List ℕ
-fiveColumns ds = replicate (5 - length ds) 32 ++ ds
+-- digits in k columns, with blanks before them; 32 is the byte of a blank
+abbrev pub inColumns : ℕ → List ℕ → List ℕ
+inColumns k ds = replicate (k - length ds) 32 ++ ds
 
+-- the five columns of a number, and those of a field without use
 unfoldable pub padded : ℕ → List ℕ
-padded n = fiveColumns (digits n)
+padded n = inColumns 5 (digits n)
 
 abbrev pub blanks : List ℕ
-blanks = fiveColumns []
+blanks = inColumns 5 []
 
 -- ---- lines
 
@@ -35,27 +36,23 @@ blanks = fiveColumns []
 unfoldable pub letterByte : ℕ → ℕ
 letterByte k = getD (72 ∷ 68 ∷ 83 ∷ 85 ∷ 79 ∷ 80 ∷ 65 ∷ []) (k - 1) 0
 
--- field number j of a line of the letter k has a use
-abbrev pub inUse : ℕ → ℕ → Bool
-inUse j k = leb j (fields k)
-
 abbrev pub columnsOf : Bool → ℕ → List ℕ
 columnsOf used n = cond used (padded n) blanks
 
-unfoldable pub written : Line → List ℕ
-written l =
+unfoldable pub asWritten : Line → List ℕ
+asWritten l =
     letterByte (l .letter)
-    ∷ (padded (l .a) ++ (padded (l .b) ++ (columnsOf (inUse 3 (l .letter)) (l .c) ++ (columnsOf (inUse 4 (l .letter)) (l .d) ++ (10 ∷ [])))))
+    ∷ (padded (l .a) ++ (padded (l .b) ++ (columnsOf (fieldUsed 3 (l .letter)) (l .c) ++ (columnsOf (fieldUsed 4 (l .letter)) (l .d) ++ (10 ∷ [])))))
 
 -- five columns hold the number of a field in use; that of a field without use is 0
-abbrev pub Held : Bool → ℕ → Type 0
-Held true n = n < 100000
-Held false n = n ≡ 0
+abbrev pub FieldHolds : Bool → ℕ → Type 0
+FieldHolds true n = n < 100000
+FieldHolds false n = n ≡ 0
 
 -- a line that can be written
 pub record Writable (l : Line) : Type 0 where
   pub letter : Among 7 (l .letter)
   pub a : l .a < 100000
   pub b : l .b < 100000
-  pub c : Held (inUse 3 (l .letter)) (l .c)
-  pub d : Held (inUse 4 (l .letter)) (l .d)
+  pub c : FieldHolds (fieldUsed 3 (l .letter)) (l .c)
+  pub d : FieldHolds (fieldUsed 4 (l .letter)) (l .d)

@@ -40,6 +40,10 @@ letterOf b =
 unfoldable pub fields : ℕ → ℕ
 fields k = cond (eqb k H) 4 (cond (eqb k P) 3 2)
 
+-- field number j of a line of the letter k has a use
+abbrev pub fieldUsed : ℕ → ℕ → Bool
+fieldUsed j k = leb j (fields k)
+
 -- "A field without use is five blanks", and one in use is a number
 abbrev pub fits : Bool → Field → Bool
 fits used Blank = not used
@@ -53,12 +57,12 @@ value (Number n) = n
 value Bad = 0
 
 -- what a line reader takes out of a field: its number, or 0 where it has no use; "a field that doesn't read as a number ends its line with 2"
-unfoldable pub taken : Bool → Field → Field
-taken used f = cond (fits used f) (Number (value f)) Bad
+unfoldable pub takenOut : Bool → Field → Field
+takenOut used f = cond (fits used f) (Number (value f)) Bad
 
 -- the line is not malformed: it has a letter, byte 10 at its end, numbers in the fields that its letter uses and blanks in the others
 unfoldable pub formed : ℕ → ℕ → Field → Field → Field → Field → Bool
-formed k end p q r s = leb 1 k && (eqb end 10 && (fits true p && (fits true q && (fits (leb 3 (fields k)) r && fits (leb 4 (fields k)) s))))
+formed k end p q r s = leb 1 k && (eqb end 10 && (fits true p && (fits true q && (fits (fieldUsed 3 k) r && fits (fieldUsed 4 k) s))))
 
 -- a malformed line has no letter
 abbrev pub noLine : Line

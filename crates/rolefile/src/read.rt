@@ -2,12 +2,12 @@
 use super::Field;
 use super::Line;
 ghost use mathlib.Core.Path.{_≡_};
-ghost use mathlib.Core.Bool.{true, false};
-ghost use Prim.Native.Nat.{_+_, _*_, _-_, _%_, _≤_, _<_};
+ghost use mathlib.Core.Bool.{false};
+ghost use Prim.Native.Nat.{_+_, _*_, _%_, _≤_, _<_};
 ghost use lib.ListN.{length, drop};
 ghost use Rattle.rolefile.specs.Field.{isDigit, column, fieldAt};
 ghost use Rattle.rolefile.specs.Section.{figure, figureOf, one, two, three, Leads};
-ghost use Rattle.rolefile.specs.Line.{letterOf, fields, fits, taken, noLine, lineOf, lineFrom, lineAt, textAt};
+ghost use Rattle.rolefile.specs.Line.{letterOf, fields, fits, takenOut, noLine, lineOf, lineFrom, lineAt, textAt};
 
 // Whether the byte is a digit.
 pub fn is_digit(b: u8) -> bool
@@ -95,8 +95,8 @@ fn field_count(k: u64) -> u64
 }
 
 // What a line takes out of a field: its number where the field is in use, 0 where it has no use.
-fn taken(f: Field, used: bool) -> Field
-    ensures { λ r. ⌜ r ≡ taken used f ⌝ }
+fn taken_out(f: Field, used: bool) -> Field
+    ensures { λ r. ⌜ r ≡ takenOut used f ⌝ }
 {
     match f {
         Field::Blank => { if used { Field::Bad } else { Field::Number(0) } }
@@ -123,16 +123,16 @@ fn no_line() -> Line
 fn line_of(k: u64, end: u8, p: Field, q: Field, r: Field, s: Field) -> Line
     ensures { λ l. ⌜ l ≡ lineOf k end p q r s ⌝ }
 {
-    let Field::Number(a) = taken(p, true) else {
+    let Field::Number(a) = taken_out(p, true) else {
         return no_line();
     };
-    let Field::Number(b) = taken(q, true) else {
+    let Field::Number(b) = taken_out(q, true) else {
         return no_line();
     };
-    let Field::Number(c) = taken(r, 3 <= field_count(k)) else {
+    let Field::Number(c) = taken_out(r, 3 <= field_count(k)) else {
         return no_line();
     };
-    let Field::Number(d) = taken(s, 4 <= field_count(k)) else {
+    let Field::Number(d) = taken_out(s, 4 <= field_count(k)) else {
         return no_line();
     };
     if k < 1 {
@@ -174,12 +174,12 @@ fn blank(s: &[u8], at: usize) -> bool
 }
 
 // What a line takes out of the field at `at`, which is read only where it is in use.
-fn taken_at(s: &[u8], at: usize, used: bool) -> Field
+fn taken_out_at(s: &[u8], at: usize, used: bool) -> Field
     requires { ⌜ at + 5 ≤ length (now s) ⌝ }
-    ensures { λ r. ⌜ r ≡ taken used (fieldAt (now (s .entry)) at) ⌝ }
+    ensures { λ r. ⌜ r ≡ takenOut used (fieldAt (now (s .entry)) at) ⌝ }
 {
     if used {
-        return taken(field(s, at), true);
+        return taken_out(field(s, at), true);
     }
     if blank(s, at) {
         return Field::Number(0);
@@ -202,10 +202,10 @@ fn line_from(f: &[u8], at: usize) -> Line
     let Field::Number(b) = field(f, at + 6) else {
         return no_line();
     };
-    let Field::Number(c) = taken_at(f, at + 11, 3 <= field_count(k)) else {
+    let Field::Number(c) = taken_out_at(f, at + 11, 3 <= field_count(k)) else {
         return no_line();
     };
-    let Field::Number(d) = taken_at(f, at + 16, 4 <= field_count(k)) else {
+    let Field::Number(d) = taken_out_at(f, at + 16, 4 <= field_count(k)) else {
         return no_line();
     };
     if f[at + 21] != 10 {

@@ -87,8 +87,11 @@ bit-mod k x j l =
     ap (λ (d : ℕ). eqb d 1) (sym (field (x % 2 ^ k) 1 j) ∙ ap (λ (d : ℕ). d / 2 ^ j) cut ∙ field x 1 j)
 
 -- `1 << k` at a byte
+pub shifted : (k : ℕ) → k < 8 → 1 * 2 ^ k % 256 ≡ 2 ^ k
+shifted k l = shl-exact {a = 1} 1 k 8 (omega arith) (omega arith) ∙ one-mul (2 ^ k)
+
 bit-shifted : (k : ℕ) → k < 8 → (j : ℕ) → bit (1 * 2 ^ k % 256) j ≡ eqb j k
-bit-shifted k l j = ap (λ (x : ℕ). bit x j) (shl-exact {a = 1} 1 k 8 (omega arith) (omega arith) ∙ one-mul (2 ^ k)) ∙ bit-pow k j
+bit-shifted k l j = ap (λ (x : ℕ). bit x j) (shifted k l) ∙ bit-pow k j
 
 -- setting bit k, and flipping it where it is set
 module _ (x k : ℕ) (l : k < 8) where

@@ -1,21 +1,22 @@
 -- Rows as sets: what a row holds after its bytes are changed, and that `Placed` settles every byte and leaves the other rows alone.
 -- Assumes nothing.
-use Prim.Native.Nat.{ℕ, _+_, _-_, _*_, _/_, _%_, _≤_, _<_}
+use Prim.Native.Nat.{ℕ, _+_, _-_, _*_, _/_, _%_, _^_, _≤_, _<_}
 use mathlib.Core.Path.{_≡_, refl, sym, ap, _∙_}
 use mathlib.Core.Logic.{_⊎_, inl, inr, ⊎-elim}
-use mathlib.Core.Bool.{Bool, true, false, _&&_, cond, and-false}
+use mathlib.Core.Bool.{Bool, true, false, _&&_, cond, or-true, or-false, and-true, and-false}
 use mathlib.Core.List.{List}
 use native.Mathlib.Omega.{arith}
 use native.Mathlib.Decide.{decLe, decLt, ℕ-discrete}
+use lib.Bits.{bitOr, bitXor}
 use lib.Dec.{eqb, leb}
-use lib.ListN.{length, getD, set, length-set}
+use lib.ListN.{length, getD, set, replicate, length-set, getD-replicate}
 use lib.Seq.{getD-set-same, getD-set-other, ext-getD}
 use borrow.Author.Count.{below-more}
 use borrow.Author.Tests.{le-leb, eq-eqb, ne-eqb}
 use Rattle.search.specs.Search.{among, Among}
 use Rattle.search.proofs.Truth.{and-iff, and-when, among-iff, both}
-use Rattle.roleset.specs.Row.{bit, whole, member, Kept, Placed, PlacedRows}
-use Rattle.roleset.proofs.Bits.{bit-zero, same-bits}
+use Rattle.roleset.specs.Row.{bit, whole, member, added, removed, Kept, Placed, PlacedRows}
+use Rattle.roleset.proofs.Bits.{bit-zero, bit-on, bit-off, same-bits}
 
 pub whole-true : (xs : List ℕ) (at : ℕ) → at + 16 ≤ length xs → whole xs at ≡ true
 whole-true xs at = le-leb (at + 16) (length xs)
@@ -47,11 +48,23 @@ module _ (xs : List ℕ) (at : ℕ) where
       let place : bitOf (8 * k + j + 1) ≡ j = omega arith in
       rw (among-iff 128 (8 * k + j + 1) .1 (omega arith), byte, place)
 
+  -- a row whose bytes are 0 is empty
+  pub zero-row : ((k : ℕ) → k < 16 → getD xs (at + k) 0 ≡ 0) → (r : ℕ) → member xs at r ≡ false
+  zero-row h r = member-of (λ k. 0) h r ∙ rw (bit-zero (bitOf r)) (and-false (among 128 r))
+
+pub zero-rows : (n at r : ℕ) → at + 16 ≤ n → member (replicate n 0) at r ≡ false
+zero-rows n at r l = zero-row (replicate n 0) at (λ k m. getD-replicate n (at + k) 0 0 (omega arith)) r
+
 -- two rows of the same bytes hold the same roles
 pub same-bytes : (xs ys : List ℕ) (a b : ℕ) → ((k : ℕ) → k < 16 → getD ys (b + k) 0 ≡ getD xs (a + k) 0)
     → (r : ℕ) → member ys b r ≡ member xs a r
 unfolding member
 same-bytes xs ys a b = member-of ys b (λ k. getD xs (a + k) 0)
+
+-- a row apart from the bytes that have changed
+pub row-kept : {a b : ℕ} (xs ys : List ℕ) → Kept a b xs ys → (at r : ℕ) → (at + 16 ≤ a) ⊎ (b ≤ at) → member ys at r ≡ member xs at r
+row-kept xs ys kept at r apart =
+    same-bytes xs ys at at (λ k l. kept (at + k) (λ m. ⊎-elim (λ n. omega arith) (λ n. omega arith) apart)) r
 
 -- a byte is one of the row's 16 or outside it
 inside-or : (at i : ℕ) → ((k : ℕ) × (k < 16) × (i ≡ at + k)) ⊎ (at ≤ i → at + 16 ≤ i)
@@ -59,11 +72,6 @@ inside-or at i = elim (decLe at i) [
   | yes l ↦ elim (decLt i (at + 16)) [ yes m ↦ inl (i - at, omega arith, omega arith) | no m ↦ inr (λ n. omega arith) ]
   | no l ↦ inr (λ n. omega arith)
 ]
-
-pub other-row : (at b : ℕ) (s : ℕ → Bool) (xs ys : List ℕ) → Placed at s xs ys → (b + 16 ≤ at) ⊎ (at + 16 ≤ b)
-    → (r : ℕ) → member ys b r ≡ member xs b r
-other-row at b s xs ys p apart =
-    same-bytes xs ys b b (λ k l. p .rest (b + k) (λ m. ⊎-elim (λ n. omega arith) (λ n. omega arith) apart))
 
 -- no two lists of bytes are `Placed` alike
 module _ (at : ℕ) (s : ℕ → Bool) (xs ys zs : List ℕ) (p : Placed at s xs ys) (q : Placed at s xs zs)
@@ -105,25 +113,16 @@ rows-unwritten h = record { rows = h; rest = λ i o. refl; none = λ l. refl }
 pub no-rows : {at n : ℕ} {s : ℕ → ℕ → Bool} {xs : List ℕ} → leb (at + 16 * n) (length xs) ≡ false → PlacedRows at n s xs xs
 no-rows {at} {n} {xs = xs} e = rows-unwritten (λ l. absurd (both (le-leb (at + 16 * n) (length xs) l) e))
 
--- the rows after them are as they were
-pub rows-left : {at n : ℕ} {s : ℕ → ℕ → Bool} {xs ys : List ℕ} → PlacedRows at n s xs ys → (b : ℕ) → at + 16 * n ≤ b
-    → (r : ℕ) → member ys b r ≡ member xs b r
-rows-left {xs = xs} {ys} p b l = same-bytes xs ys b b (λ k m. p .rest (b + k) (λ n. omega arith))
-
 -- the row after them is placed too
 pub rows-more : {at i : ℕ} {s : ℕ → ℕ → Bool} {t : ℕ → Bool} {xs ys zs : List ℕ} → at + 16 * (i + 1) ≤ length xs → length ys ≡ length xs
     → PlacedRows at i s xs ys → Placed (at + 16 * i) t ys zs → ((r : ℕ) → t r ≡ s i r) → PlacedRows at (i + 1) s xs zs
 rows-more {at} {i} {s} {t} {xs} {ys} {zs} fits long p q new = record {
   rows = λ l. below-more (λ k. (r : ℕ) → member zs (at + 16 * k) r ≡ s k r) i
-      (λ k m r. other-row (at + 16 * i) (at + 16 * k) t ys zs q (inl (omega arith)) r ∙ p .rows (omega arith) k m r)
+      (λ k m r. row-kept ys zs (q .rest) (at + 16 * k) r (inl (omega arith)) ∙ p .rows (omega arith) k m r)
       (λ r. q .row (omega arith) r ∙ new r);
   rest = λ j o. q .rest j (λ m. let e = o (omega arith) in omega arith) ∙ p .rest j (λ m. let e = o m in omega arith);
   none = λ l. absurd (omega arith);
 }
-
--- a row whose bytes are 0 is empty
-pub no-bits : (r : ℕ) → (among 128 r && bit 0 (bitOf r)) ≡ false
-no-bits r = rw (bit-zero (bitOf r)) (and-false (among 128 r))
 
 -- one byte is written, in which the bit of one role becomes b
 module _ (xs : List ℕ) (at role byte : ℕ) (b : Bool) (fits : at + 16 ≤ length xs) (w : Among 128 role)
@@ -150,6 +149,24 @@ module _ (xs : List ℕ) (at role byte : ℕ) (b : Bool) (fits : at + 16 ≤ len
     rest = λ i o. getD-set-other xs (at + byteOf role) i byte 0 (λ j. omega (arith, o (omega arith)));
     none = λ l. absurd (omega arith);
   }
+
+-- one role more, by setting its bit, and one less, by flipping it where it is set
+module _ (xs : List ℕ) (at r : ℕ) (fits : at + 16 ≤ length xs) (w : Among 128 r) where
+  abbrev byte : ℕ
+  byte = getD xs (at + byteOf r) 0
+
+  pub added-placed : Placed at (added xs at r) xs (set xs (at + byteOf r) (bitOr byte (1 * 2 ^ bitOf r % 256)))
+  added-placed =
+      one-written xs at r _ true fits w (bit-on byte (bitOf r) (omega arith))
+      (rw (among-iff 128 r .1 w, eq-eqb r r refl) (sym (or-true (member xs at r))))
+      (λ q n. rw (among-iff 128 r .1 w, ne-eqb q r n) (sym (or-false (member xs at q))))
+
+  pub removed-placed : member xs at r ≡ true → Placed at (removed xs at r) xs (set xs (at + byteOf r) (bitXor byte (1 * 2 ^ bitOf r % 256)))
+  unfolding member
+  removed-placed h =
+      one-written xs at r _ false fits w (bit-off byte (bitOf r) (omega arith) (and-iff (among 128 r) (bit byte (bitOf r)) .0 h .1))
+      (rw (eq-eqb r r refl) (sym (and-false (member xs at r))))
+      (λ q n. rw (ne-eqb q r n) (sym (and-true (member xs at q))))
 
 -- what stands outside a part is kept by a store in it
 pub kept-more : (a b i v : ℕ) (xs ys : List ℕ) → a ≤ i → i < b → Kept a b xs ys → Kept a b xs (set ys i v)

@@ -1,26 +1,17 @@
 // The same for a row that is known to lie in the slice, and the tests that tell.
 ghost use mathlib.Core.Path.{_≡_};
-ghost use mathlib.Core.Bool.{true, false, not, _&&_};
-ghost use Prim.Native.Nat.{ℕ, _+_, _-_, _*_, _≤_, _<_};
+ghost use mathlib.Core.Bool.{true, not, _&&_};
+ghost use Prim.Native.Nat.{ℕ, _+_, _-_, _*_, _≤_};
 ghost use lib.Dec.{leb};
 ghost use lib.ListN.{length, getD};
 ghost use Rattle.search.specs.Search.{among, some, first, Among};
 ghost use Rattle.roleset.specs.Row.{bit, member, nextMember, Placed, PlacedRows, added, removed, united, unitedWhere, littleEndian};
 
-// Whether n rows from `at` on lie wholly in `len` bytes, and whether one does.
-pub fn rows_lie(len: usize, at: usize, n: usize) -> bool
-    ensures { λ r. ⌜ r ≡ leb (at + 16 * n) len ⌝ }
-{
-    if len / 16 < n {
-        return false;
-    }
-    at <= len - 16 * n
-}
-
+// Whether the row at `at` lies wholly in `len` bytes.
 pub fn lies(len: usize, at: usize) -> bool
     ensures { λ r. ⌜ r ≡ leb (at + 16) len ⌝ }
 {
-    rows_lie(len, at, 1)
+    super::rows_lie(len, at, 1)
 }
 
 // Whether the number is a role's.

@@ -5,10 +5,21 @@
 mod inner;
 
 ghost use mathlib.Core.Path.{_≡_};
-ghost use mathlib.Core.Bool.{false, _&&_, cond};
+ghost use mathlib.Core.Bool.{_&&_, cond};
 ghost use Prim.Native.Nat.{ℕ, _+_, _*_};
+ghost use lib.Dec.{leb};
 ghost use Rattle.search.specs.Search.{some};
 ghost use Rattle.roleset.specs.Row.{whole, member, common, nextMember, Placed, PlacedRows, added, addedWhere, removed, united, unitedWhere, joined};
+
+// Whether n rows from `at` on lie wholly in `len` bytes.
+pub fn rows_lie(len: usize, at: usize, n: usize) -> bool
+    ensures { λ r. ⌜ r ≡ leb (at + 16 * n) len ⌝ }
+{
+    if len / 16 < n {
+        return false;
+    }
+    at <= len - 16 * n
+}
 
 // Whether the row at `at` holds the role.
 pub fn has(s: &[u8], at: usize, role: usize) -> bool
@@ -88,7 +99,7 @@ pub fn unite(s: &mut [u8], at: usize, other: [u8; 16])
 pub fn unite_rows(s: &mut [u8], at: usize, n: usize, role: usize, other: [u8; 16])
     ensures { λ _. ⌜ PlacedRows at n (λ i. unitedWhere (now (s .entry)) (at + 16 * i) role other) (now (s .entry)) (now (s .exit)) ⌝ }
 {
-    if !inner::rows_lie(s.len(), at, n) {
+    if !rows_lie(s.len(), at, n) {
         return;
     }
     if !inner::is_role(role) {

@@ -1,5 +1,5 @@
-// Searches among the things 1 to n. The crate has definitions and their laws; each crate above
-// counts through its own table, against these.
+// The things 1 to n: the test whether a number is one of them, and definitions and laws of searches
+// among them. Each crate above searches its own table, against these.
 ghost use mathlib.Core.Path.{_≡_};
 ghost use Rattle.search.specs.Search.{among};
 

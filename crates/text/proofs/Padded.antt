@@ -3,27 +3,22 @@
 use Prim.Native.Nat.{ℕ, zero, suc, _+_, _-_, _/_, _%_, _^_, _≤_, _<_}
 use mathlib.Core.Path.{_≡_, refl, _∙_}
 use mathlib.Core.List.{List, [], _∷_, _++_, append-assoc}
-use mathlib.Core.Bool.{cond}
+use native.Mathlib.Nat.{one-le-pow}
 use native.Mathlib.Omega.{arith}
 use native.Mathlib.Decide.{decLt}
 use native.Mathlib.Numerals.{add-one}
-use lib.Dec.{ltb}
 use lib.ListN.{length, take, drop, replicate, length-append, length-drop, length-replicate, replicate-append-replicate}
 use lib.Seq.{take-all, drop-at}
 use borrow.Author.Tests.{lt-ltb, le-ltb}
-use Rattle.rolefile.specs.Decimal.{lastDigits, digits, padded}
+use Rattle.rolefile.specs.Decimal.{lastDigits, digits, inColumns, padded}
 use Rattle.rolefile.proofs.Decimals.{last-single, last-more, same-digits}
-use Rattle.text.specs.Text.{lastFive}
+use Rattle.text.specs.Text.{digitOf, lastFive}
 
 -- ---- the last digits of n
 
 pub all-digits : (n : ℕ) → n < 100000 → lastDigits 5 n ≡ digits n
 unfolding digits
 all-digits n l = same-digits 4 (suc n) n l (omega arith)
-
-power-some : (j : ℕ) → 1 ≤ 10 ^ j
-power-some zero = omega arith
-power-some (suc j) = omega (arith, power-some j)
 
 -- a number that reaches the first of the places has a digit in each
 pub last-count : (j n : ℕ) → (1 ≤ j → 10 ^ j ≤ n) → length (lastDigits (suc j) n) ≡ suc j
@@ -34,7 +29,7 @@ last-count zero n low = elim (decLt n 10) [
 ]
 last-count (suc j) n low =
     let least : 10 ^ suc j ≤ n = low (omega arith) in
-    rw (last-more (suc j) n (omega (arith, power-some j)), length-append, last-count j (n / 10) (λ m. omega arith)) (omega arith)
+    rw (last-more (suc j) n (omega (arith, one-le-pow j 10 (omega arith))), length-append, last-count j (n / 10) (λ m. omega arith)) (omega arith)
 
 pub digit-count : (j n : ℕ) → (1 ≤ j → 10 ^ j ≤ n) → n < 10 ^ suc j → length (digits n) ≡ suc j
 unfolding digits
@@ -42,11 +37,7 @@ digit-count j n low high = rw (same-digits j (suc n) n high (omega arith)) at (l
 
 -- ---- a number in columns
 
--- the last digit of m, a blank for none
-abbrev pub digitOf : ℕ → ℕ
-digitOf m = cond (ltb m 1) 32 (48 + m % 10)
-
--- k columns of such digits
+-- the last k places of m, a blank for each that it does not reach
 abbrev places : ℕ → ℕ → List ℕ
 places zero m = []
 places (suc k) m = places k (m / 10) ++ (digitOf m ∷ [])
@@ -55,18 +46,14 @@ blank-places : (k : ℕ) → places k 0 ≡ replicate k 32
 blank-places zero = refl
 blank-places (suc k) = rw (blank-places k) (rw add-one at (replicate-append-replicate {A = ℕ} k 1 32))
 
--- the digits ds in k columns
-abbrev filled : ℕ → List ℕ → List ℕ
-filled k ds = replicate (k - length ds) 32 ++ ds
-
-filled-more : (k d : ℕ) (ds : List ℕ) → filled k ds ++ (d ∷ []) ≡ filled (suc k) (ds ++ (d ∷ []))
+filled-more : (k d : ℕ) (ds : List ℕ) → inColumns k ds ++ (d ∷ []) ≡ inColumns (suc k) (ds ++ (d ∷ []))
 filled-more k d ds =
     let same : suc k - (length ds + 1) ≡ k - length ds = omega arith in
     rw (length-append, same, append-assoc)
 
 -- the columns up to the last, where those before it are the digits of n / 10
-last-filled : (k n : ℕ) → (1 ≤ n / 10 → places k (n / 10) ≡ filled k (lastDigits k (n / 10)))
-    → places k (n / 10) ++ ((48 + n % 10) ∷ []) ≡ filled (suc k) (lastDigits (suc k) n)
+last-filled : (k n : ℕ) → (1 ≤ n / 10 → places k (n / 10) ≡ inColumns k (lastDigits k (n / 10)))
+    → places k (n / 10) ++ ((48 + n % 10) ∷ []) ≡ inColumns (suc k) (lastDigits (suc k) n)
 last-filled k n before = elim (decLt n 10) [
   | yes s ↦
       let none : n / 10 ≡ 0 = omega arith in
@@ -76,7 +63,7 @@ last-filled k n before = elim (decLt n 10) [
   | no s ↦ rw (last-more k n (omega arith), before (omega arith)) (filled-more k (48 + n % 10) (lastDigits k (n / 10)))
 ]
 
-places-filled : (k n : ℕ) → 1 ≤ n → places k n ≡ filled k (lastDigits k n)
+places-filled : (k n : ℕ) → 1 ≤ n → places k n ≡ inColumns k (lastDigits k n)
 unfolding lastDigits
 places-filled zero n l = refl
 places-filled (suc k) n l = rw (le-ltb n 1 l) (last-filled k n (places-filled k (n / 10)))

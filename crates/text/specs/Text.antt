@@ -1,13 +1,14 @@
 -- Text put into a buffer. Assumes nothing.
-use Prim.Native.Nat.{ℕ, zero, suc, _≤_}
+use Prim.Native.Nat.{ℕ, zero, suc, _+_, _%_, _≤_}
 use Prim.Native.Char.{code}
 use Prim.Native.String.{String}
 use Prim.Native.String as string
 use mathlib.Core.Path.{_≡_}
 use mathlib.Core.List.{List, [], _∷_, _++_}
 use mathlib.Core.Bool.{Bool, cond}
+use lib.Dec.{ltb}
 use lib.ListN.{length, take}
-use Rattle.rolefile.specs.Decimal.{lastDigits, fiveColumns, blanks}
+use Rattle.rolefile.specs.Decimal.{lastDigits, inColumns, blanks}
 
 -- the bytes of a quoted text of ASCII characters
 abbrev pub ascii : String → List ℕ
@@ -19,9 +20,13 @@ unfoldable pub each : ℕ → (ℕ → List ℕ) → List ℕ
 each zero f = []
 each (suc n) f = each n f ++ f (suc n)
 
+-- the last digit of a number, or a blank for a place that it does not reach
+abbrev pub digitOf : ℕ → ℕ
+digitOf n = cond (ltb n 1) 32 (48 + n % 10)
+
 -- the last five digits of a number, with blanks before them where it has fewer
 unfoldable pub lastFive : ℕ → List ℕ
-lastFive n = fiveColumns (lastDigits 5 n)
+lastFive n = inColumns 5 (lastDigits 5 n)
 
 -- the five columns of any number, or blanks for a field without use
 abbrev pub lastColumns : Bool → ℕ → List ℕ

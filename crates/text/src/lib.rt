@@ -2,12 +2,10 @@
 //
 // A buffer that is too short for a text holds as much of its start as there is room for.
 ghost use mathlib.Core.Path.{_≡_};
-ghost use mathlib.Core.Bool.{true, cond};
-ghost use Prim.Native.Nat.{_+_, _-_, _%_, _≤_, _<_};
-ghost use lib.Dec.{ltb};
+ghost use Prim.Native.Nat.{_-_, _≤_, _<_};
 ghost use lib.ListN.{length};
 ghost use Rattle.rolefile.specs.Decimal.{lastDigits, digits, columnsOf};
-ghost use Rattle.text.specs.Text.{Puts, lastColumns};
+ghost use Rattle.text.specs.Text.{Puts, digitOf, lastColumns};
 
 // Puts bytes into `out` after its first `at` bytes, as far as there is room, and answers how many
 // are then in use.
@@ -30,7 +28,7 @@ pub fn put(out: &mut [u8], at: usize, bytes: &[u8]) -> usize
 
 // The last digit of n, or a blank for a place that the number does not reach.
 fn digit(n: u64) -> u8
-    ensures { λ r. ⌜ r ≡ cond (ltb n 1) 32 (48 + n % 10) ⌝ }
+    ensures { λ r. ⌜ r ≡ digitOf n ⌝ }
 {
     if n < 1 {
         return 32;

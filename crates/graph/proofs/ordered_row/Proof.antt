@@ -8,8 +8,8 @@ use denote.Ref.{now}
 use lib.Dec.{leb}
 use lib.ListN.{length}
 use Rattle.search.specs.Search.{Among}
+use Rattle.roleset.proofs.Rows.{zero-rows}
 use Rattle.roleset.specs.Row.{member}
-use Rattle.policy.proofs.Gathering.{zero-rows}
 use Rattle.monitor.proofs.Filled.{fill-none, fill-more}
 use Rattle.graph.specs.Graph.{ordered}
 use Rattle.graph.proofs.ordered_row.Statement.{statement}

@@ -3,7 +3,7 @@ use mathlib.Core.Path.{sym}
 use mathlib.Core.Bool.{or-false}
 use borrow.Author.Needs.{needs}
 use borrow.Author.Tests.{leb-true}
-use Rattle.search.proofs.Truth.{passed, failed, among-iff}
+use Rattle.search.proofs.Truth.{passed, failed, one-of}
 use Rattle.roleset.specs.Row.{member}
 use Rattle.roleset.proofs.Rows.{unwritten, no-row}
 use Rattle.roleset.proofs.add.Statement.{statement}
@@ -22,7 +22,7 @@ add-requires : tie.Need-add-requires
 add-requires c κs =
     let lies = c .before .before .before in (
       leb-true _ _ (passed (lies .before .lies .ensures) (lies .if1 .left)),
-      among-iff 128 _ .0 (passed (c .before .before .is-role .ensures) (c .before .if2 .left)),
+      one-of 128 _ (c .before .before .is-role .ensures) (c .before .if2 .left),
     )
 
 pub add-spec : {M : Type 1} → statement M

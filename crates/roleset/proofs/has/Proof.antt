@@ -1,7 +1,7 @@
 -- Where one of the two tests fails, so does one of `whole` and `member`; else the bit decides.
 use borrow.Author.Needs.{needs}
 use borrow.Author.Tests.{leb-true}
-use Rattle.search.proofs.Truth.{passed, failed, among-iff}
+use Rattle.search.proofs.Truth.{passed, failed, one-of}
 use Rattle.roleset.specs.Row.{member}
 use Rattle.roleset.proofs.has.Statement.{statement}
 use Rattle.roleset.proofs.has.Tie as tie
@@ -18,7 +18,7 @@ has-requires : tie.Need-has-requires
 has-requires c κs =
     let lies = c .before .before in (
       leb-true _ _ (passed (lies .before .lies .ensures) (lies .if1 .left)),
-      among-iff 128 _ .0 (passed (c .before .is-role .ensures) (c .if2 .left)),
+      one-of 128 _ (c .before .is-role .ensures) (c .if2 .left),
     )
 
 returns-3 : tie.Need-returns-3

@@ -1,19 +1,15 @@
 -- The row is copied where there is one, and is empty where there is none.
-use Prim.Native.Nat.{_+_}
-use mathlib.Core.Path.{_∙_}
 use native.Mathlib.Omega.{arith}
-use lib.ListN.{replicate, getD-replicate}
 use borrow.Author.Needs.{needs}
 use borrow.Author.Tests.{leb-true}
 use Rattle.search.proofs.Truth.{passed, failed}
-use Rattle.roleset.proofs.Rows.{member-of, no-bits}
+use Rattle.roleset.proofs.Rows.{zero-rows}
 use Rattle.roleset.proofs.row.Statement.{statement}
 use Rattle.roleset.proofs.row.Tie as tie
 
 returns : tie.Need-returns
 returns c r =
-    rw (failed (c .before .lies .ensures) (c .if1 .taken))
-    (member-of (replicate 16 0) 0 (λ k. 0) (λ k l. getD-replicate 16 (0 + k) 0 0 (omega arith)) r ∙ no-bits r)
+    rw (failed (c .before .lies .ensures) (c .if1 .taken)) (zero-rows 16 0 r (omega arith))
 
 row-requires : tie.Need-row-requires
 row-requires c κs = leb-true _ _ (passed (c .before .lies .ensures) (c .if1 .left))

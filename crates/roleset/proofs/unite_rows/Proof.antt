@@ -4,7 +4,7 @@ use mathlib.Core.Path.{sym}
 use mathlib.Core.Bool.{or-false}
 use borrow.Author.Needs.{needs}
 use borrow.Author.Tests.{leb-true}
-use Rattle.search.proofs.Truth.{passed, failed, among-iff}
+use Rattle.search.proofs.Truth.{passed, failed, one-of}
 use Rattle.roleset.specs.Row.{member}
 use Rattle.roleset.proofs.Rows.{rows-unwritten, no-rows}
 use Rattle.roleset.proofs.unite_rows.Statement.{statement}
@@ -24,7 +24,7 @@ unite-rows-requires : tie.Need-unite-rows-requires
 unite-rows-requires c κs =
     let lie = c .before .before .before in (
       leb-true _ _ (passed (lie .before .rows-lie .ensures) (lie .if1 .left)),
-      among-iff 128 _ .0 (passed (c .before .before .is-role .ensures) (c .before .if2 .left)),
+      one-of 128 _ (c .before .before .is-role .ensures) (c .before .if2 .left),
     )
 
 pub unite-rows-spec : {M : Type 1} → statement M

@@ -10,8 +10,8 @@ use denote.Ref.{now}
 use lib.Dec.{leb}
 use lib.ListN.{length}
 use Rattle.search.proofs.Truth.{and-iff, untrue, same}
+use Rattle.roleset.proofs.Rows.{zero-rows}
 use Rattle.roleset.specs.Row.{member}
-use Rattle.policy.proofs.Gathering.{zero-rows}
 use Rattle.monitor.specs.Review.{counted, mayTake}
 use Rattle.monitor.proofs.Filled.{fill-more}
 use Rattle.monitor.proofs.Known.{few-roles, may-role, may-known}

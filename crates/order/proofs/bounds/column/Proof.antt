@@ -1,11 +1,12 @@
 -- Each turn stores one mark more of the column.
 use Prim.Native.Nat.{_+_, _≤_, _-_}
 use mathlib.Core.Path.{_≡_}
+use native.Mathlib.Nat.{add-sub-cancel}
 use native.Mathlib.Omega.{arith}
 use borrow.Author.Needs.{needs}
 use lib.ListN.{length}
 use Rattle.order.specs.Table.{mark}
-use Rattle.order.proofs.Stored.{place, Upto, upto-more}
+use Rattle.order.proofs.Stored.{Upto, upto-more}
 use Rattle.order.proofs.bounds.column.Statement.{statement}
 use Rattle.order.proofs.bounds.column.Tie as tie
 
@@ -18,7 +19,7 @@ abbrev μ-loop : tie.MeasureT-loop
 loop-again : tie.Need-loop-again Inv-loop μ-loop
 loop-again c =
     let w = c .before .before .loop in
-    (search needs, search needs, upto-more _ (w .r) (w .i) _ (search needs) (w .inv .2) (simp (place (w .i), place (c .before .before .before .args .j))))
+    (search needs, search needs, upto-more _ (w .r) (w .i) _ (search needs) (w .inv .2) (simp (add-sub-cancel (w .i) 1, add-sub-cancel (c .before .before .before .args .j) 1)))
 
 pub column-spec : {M : Type 1} → statement M
 column-spec =

@@ -1,12 +1,13 @@
 -- Each turn stores one mark more.
 use Prim.Native.Nat.{_≤_, _-_}
 use mathlib.Core.Path.{_≡_}
+use native.Mathlib.Nat.{add-sub-cancel}
 use native.Mathlib.Omega.{arith}
 use borrow.Author.Needs.{needs}
 use lib.ListN.{length}
 use mathlib.Core.Bool.{_&&_}
 use Rattle.order.specs.Table.{marks}
-use Rattle.order.proofs.Stored.{place, Upto, upto-more}
+use Rattle.order.proofs.Stored.{Upto, upto-more}
 use Rattle.order.proofs.bounds.common.Statement.{statement}
 use Rattle.order.proofs.bounds.common.Tie as tie
 
@@ -19,7 +20,7 @@ abbrev μ-loop : tie.MeasureT-loop
 loop-again : tie.Need-loop-again Inv-loop μ-loop
 loop-again c =
     let w = c .before .loop in
-    (search needs, search needs, upto-more _ (w .r) (w .i) _ (search needs) (w .inv .2) (simp (place (w .i))))
+    (search needs, search needs, upto-more _ (w .r) (w .i) _ (search needs) (w .inv .2) (simp (add-sub-cancel (w .i) 1)))
 
 pub common-spec : {M : Type 1} → statement M
 common-spec =

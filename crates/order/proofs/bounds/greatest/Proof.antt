@@ -3,14 +3,14 @@ use Prim.Native.Nat.{ℕ, _≤_, _-_}
 use mathlib.Core.Path.{_≡_, sym, _∙_}
 use mathlib.Core.Bool.{Bool}
 use mathlib.Core.List.{List}
+use native.Mathlib.Nat.{add-sub-cancel}
 use native.Mathlib.Omega.{arith}
 use borrow.Author.Needs.{needs}
 use denote.Ref.{now}
 use Rattle.search.specs.Search.{first}
 use Rattle.search.proofs.Found.{first-yet, first-found, first-more}
-use Rattle.order.specs.Bound.{converse, isLeast, least}
+use Rattle.order.specs.Bound.{upper, converse, isLeast, least}
 use Rattle.order.specs.Table.{marks, mark}
-use Rattle.order.proofs.Stored.{place}
 use Rattle.order.proofs.bounds.greatest.Statement.{statement}
 use Rattle.order.proofs.bounds.greatest.Tie as tie
 
@@ -24,18 +24,18 @@ abbrev μ-loop : tie.MeasureT-loop
 μ-loop t s set i₀ i = 32 - i
 
 returns : tie.Need-returns Inv-loop μ-loop
-unfolding least isLeast
+unfolding least isLeast upper
 returns c =
     let a = c .before .before .before .before .before .before .before .args in
     let w = c .before .before .before .before .before .loop in
-    first-found (leader (now (a .t)) (now (a .s))) 32 (w .i) (omega arith) (w .inv .1) (rw (place (w .i)) (sym (c .before .leads .ensures) ∙ c .if1 .taken))
+    first-found (leader (now (a .t)) (now (a .s))) 32 (w .i) (omega arith) (w .inv .1) (rw (add-sub-cancel (w .i) 1) (sym (c .before .leads .ensures) ∙ c .if1 .taken))
 
 loop-again : tie.Need-loop-again Inv-loop μ-loop
-unfolding isLeast
+unfolding isLeast upper
 loop-again c =
     let a = c .before .before .before .before .before .before .before .args in
     let w = c .before .before .before .before .before .loop in
-    (search needs, first-more (leader (now (a .t)) (now (a .s))) (w .i) (w .inv .1) (rw (place (w .i)) (sym (c .before .leads .ensures) ∙ c .if1 .left)))
+    (search needs, first-more (leader (now (a .t)) (now (a .s))) (w .i) (w .inv .1) (rw (add-sub-cancel (w .i) 1) (sym (c .before .leads .ensures) ∙ c .if1 .left)))
 
 returns-2 : tie.Need-returns-2 Inv-loop μ-loop
 unfolding least

@@ -2,6 +2,7 @@
 use Prim.Native.Nat.{ℕ, _+_}
 use mathlib.Core.Path.{_∙_}
 use mathlib.Core.Bool.{_&&_}
+use native.Mathlib.Nat.{add-sub-cancel}
 use native.Mathlib.Omega.{arith}
 use borrow.Author.Needs.{needs}
 use borrow.Author.Tests.{le-leb}
@@ -9,7 +10,6 @@ use denote.Ref.{now}
 use Rattle.order.specs.Bound.{converse}
 use Rattle.order.specs.Table.{mark, marks}
 use Rattle.order.proofs.Bound.{least-cut}
-use Rattle.order.proofs.Stored.{place}
 use Rattle.order.proofs.bounds.greatest_common.Statement.{statement}
 use Rattle.order.proofs.bounds.greatest_common.Tie as tie
 
@@ -21,7 +21,7 @@ returns c =
     let j : ℕ = a .j in
     c .greatest .ensures
     ∙ least-cut 32 32 (converse (mark t)) (λ x. marks (a .s) x && mark t (j + 1) x) (marks (common .result)) (omega arith) (λ x w.
-    common .ensures x w ∙ rw (le-leb x 32 (w .1), place j))
+    common .ensures x w ∙ rw (le-leb x 32 (w .1), add-sub-cancel j 1))
 
 pub greatest-common-spec : {M : Type 1} → statement M
 greatest-common-spec =

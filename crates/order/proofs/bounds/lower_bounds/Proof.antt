@@ -4,6 +4,7 @@ use mathlib.Core.Path.{_≡_, sym, _∙_}
 use lib.ListN.{getD}
 use mathlib.Core.Bool.{Bool, false, _&&_, and-true, and-assoc}
 use mathlib.Core.List.{List, []}
+use native.Mathlib.Nat.{add-sub-cancel}
 use native.Mathlib.Omega.{arith}
 use borrow.Author.Needs.{needs}
 use denote.Ref.{now}
@@ -12,7 +13,6 @@ use Rattle.search.specs.Search.{every, implies, Among}
 use Rattle.search.proofs.Found.{every-yet, every-more}
 use Rattle.order.specs.Bound.{upper}
 use Rattle.order.specs.Table.{marks, mark}
-use Rattle.order.proofs.Stored.{place}
 use Rattle.order.proofs.bounds.lower_bounds.Statement.{statement}
 use Rattle.order.proofs.bounds.lower_bounds.Tie as tie
 
@@ -23,7 +23,7 @@ under t s c x = implies (marks s x) (mark t x c)
 one-more : (t : List (List Bool)) (s : List Bool) (m x i : ℕ) (now : Bool) → now ≡ (leb x m && every i (under t s x))
     → (now && implies (getD s i false) (marks (getD t i []) x)) ≡ (leb x m && every (i + 1) (under t s x))
 one-more t s m x i now e =
-    rw (e, every-more (under t s x) i, place i) (and-assoc (leb x m) (every i (under t s x)) (implies (getD s i false) (marks (getD t i []) x)))
+    rw (e, every-more (under t s x) i, add-sub-cancel i 1) (and-assoc (leb x m) (every i (under t s x)) (implies (getD s i false) (marks (getD t i []) x)))
 
 abbrev Inv-loop : tie.InvT-loop
 Inv-loop t n s m r₀ i₀ r i = (m ≤ 32) × (i ≤ m) × ((c : ℕ) → Among 32 c → marks r c ≡ (leb c m && every i (under t s c)))

@@ -3,6 +3,7 @@ use Prim.Native.Nat.{ℕ, _+_, _≤_, _<_, _-_}
 use mathlib.Core.Path.{_≡_, sym, _∙_}
 use mathlib.Core.Bool.{Bool, _&&_, and-assoc}
 use mathlib.Core.List.{List, []}
+use native.Mathlib.Nat.{add-sub-cancel}
 use native.Mathlib.Omega.{arith}
 use borrow.Author.Needs.{needs}
 use borrow.Author.Tests.{eq-eqb, ne-eqb, lt-ltb, le-ltb}
@@ -14,7 +15,6 @@ use Rattle.search.proofs.Found.{first-none, first-found, first-more}
 use Rattle.order.specs.Bound.{converse, withoutBound, partnerWithoutBound, lub, least, pair, upper}
 use Rattle.order.specs.Table.{mark, marks}
 use Rattle.order.proofs.Bound.{least-cut, upper-pair}
-use Rattle.order.proofs.Stored.{place}
 use Rattle.order.proofs.bounds.partner.Statement.{statement}
 use Rattle.order.proofs.bounds.partner.Tie as tie
 
@@ -36,7 +36,7 @@ module _ (up : List (List Bool)) (m i : ℕ) where
       rw (
         lt-ltb (i + 1) (j + 1) (omega arith),
         least-cut m 32 order (upper m order (pair (i + 1) (j + 1))) (λ a. marks s a && mark up (j + 1) a) l (λ x u.
-            rw (h x u, upper-pair m order (i + 1) (j + 1) x (omega arith) (omega arith), place i)
+            rw (h x u, upper-pair m order (i + 1) (j + 1) x (omega arith) (omega arith), add-sub-cancel i 1)
             (and-assoc (leb x m) (marks (getD up i []) x) (mark up (j + 1) x))),
       )
 

@@ -3,6 +3,7 @@ use Prim.Native.Nat.{ℕ, _+_, _≤_, _<_, _-_}
 use mathlib.Core.Path.{_≡_, _∙_}
 use mathlib.Core.Bool.{Bool, false}
 use mathlib.Core.List.{List, []}
+use native.Mathlib.Nat.{add-sub-cancel}
 use native.Mathlib.Omega.{arith}
 use borrow.Author.Needs.{needs}
 use denote.Ref.{now}
@@ -10,14 +11,14 @@ use lib.ListN.{length, getD}
 use Rattle.order.specs.Closure.{Relation, round}
 use Rattle.order.specs.Table.{mark, Rows}
 use Rattle.order.proofs.Closure.{rows-none, rows-more}
-use Rattle.order.proofs.Stored.{place, set-row}
+use Rattle.order.proofs.Stored.{set-row}
 use Rattle.order.proofs.marks.pass.Statement.{statement}
 use Rattle.order.proofs.marks.pass.Tie as tie
 
 -- a row that is left is as it was
 same-seat : (h : Relation) (t₀ t : List (List Bool)) (i j : ℕ) → i < 32 → j < 32 → Rows 32 i h (mark t₀) (mark t)
     → getD (getD t i []) j false ≡ getD (getD t₀ i []) j false
-same-seat h t₀ t i j l k r = rw (place i, place j) at (r .left (i + 1) (j + 1) (omega arith) (omega arith) (omega arith))
+same-seat h t₀ t i j l k r = rw (add-sub-cancel i 1, add-sub-cancel j 1) at (r .left (i + 1) (j + 1) (omega arith) (omega arith) (omega arith))
 
 abbrev Inv-loop : tie.InvT-loop
 Inv-loop t₀ k n other i₀ t i = (i ≤ n) × (length t ≡ 32) × Rows 32 i (round (mark t₀) (k + 1)) (mark t₀) (mark t)
@@ -36,7 +37,7 @@ loop-again c =
       search needs,
       rows-more 32 _ _ (w .i) _ _ (search needs) (w .inv .2)
           (set-row _ (w .t) (w .i) (c .stepped .result) (search needs) (λ b v.
-          simp (place (w .i), place (a .k)) (c .stepped .ensures b v ∙ rw (seat (b - 1) (omega arith), seat (a .k) (search needs))))),
+          simp (add-sub-cancel (w .i) 1, add-sub-cancel (a .k) 1) (c .stepped .ensures b v ∙ rw (seat (b - 1) (omega arith), seat (a .k) (search needs))))),
     )
 
 returns : tie.Need-returns Inv-loop μ-loop

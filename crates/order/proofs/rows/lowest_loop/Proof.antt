@@ -1,20 +1,21 @@
 -- A search among the first n roles.
-use Prim.Native.Nat.{ℕ, _+_, _*_, _≤_, _<_, _-_, min}
+use Prim.Native.Nat.{ℕ, _+_, _*_, _≤_, _-_, min}
 use mathlib.Core.Path.{_≡_, sym, _∙_}
 use mathlib.Core.Bool.{Bool, _&&_, cond}
 use mathlib.Core.List.{List}
+use native.Mathlib.Nat.{add-sub-cancel}
 use native.Mathlib.Omega.{arith}
 use borrow.Author.Needs.{needs}
-use borrow.Author.Tests.{le-leb, lt-leb}
+use borrow.Author.Tests.{le-leb, leb-true}
 use denote.Ref.{now}
 use lib.Dec.{leb}
 use lib.ListN.{length}
+use Rattle.search.proofs.Truth.{passed, failed}
 use Rattle.search.proofs.Found.{first-yet, first-found, first-more}
 use Rattle.roleset.specs.Row.{whole, member}
 use Rattle.roleset.proofs.Rows.{whole-true}
 use Rattle.order.specs.Closure.{loop}
 use Rattle.order.specs.Table.{related}
-use Rattle.order.proofs.Stored.{place}
 use Rattle.order.proofs.rows.lowest_loop.Statement.{statement}
 use Rattle.order.proofs.rows.lowest_loop.Tie as tie
 
@@ -28,25 +29,24 @@ abbrev μ-loop : tie.MeasureT-loop
 abbrev self : List ℕ → ℕ → ℕ → Bool
 self xs at a = related xs at a a
 
-module _ (xs : List ℕ) (at found : ℕ) where
-  absent : length xs < at + 2048 → 0 ≡ cond (leb (at + 2048) (length xs)) found 0
-  absent l = rw (lt-leb (at + 2048) (length xs) l)
+present : (xs : List ℕ) (at found r : ℕ) → at + 2048 ≤ length xs → r ≡ found → r ≡ cond (leb (at + 2048) (length xs)) found 0
+present xs at found r l e = rw (le-leb (at + 2048) (length xs) l) e
 
-  present : (r : ℕ) → at + 2048 ≤ length xs → r ≡ found → r ≡ cond (leb (at + 2048) (length xs)) found 0
-  present r l e = rw (le-leb (at + 2048) (length xs) l) e
+fits : (c : tie.Else1 Inv-loop μ-loop) → let a = c .before .before .before .args in a .at + 2048 ≤ length (now (a .s))
+fits c = leb-true _ _ (passed (c .before .rows-lie .ensures) (c .if1 .left))
 
 -- what the row's test tells
 told : (xs : List ℕ) (at i : ℕ) (b t : Bool) → at + 16 * i + 16 ≤ length xs
     → b ≡ (whole xs (at + 16 * i) && member xs (at + 16 * i) (i + 1)) → b ≡ t → self xs at (i + 1) ≡ t
-told xs at i b t l e q = rw (place i) (sym (e ∙ rw (whole-true xs (at + 16 * i) l)) ∙ q)
+told xs at i b t l e q = rw (add-sub-cancel i 1) (sym (e ∙ rw (whole-true xs (at + 16 * i) l)) ∙ q)
 
-returns-3 : tie.Need-returns-3 Inv-loop μ-loop
-returns-3 c =
+returns-2 : tie.Need-returns-2 Inv-loop μ-loop
+returns-2 c =
     let turn = c .before .before .before in
     let a = turn .before .before .before .before .before .args in
     let w = turn .loop in
     present (now (a .s)) _ _ _ (w .inv .2)
-    (first-found (self (now (a .s)) (a .at)) (min (a .n) 128) (w .i) (search needs) (w .inv .3) (told (now (a .s)) (a .at) (w .i) _ _ (search needs) (c .before .has .ensures) (c .if3 .taken)))
+    (first-found (self (now (a .s)) (a .at)) (min (a .n) 128) (w .i) (search needs) (w .inv .3) (told (now (a .s)) (a .at) (w .i) _ _ (search needs) (c .before .has .ensures) (c .if2 .taken)))
 
 loop-again : tie.Need-loop-again Inv-loop μ-loop
 loop-again c =
@@ -56,11 +56,11 @@ loop-again c =
       search needs,
       search needs,
       search needs,
-      first-more (self (now (a .s)) (a .at)) (w .i) (w .inv .3) (told (now (a .s)) (a .at) (w .i) _ _ (search needs) (c .before .has .ensures) (c .if3 .left)),
+      first-more (self (now (a .s)) (a .at)) (w .i) (w .inv .3) (told (now (a .s)) (a .at) (w .i) _ _ (search needs) (c .before .has .ensures) (c .if2 .left)),
     )
 
-returns-4 : tie.Need-returns-4 Inv-loop μ-loop
-returns-4 c =
+returns-3 : tie.Need-returns-3 Inv-loop μ-loop
+returns-3 c =
     let w = c .before .loop in
     let a = c .before .before .before .before .before .before .args in
     let q : w .i ≡ min (a .n) 128 = omega arith in
@@ -72,18 +72,17 @@ lowest-loop-spec =
     (tie.spec
     Inv-loop
     μ-loop
-    (λ c. absent (now (c .before .before .args .s)) _ _ (search needs))
-    (λ c. search needs)
-    (λ c. absent (now (c .before .before .before .args .s)) _ _ (search needs))
     (λ c κs. search needs)
-    (λ c. (search needs, search needs, search needs, first-yet _))
+    (λ c. rw (failed (c .before .rows-lie .ensures) (c .if1 .taken)))
+    (λ c κs. search needs)
+    (λ c. (search needs, search needs, fits (c .before), first-yet _))
     (λ c. search needs)
     (λ c. search needs)
     (λ c. search needs)
     (λ c κs. search needs)
     (λ c. search needs)
-    returns-3
+    returns-2
     (λ c. search needs)
     (λ c. search needs)
     loop-again
-    returns-4)
+    returns-3)

@@ -3,7 +3,9 @@ use Prim.Native.Nat.{_+_, _≤_, _-_, min}
 use mathlib.Core.Path.{_≡_}
 use native.Mathlib.Omega.{arith}
 use borrow.Author.Needs.{needs}
+use borrow.Author.Tests.{leb-true}
 use lib.ListN.{length}
+use Rattle.search.proofs.Truth.{passed, failed}
 use Rattle.order.specs.Closure.{via}
 use Rattle.order.specs.Table.{related, Tabled}
 use Rattle.order.proofs.Placing.{no-table, closing-none, closing-more}
@@ -17,6 +19,9 @@ Inv-loop s₀ at n m k₀ s k =
 abbrev μ-loop : tie.MeasureT-loop
 μ-loop s₀ at n m k₀ s k = m - k
 
+fits : (c : tie.Else1 Inv-loop μ-loop) → let a = c .before .before .before .args in a .at + 2048 ≤ length (a .s .now)
+fits c = leb-true _ _ (passed (c .before .rows-lie .ensures) (c .if1 .left))
+
 loop-again : tie.Need-loop-again Inv-loop μ-loop
 loop-again c =
     let w = c .before .before .before .before .before .loop in (
@@ -27,8 +32,8 @@ loop-again c =
       closing-more _ _ (w .inv .2) _ (w .k) (w .s) _ (search needs) (search needs) (w .inv .3) (w .inv .4) (c .before .before .pass .ensures),
     )
 
-returns-3 : tie.Need-returns-3 Inv-loop μ-loop
-returns-3 c =
+returns-2 : tie.Need-returns-2 Inv-loop μ-loop
+returns-2 c =
     let n = c .before .before .before .before .before .before .args .n in
     let w = c .before .loop in
     let m : c .before .before .lesser .result ≡ min n 128 = omega arith in
@@ -41,14 +46,13 @@ paths-spec =
     (tie.spec
     Inv-loop
     μ-loop
-    (λ c. no-table (search needs))
-    (λ c. search needs)
-    (λ c. no-table (search needs))
     (λ c κs. search needs)
-    (λ c. (search needs, search needs, search needs, search needs, closing-none _ _ (search needs) _))
+    (λ c. no-table (failed (c .before .rows-lie .ensures) (c .if1 .taken)))
+    (λ c κs. search needs)
+    (λ c. (search needs, search needs, fits (c .before), search needs, closing-none _ _ (fits (c .before)) _))
     (λ c κs. search needs)
     (λ c. search needs)
     (λ c. search needs)
     loop-again
     (λ c. search needs)
-    returns-3)
+    returns-2)

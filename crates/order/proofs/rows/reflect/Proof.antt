@@ -3,7 +3,9 @@ use Prim.Native.Nat.{_+_, _≤_, _-_, min}
 use mathlib.Core.Path.{_≡_}
 use native.Mathlib.Omega.{arith}
 use borrow.Author.Needs.{needs}
+use borrow.Author.Tests.{leb-true}
 use lib.ListN.{length}
+use Rattle.search.proofs.Truth.{passed, failed}
 use Rattle.order.specs.Closure.{reflexive}
 use Rattle.order.specs.Table.{related, Tabled}
 use Rattle.order.proofs.Placing.{no-table, placing-none, placing-more, reflexive-row}
@@ -17,6 +19,9 @@ Inv-loop s₀ at n m i₀ s i =
 abbrev μ-loop : tie.MeasureT-loop
 μ-loop s₀ at n m i₀ s i = m - i
 
+fits : (c : tie.Else1 Inv-loop μ-loop) → let a = c .before .before .before .args in a .at + 2048 ≤ length (a .s .now)
+fits c = leb-true _ _ (passed (c .before .rows-lie .ensures) (c .if1 .left))
+
 loop-again : tie.Need-loop-again Inv-loop μ-loop
 loop-again c =
     let w = c .before .before .before .before .before .loop in (
@@ -28,8 +33,8 @@ loop-again c =
           (λ b v. reflexive-row _ _ (w .inv .2) (w .i) b (w .s) (search needs) v (w .inv .4)),
     )
 
-returns-3 : tie.Need-returns-3 Inv-loop μ-loop
-returns-3 c =
+returns-2 : tie.Need-returns-2 Inv-loop μ-loop
+returns-2 c =
     let w = c .before .loop in
     let q : w .i ≡ min (c .before .before .before .before .before .before .args .n) 128 = omega arith in
     rw q at (w .inv .4)
@@ -40,11 +45,10 @@ reflect-spec =
     (tie.spec
     Inv-loop
     μ-loop
-    (λ c. no-table (search needs))
-    (λ c. search needs)
-    (λ c. no-table (search needs))
     (λ c κs. search needs)
-    (λ c. (search needs, search needs, search needs, search needs, placing-none _ _ _ (search needs)))
+    (λ c. no-table (failed (c .before .rows-lie .ensures) (c .if1 .taken)))
+    (λ c κs. search needs)
+    (λ c. (search needs, search needs, fits (c .before), search needs, placing-none _ _ _ (fits (c .before))))
     (λ c. search needs)
     (λ c. search needs)
     (λ c. search needs)
@@ -53,4 +57,4 @@ reflect-spec =
     (λ c. search needs)
     loop-again
     (λ c. search needs)
-    returns-3)
+    returns-2)

@@ -7,8 +7,8 @@ use denote.Ref.{now}
 use lib.ListN.{length, length-replicate}
 use Rattle.search.specs.Search.{some, Among}
 use Rattle.search.proofs.Found.{some-more, some-yet}
+use Rattle.roleset.proofs.Rows.{zero-rows}
 use Rattle.order.specs.Table.{related}
-use Rattle.policy.proofs.Gathering.{zero-rows}
 use Rattle.policy.proofs.Flowing.{passing}
 use Rattle.policy.proofs.flow.flow_table.Statement.{statement}
 use Rattle.policy.proofs.flow.flow_table.Tie as tie

@@ -4,8 +4,8 @@ use mathlib.Core.Path.{_≡_, _∙_}
 use native.Mathlib.Omega.{arith}
 use borrow.Author.Needs.{needs}
 use denote.Ref.{now}
+use Rattle.roleset.proofs.Rows.{zero-rows}
 use Rattle.policy.specs.Tables.{cardsUpTo}
-use Rattle.policy.proofs.Gathering.{zero-rows}
 use Rattle.policy.proofs.Flowing.{no-state, a-state, of-state, apart-flows}
 use Rattle.policy.proofs.flow.table.Statement.{statement}
 use Rattle.policy.proofs.flow.table.Tie as tie

@@ -2,13 +2,13 @@
 use Prim.Native.Nat.{_*_, _≤_, _-_}
 use mathlib.Core.Path.{_≡_, _∙_}
 use native.Mathlib.Omega.{arith}
-use native.Mathlib.Nat.{zero-add}
+use native.Mathlib.Nat.{add-sub-cancel, zero-add}
 use borrow.Author.Needs.{needs}
 use denote.Ref.{now}
 use lib.ListN.{length}
 use Rattle.roleset.specs.Row.{member}
 use Rattle.roleset.proofs.Rows.{whole-true}
-use Rattle.order.proofs.Stored.{place, Upto, upto-more}
+use Rattle.order.proofs.Stored.{Upto, upto-more}
 use Rattle.policy.specs.Tables.{rowOf}
 use Rattle.policy.proofs.gather.labels_of.Statement.{statement}
 use Rattle.policy.proofs.gather.labels_of.Tie as tie
@@ -26,7 +26,7 @@ loop-again c =
       search needs,
       search needs,
       upto-more _ (w .r) (w .i) _ (search needs) (w .inv .2)
-          (c .has .ensures ∙ rw (whole-true g (16 * w .i) (search needs), place (w .i), zero-add (16 * w .i))),
+          (c .has .ensures ∙ rw (whole-true g (16 * w .i) (search needs), add-sub-cancel (w .i) 1, zero-add (16 * w .i))),
     )
 
 pub labels-of-spec : {M : Type 1} → statement M

@@ -1,4 +1,4 @@
--- One row is stored, with one mark more, where both are labels.
+-- One row is stored, with one mark more, where its thing is a label.
 use native.Mathlib.Omega.{arith}
 use borrow.Author.Needs.{needs}
 use denote.Ref.{now}
@@ -8,26 +8,19 @@ use Rattle.policy.proofs.Marked.{pair-none, pair-one}
 use Rattle.policy.proofs.marks.add_pair.Statement.{statement}
 use Rattle.policy.proofs.marks.add_pair.Tie as tie
 
-known : (c : tie.Else2) → let g = c .before .before .before .before .args in Among 32 (g .a) × Among 32 (g .b)
-known c =
-    let t = c .before .before in
-    (one-of 32 _ (t .before .among .ensures) (t .if1 .left), one-of 32 _ (c .before .among2 .ensures) (c .if2 .left))
+known : (c : tie.Else1) → Among 32 (c .before .before .args .a)
+known c = one-of 32 _ (c .before .among .ensures) (c .if1 .left)
 
 returns : tie.Need-returns
 returns c =
     let g = c .before .before .args in
-    (search needs, pair-none (g .a) (g .b) (now (g .t)) (λ w v. none-of 32 _ (c .before .among .ensures) (c .if1 .taken) w))
+    (search needs, pair-none (g .a) (g .b) (now (g .t)) (none-of 32 _ (c .before .among .ensures) (c .if1 .taken)))
 
 returns-2 : tie.Need-returns-2
 returns-2 c =
-    let g = c .before .before .before .before .args in
-    (search needs, pair-none (g .a) (g .b) (now (g .t)) (λ w v. none-of 32 _ (c .before .among2 .ensures) (c .if2 .taken) v))
-
-returns-3 : tie.Need-returns-3
-returns-3 c =
-    let two = c .before .before in
-    let g = two .before .before .before .before .args in
-    (search needs, pair-one (g .a) (g .b) (now (g .t)) (c .with-mark .result) (known two .0) (search needs) (c .with-mark .ensures))
+    let one = c .before .before in
+    let g = one .before .before .args in
+    (search needs, pair-one (g .a) (g .b) (now (g .t)) (c .with-mark .result) (known one) (search needs) (c .with-mark .ensures))
 
 pub add-pair-spec : {M : Type 1} → statement M
 add-pair-spec =
@@ -35,12 +28,10 @@ add-pair-spec =
     (tie.spec
     (λ c κs. search needs)
     returns
+    (λ c. omega (arith, known c))
+    (λ c. omega (arith, known c))
+    (λ c. omega (arith, known c))
     (λ c κs. search needs)
-    returns-2
-    (λ c. omega (arith, known c))
-    (λ c. omega (arith, known c))
-    (λ c. omega (arith, known c))
-    (λ c κs. known (c .before) .1)
     (λ c. omega (arith, known (c .before .before)))
     (λ c. omega (arith, known (c .before .before)))
-    returns-3)
+    returns-2)

@@ -2,11 +2,11 @@
 use Prim.Native.Nat.{ℕ, _+_, _≤_, _-_}
 use mathlib.Core.Bool.{Bool, cond}
 use mathlib.Core.List.{List}
+use native.Mathlib.Nat.{add-sub-cancel}
 use native.Mathlib.Omega.{arith}
 use borrow.Author.Needs.{needs}
 use Rattle.roleset.proofs.Rows.{Written, write-none, write-more}
 use Rattle.order.specs.Table.{marks}
-use Rattle.order.proofs.Stored.{place}
 use Rattle.policy.proofs.Noted.{all-stored}
 use Rattle.policy.proofs.marks.put_row.Statement.{statement}
 use Rattle.policy.proofs.marks.put_row.Tie as tie
@@ -23,7 +23,7 @@ abbrev μ-loop : tie.MeasureT-loop
 loop-again : tie.Need-loop-again Inv-loop μ-loop
 loop-again c =
     let w = c .before .before .loop in
-    (search needs, write-more (w .inv .1) (search needs) (simp (place (w .j)) (c .byte .ensures)))
+    (search needs, write-more (w .inv .1) (search needs) (simp (add-sub-cancel (w .j) 1) (c .byte .ensures)))
 
 returns : tie.Need-returns Inv-loop μ-loop
 returns c =

@@ -1,25 +1,20 @@
 -- Each turn puts the line of one role more.
-use Prim.Native.Nat.{ℕ, _≤_, _-_}
+use Prim.Native.Nat.{_≤_, _-_}
 use mathlib.Core.Path.{_≡_, sym, _∙_}
-use mathlib.Core.List.{List}
 use native.Mathlib.Omega.{arith}
 use borrow.Author.Needs.{needs}
 use denote.Ref.{now}
 use Rattle.policy.specs.Tables.{rLevelsAt, wLevelsAt, levelIn}
-use Rattle.text.specs.Text.{Puts, each}
+use Rattle.text.specs.Text.{Puts}
 use Rattle.text.proofs.Text.{by-key}
 use Rattle.text.proofs.Each.{each-none, each-more}
-use Rattle.rolecheck.specs.Report.{line}
+use Rattle.rolecheck.specs.Report.{roleLines}
 use Rattle.rolecheck.proofs.Counted.{few-roles}
 use Rattle.rolecheck.proofs.report.role_lines.Statement.{statement}
 use Rattle.rolecheck.proofs.report.role_lines.Tie as tie
 
--- the line of a state's role
-abbrev lineOf : List ℕ → ℕ → List ℕ
-lineOf xs r = line 82 3 r (levelIn xs rLevelsAt r) (levelIn xs wLevelsAt r)
-
 abbrev Inv-loop : tie.InvT-loop
-Inv-loop state out₀ at n used₀ i₀ out used i = (n ≤ 128) × (i ≤ n) × Puts (each i (lineOf state)) at out₀ used out
+Inv-loop state out₀ at n used₀ i₀ out used i = (n ≤ 128) × (i ≤ n) × Puts (roleLines (levelIn state rLevelsAt) (levelIn state wLevelsAt) i) at out₀ used out
 
 abbrev μ-loop : tie.MeasureT-loop
 μ-loop state out₀ at n used₀ i₀ out used i = n - i
@@ -42,7 +37,7 @@ returns c =
     let counted = c .before .before in
     let a = counted .before .before .before .args in
     let all : w .i ≡ counted .roles .result = omega arith in
-    by-key (λ n. each n (lineOf (now (a .state)))) (sym (all ∙ counted .roles .ensures)) (w .inv .2)
+    by-key (roleLines (levelIn (now (a .state)) rLevelsAt) (levelIn (now (a .state)) wLevelsAt)) (sym (all ∙ counted .roles .ensures)) (w .inv .2)
 
 pub role-lines-spec : {M : Type 1} → statement M
 role-lines-spec =

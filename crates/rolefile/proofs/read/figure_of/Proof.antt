@@ -1,6 +1,6 @@
 -- A line that the part has, or 0.
-use Prim.Native.Nat.{_+_, _-_}
-use mathlib.Core.Path.{_≡_}
+use Prim.Native.Nat.{_+_}
+use native.Mathlib.Nat.{add-sub-cancel}
 use native.Mathlib.Omega.{arith}
 use borrow.Author.Needs.{needs}
 use borrow.Author.Tests.{le-leb, lt-leb}
@@ -15,8 +15,7 @@ returns c = let a = c .before .before .args in rw (lt-leb (a .i + 1) (lines (now
 returns-2 : tie.Need-returns-2
 returns-2 c =
     let a = c .before .before .before .args in
-    let q : a .i + 1 - 1 ≡ a .i = omega arith in
-    rw (le-leb (a .i + 1) (lines (now (a .p))) (omega arith), q) (c .figure .ensures)
+    rw (le-leb (a .i + 1) (lines (now (a .p))) (omega arith), add-sub-cancel (a .i) 1) (c .figure .ensures)
 
 pub figure-of-spec : {M : Type 1} → statement M
 figure-of-spec = tie.close (tie.spec returns (λ c. search needs) (λ c. search needs) (λ c κs. search needs) returns-2)

@@ -1,7 +1,8 @@
 -- The lines so far have the letter; the loop stops at the first that has not.
-use Prim.Native.Nat.{ℕ, _+_, _*_, _≤_, _-_}
+use Prim.Native.Nat.{ℕ, _+_, _≤_, _-_}
 use mathlib.Core.Path.{_≡_}
 use mathlib.Core.Logic.{⊎-elim}
+use native.Mathlib.Nat.{add-sub-cancel}
 use native.Mathlib.Omega.{arith}
 use native.Mathlib.Numerals.{add-one}
 use borrow.Author.Needs.{needs}
@@ -19,15 +20,11 @@ Inv-loop p letter n i₀ i = (i ≤ lines p) × ((j : ℕ) → Among i j → let
 abbrev μ-loop : tie.MeasureT-loop
 μ-loop p letter n i₀ i = lines p - i
 
--- the byte that the turn looks at is that of line i + 1
-place : (i : ℕ) → 22 * (i + 1 - 1) ≡ 22 * i
-place i = omega arith
-
 returns : tie.Need-returns Inv-loop μ-loop
 unfolding letterAt
 returns c =
     let w = c .before .before .before .loop in
-    record { fits = w .inv .0; front = w .inv .1; next = λ l e. c .if1 .taken (rw (place (w .i)) at e) }
+    record { fits = w .inv .0; front = w .inv .1; next = λ l e. c .if1 .taken (rw (add-sub-cancel (w .i) 1) at e) }
 
 loop-again : tie.Need-loop-again Inv-loop μ-loop
 unfolding letterAt
@@ -35,7 +32,7 @@ loop-again c =
     let w = c .before .before .before .loop in (
       search needs,
       λ j u. ⊎-elim
-          (λ e. let q : j ≡ w .i + 1 = omega arith in rw (q, place (w .i)) (c .if1 .left))
+          (λ e. let q : j ≡ w .i + 1 = omega arith in rw (q, add-sub-cancel (w .i) 1) (c .if1 .left))
           (w .inv .1 j)
           (last-or (w .i) j (rw add-one at u)),
     )

@@ -21,7 +21,7 @@ returns-4 c =
     let p = q .before .before .before .before in
     c .no-line4 .ensures
     ∙ no-third _ _ _ _ _ _
-    (rw (r .before .field-count .ensures, p .before .before .letter .ensures) at (ended _ _ _ (r .taken-at .ensures) (c .before .match3 .keys2)))
+    (rw (r .before .field-count .ensures, p .before .before .letter .ensures) at (ended _ _ _ (r .taken-out-at .ensures) (c .before .match3 .keys2)))
 
 returns-5 : tie.Need-returns-5
 returns-5 c =
@@ -31,7 +31,7 @@ returns-5 c =
     let p = q .before .before .before .before in
     c .no-line5 .ensures
     ∙ no-fourth _ _ _ _ _ _
-    (rw (s .before .field-count2 .ensures, p .before .before .letter .ensures) at (ended _ _ _ (s .taken-at2 .ensures) (c .before .match4 .keys2)))
+    (rw (s .before .field-count2 .ensures, p .before .before .letter .ensures) at (ended _ _ _ (s .taken-out-at2 .ensures) (c .before .match4 .keys2)))
 
 returns-6 : tie.Need-returns-6
 returns-6 c = c .no-line6 .ensures ∙ no-end _ _ _ _ _ _ (c .before .if2 .taken)
@@ -48,8 +48,8 @@ returns-7 c =
     (whole-line _ _ _ _ _ _ _ _ _ _
     (numbered _ _ _ (p .field .ensures) (q .before .before .a .given .1))
     (numbered _ _ _ (q .field2 .ensures) (r .before .before .before .b .given .1))
-    (rw (r .before .field-count .ensures) at (got _ _ _ _ (r .taken-at .ensures) (s .before .before .before .c .given .1)))
-    (rw (s .before .field-count2 .ensures) at (got _ _ _ _ (s .taken-at2 .ensures) (d .d .given .1)))
+    (rw (r .before .field-count .ensures) at (got _ _ _ _ (r .taken-out-at .ensures) (s .before .before .before .c .given .1)))
+    (rw (s .before .field-count2 .ensures) at (got _ _ _ _ (s .taken-out-at2 .ensures) (d .d .given .1)))
     (p .before .if1 .left)
     (c .if2 .left))
 

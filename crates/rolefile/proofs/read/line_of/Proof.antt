@@ -6,20 +6,20 @@ use Rattle.rolefile.proofs.read.line_of.Statement.{statement}
 use Rattle.rolefile.proofs.read.line_of.Tie as tie
 
 returns : tie.Need-returns
-returns c = c .no-line .ensures ∙ no-first _ _ _ _ _ _ (ended _ _ _ (c .before .before .taken .ensures) (c .before .match .keys2))
+returns c = c .no-line .ensures ∙ no-first _ _ _ _ _ _ (ended _ _ _ (c .before .before .taken-out .ensures) (c .before .match .keys2))
 
 returns-2 : tie.Need-returns-2
-returns-2 c = c .no-line2 .ensures ∙ no-second _ _ _ _ _ _ (ended _ _ _ (c .before .before .taken2 .ensures) (c .before .match2 .keys2))
+returns-2 c = c .no-line2 .ensures ∙ no-second _ _ _ _ _ _ (ended _ _ _ (c .before .before .taken-out2 .ensures) (c .before .match2 .keys2))
 
 returns-3 : tie.Need-returns-3
 returns-3 c =
     let t = c .before .before in
-    c .no-line3 .ensures ∙ no-third _ _ _ _ _ _ (rw (t .before .field-count .ensures) at (ended _ _ _ (t .taken3 .ensures) (c .before .match3 .keys2)))
+    c .no-line3 .ensures ∙ no-third _ _ _ _ _ _ (rw (t .before .field-count .ensures) at (ended _ _ _ (t .taken-out3 .ensures) (c .before .match3 .keys2)))
 
 returns-4 : tie.Need-returns-4
 returns-4 c =
     let t = c .before .before in
-    c .no-line4 .ensures ∙ no-fourth _ _ _ _ _ _ (rw (t .before .field-count2 .ensures) at (ended _ _ _ (t .taken4 .ensures) (c .before .match4 .keys2)))
+    c .no-line4 .ensures ∙ no-fourth _ _ _ _ _ _ (rw (t .before .field-count2 .ensures) at (ended _ _ _ (t .taken-out4 .ensures) (c .before .match4 .keys2)))
 
 returns-5 : tie.Need-returns-5
 returns-5 c = c .no-line5 .ensures ∙ no-letter _ _ _ _ _ _ (c .before .if1 .taken)
@@ -35,10 +35,10 @@ returns-7 c =
     let q = r .before .before .before .before .before in
     let p = q .before .before .before .before in
     whole-line _ _ _ _ _ _ _ _ _ _
-    (got _ _ _ _ (p .taken .ensures) (q .before .before .a .given .1))
-    (got _ _ _ _ (q .taken2 .ensures) (r .before .before .before .b .given .1))
-    (rw (r .before .field-count .ensures) at (got _ _ _ _ (r .taken3 .ensures) (s .before .before .before .c .given .1)))
-    (rw (s .before .field-count2 .ensures) at (got _ _ _ _ (s .taken4 .ensures) (d .d .given .1)))
+    (got _ _ _ _ (p .taken-out .ensures) (q .before .before .a .given .1))
+    (got _ _ _ _ (q .taken-out2 .ensures) (r .before .before .before .b .given .1))
+    (rw (r .before .field-count .ensures) at (got _ _ _ _ (r .taken-out3 .ensures) (s .before .before .before .c .given .1)))
+    (rw (s .before .field-count2 .ensures) at (got _ _ _ _ (s .taken-out4 .ensures) (d .d .given .1)))
     (c .before .if1 .left)
     (c .if2 .left)
 

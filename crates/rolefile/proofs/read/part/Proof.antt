@@ -1,17 +1,14 @@
 -- A part from the file's end on is empty, as the definition has it.
-use Prim.Native.Nat.{ℕ, _*_, _-_, _≤_}
+use Prim.Native.Nat.{ℕ, _*_, _≤_}
 use mathlib.Core.Path.{_≡_, sym, _∙_}
 use mathlib.Core.List.{List}
 use native.Mathlib.Omega.{arith}
 use borrow.Author.Needs.{needs}
-use lib.ListN.{length, take, drop, length-drop, drop-of-length-le}
-use lib.Seq.{take-all}
+use borrow.Rule.Slice.PartAt.{part-to-end}
+use lib.ListN.{length, drop, drop-of-length-le}
 use denote.Ref.{now}
 use Rattle.rolefile.proofs.read.part.Statement.{statement}
 use Rattle.rolefile.proofs.read.part.Tie as tie
-
-to-the-end : (f : List ℕ) (a : ℕ) → take (length f - a) (drop a f) ≡ drop a f
-to-the-end f a = take-all (length f - a) (drop a f) (rw (length-drop a f) (omega arith))
 
 past-the-end : (f : List ℕ) (a b : ℕ) → length f ≤ a → length f ≤ b → drop a f ≡ drop b f
 past-the-end f a b l m = drop-of-length-le f l ∙ sym (drop-of-length-le f m)
@@ -20,10 +17,10 @@ returns : tie.Need-returns
 returns c =
     let a = c .before .before .args in
     let f = now (a .f) in
-    to-the-end f (length f) ∙ past-the-end f (length f) (22 * a .j) (omega arith) (omega arith)
+    part-to-end f (length f) ∙ past-the-end f (length f) (22 * a .j) (omega arith) (omega arith)
 
 returns-2 : tie.Need-returns-2
-returns-2 c = let a = c .before .before .args in to-the-end (now (a .f)) (22 * a .j)
+returns-2 c = let a = c .before .before .args in part-to-end (now (a .f)) (22 * a .j)
 
 pub part-spec : {M : Type 1} → statement M
 part-spec =

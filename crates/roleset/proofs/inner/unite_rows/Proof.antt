@@ -1,11 +1,12 @@
 -- Each turn places one row more, which has had no turn before.
-use Prim.Native.Nat.{_+_, _-_, _*_, _≤_}
+use Prim.Native.Nat.{ℕ, _+_, _-_, _*_, _≤_}
 use mathlib.Core.Path.{_≡_}
+use mathlib.Core.Logic.{inr}
 use native.Mathlib.Omega.{arith}
 use lib.ListN.{length}
 use borrow.Author.Needs.{needs}
-use Rattle.roleset.specs.Row.{unitedWhere, PlacedRows}
-use Rattle.roleset.proofs.Rows.{rows-unwritten, rows-left, rows-more}
+use Rattle.roleset.specs.Row.{member, unitedWhere, PlacedRows}
+use Rattle.roleset.proofs.Rows.{row-kept, rows-unwritten, rows-more}
 use Rattle.roleset.proofs.inner.unite_rows.Statement.{statement}
 use Rattle.roleset.proofs.inner.unite_rows.Tie as tie
 
@@ -20,7 +21,7 @@ loop-again c =
     let turn = c .before .before .before .before .before in
     let w = turn .loop in
     let a = turn .before .before .args in
-    let left = rows-left (w .inv .2) (a .at + 16 * w .i) (omega arith) in (
+    let left : (r : ℕ) → member (w .s) (a .at + 16 * w .i) r ≡ member (a .s .now) (a .at + 16 * w .i) r = λ r. row-kept _ _ (w .inv .2 .rest) _ r (inr (omega arith)) in (
       search needs,
       search needs,
       rows-more (search needs) (w .inv .1) (w .inv .2) (c .before .before .unite-where .ensures)

@@ -10,7 +10,6 @@ use lib.Dec.{T as Holds, leb, eqb}
 use lib.ListN.{length}
 use borrow.Author.Tests.{leb-true}
 use mir.Val.{Val}
-use types.Run.{from}
 use denote.Laws.{Is}
 use denote.Ref.{RefT, now}
 use Rattle.search.proofs.Truth.{and-iff}

@@ -2,11 +2,11 @@
 use mathlib.Core.Path.{sym, _∙_}
 use borrow.Author.Needs.{needs}
 use Rattle.rolefile.proofs.Reading.{taken-blank, taken-spoilt}
-use Rattle.rolefile.proofs.read.taken_at.Statement.{statement}
-use Rattle.rolefile.proofs.read.taken_at.Tie as tie
+use Rattle.rolefile.proofs.read.taken_out_at.Statement.{statement}
+use Rattle.rolefile.proofs.read.taken_out_at.Tie as tie
 
 returns : tie.Need-returns
-returns c = rw (c .before .before .if1 .taken, ← (c .before .field .ensures)) (c .taken .ensures)
+returns c = rw (c .before .before .if1 .taken, ← (c .before .field .ensures)) (c .taken-out .ensures)
 
 returns-2 : tie.Need-returns-2
 returns-2 c =
@@ -18,5 +18,5 @@ returns-3 c =
     let b = c .before in
     rw (b .before .if1 .left) (taken-spoilt _ (sym (b .blank .ensures) ∙ c .if2 .left))
 
-pub taken-at-spec : {M : Type 1} → statement M
-taken-at-spec = tie.close (tie.spec (λ c κs. search needs) (λ c κs. search needs) returns (λ c κs. search needs) returns-2 returns-3)
+pub taken-out-at-spec : {M : Type 1} → statement M
+taken-out-at-spec = tie.close (tie.spec (λ c κs. search needs) (λ c κs. search needs) returns (λ c κs. search needs) returns-2 returns-3)

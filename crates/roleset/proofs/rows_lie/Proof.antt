@@ -5,8 +5,8 @@ use native.Mathlib.Omega.{arith}
 use borrow.Author.Needs.{needs}
 use borrow.Author.Tests.{leb-true, le-leb, lt-leb}
 use Rattle.search.proofs.Truth.{same}
-use Rattle.roleset.proofs.inner.rows_lie.Statement.{statement}
-use Rattle.roleset.proofs.inner.rows_lie.Tie as tie
+use Rattle.roleset.proofs.rows_lie.Statement.{statement}
+use Rattle.roleset.proofs.rows_lie.Tie as tie
 
 returns : tie.Need-returns
 returns c = let a = c .before .args in sym (lt-leb (a .at + 16 * a .n) (a .len) (omega arith))
