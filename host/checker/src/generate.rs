@@ -3,10 +3,11 @@
 //! number of rules broken), and torn ones (bytes and lines damaged).
 
 use crate::check::{check, Counts, Level, Meaning, RoleFile, READ, WRITE};
-use crate::line::{print_line, Letter, LINE_LENGTH, MOST_BYTES, MOST_LINES};
+use crate::line::{leading_blanks, print_line, Letter, LINE_LENGTH, MOST_BYTES, MOST_LINES};
 use crate::order::Order;
 use crate::random::Random;
 use std::collections::BTreeSet;
+use std::ops::Range;
 
 /// The largest counts: labels, roles, users, cards.
 pub const LIMITS: [usize; 4] = [32, 128, 256, 512];
@@ -21,6 +22,17 @@ pub enum Size {
     Large,
     /// The largest counts, 2,900 lines.
     Full,
+}
+
+impl Size {
+    fn most_lines(self) -> usize {
+        match self {
+            Size::Tiny => 40,
+            Size::Small => 150,
+            Size::Middle => 700,
+            Size::Large | Size::Full => MOST_LINES,
+        }
+    }
 }
 
 /// The bent files of a round; the numbers that can go wrong in most ways have
@@ -106,12 +118,7 @@ fn arrange(file: &mut RoleFile) {
 /// A file that meets every rule.
 pub fn accepted(random: &mut Random, size: Size) -> RoleFile {
     let counts = counts(random, size);
-    let most_lines = match size {
-        Size::Tiny => 40,
-        Size::Small => 150,
-        Size::Middle => 700,
-        Size::Large | Size::Full => MOST_LINES,
-    };
+    let most_lines = size.most_lines();
     let mut file = RoleFile {
         counts,
         dominance: label_order(random, counts.labels),
@@ -126,19 +133,13 @@ pub fn accepted(random: &mut Random, size: Size) -> RoleFile {
         .map(|_| random.between(1, counts.labels))
         .collect();
     let stray = random.pick(&[0, 0, 2, 10, 40]);
-    let label = |random: &mut Random| {
+    add_labels(random, &mut file, |random| {
         if random.percent(60) {
             random.pick(&homes)
         } else {
             random.between(1, counts.labels)
         }
-    };
-    file.clearances = (1..=counts.users)
-        .map(|user| (user, label(random)))
-        .collect();
-    file.card_labels = (1..=counts.cards)
-        .map(|card| (card, label(random)))
-        .collect();
+    });
 
     let room = most_lines.saturating_sub(lines_of(&file));
     let permissions = match size {
@@ -156,6 +157,16 @@ pub fn accepted(random: &mut Random, size: Size) -> RoleFile {
         fill(random, &mut file, MOST_LINES);
     }
     file
+}
+
+/// U and O lines: a label for each user, then for each card.
+fn add_labels(random: &mut Random, file: &mut RoleFile, label: impl Fn(&mut Random) -> usize) {
+    file.clearances = (1..=file.counts.users)
+        .map(|user| (user, label(random)))
+        .collect();
+    file.card_labels = (1..=file.counts.cards)
+        .map(|card| (card, label(random)))
+        .collect();
 }
 
 fn counts(random: &mut Random, size: Size) -> Counts {
@@ -382,16 +393,7 @@ fn role_seniority(random: &mut Random, roles: usize, most: usize) -> Vec<(usize,
         // A tree downwards or upwards.
         2 => places.extend((1..roles).map(|senior| (senior, random.below(senior)))),
         3 => places.extend((1..roles).map(|junior| (roles - 1 - random.below(junior), junior))),
-        // Five layers.
-        4 => {
-            let width = roles.div_ceil(5);
-            for senior in width..roles {
-                let layer = senior / width;
-                for _ in 0..random.between(1, 3) {
-                    places.push((senior, (layer - 1) * width + random.below(width)));
-                }
-            }
-        }
+        4 => places = five_layers(random, roles),
         // Anything that leads downwards.
         _ => {
             for _ in 0..random.below(roles * 2) {
@@ -408,6 +410,19 @@ fn role_seniority(random: &mut Random, roles: usize, most: usize) -> Vec<(usize,
         .map(|(senior, junior)| (names[senior], names[junior]))
         .collect();
     pairs.into_iter().collect()
+}
+
+/// Each role is senior to some of the layer below it.
+fn five_layers(random: &mut Random, roles: usize) -> Vec<(usize, usize)> {
+    let width = roles.div_ceil(5);
+    let mut places = Vec::new();
+    for senior in width..roles {
+        let layer = senior / width;
+        for _ in 0..random.between(1, 3) {
+            places.push((senior, (layer - 1) * width + random.below(width)));
+        }
+    }
+    places
 }
 
 /// P lines: a role reads under one of the homes and writes over it, and
@@ -442,11 +457,7 @@ fn add_permissions(
             2 => WRITE,
             _ => random.between(READ, WRITE),
         };
-        let fits = match mode {
-            READ => dominance.over(home, label),
-            _ => dominance.over(label, home),
-        };
-        if fits || random.percent(stray) {
+        if suits(&dominance, home, label, mode) || random.percent(stray) {
             permissions.insert((role, card, mode));
         }
         // At its home's label a role may do both.
@@ -456,6 +467,14 @@ fn add_permissions(
         }
     }
     file.permissions = permissions.into_iter().collect();
+}
+
+/// Whether a role with this home may use cards of the label in this mode.
+fn suits(dominance: &Order, home: usize, label: usize, mode: usize) -> bool {
+    match mode {
+        READ => dominance.over(home, label),
+        _ => dominance.over(label, home),
+    }
 }
 
 /// Adds at most this many A lines, all of them good.
@@ -520,6 +539,44 @@ pub fn sparse_flow(random: &mut Random) -> RoleFile {
     let most_roles = random.pick(&[4, 8, 8, 20, 128]);
     let roles = random.between(2, most_roles);
     let names = random.shuffled(roles);
+    let flows = few_flows(random, roles);
+    let labels = random.pick(&[1, 1, 2, 5]);
+    let home = random.between(1, labels);
+    let scatter = random.pick(&[0, 0, 10]);
+    let mut file = RoleFile {
+        counts: Counts {
+            labels,
+            roles,
+            users: random.below(6),
+            cards: flows.len() + random.below(3),
+        },
+        dominance: label_order(random, labels),
+        ..RoleFile::default()
+    };
+    file.counts.cards = file.counts.cards.min(LIMITS[3]);
+    add_labels(random, &mut file, |random| {
+        if random.percent(scatter) {
+            random.between(1, labels)
+        } else {
+            home
+        }
+    });
+    if random.percent(25) {
+        file.seniority = role_seniority(random, roles, 3);
+    }
+    let cards = random.shuffled(file.counts.cards);
+    for (&(from, to), &card) in flows.iter().zip(&cards) {
+        file.permissions.push((names[from], card, WRITE));
+        file.permissions.push((names[to], card, READ));
+    }
+    arrange(&mut file);
+    add_assignments(random, &mut file, 12);
+    file
+}
+
+/// Flows between roles, which are numbered from 0 here: few for each role, at
+/// most one ring of them, and as many as there can be cards.
+fn few_flows(random: &mut Random, roles: usize) -> Vec<(usize, usize)> {
     let mut flows = Vec::new();
     for _ in 0..random.below(roles + roles / 2) {
         let from = random.below(roles - 1);
@@ -536,45 +593,7 @@ pub fn sparse_flow(random: &mut Random) -> RoleFile {
         flows.push((role, role));
     }
     flows.truncate(LIMITS[3]);
-
-    let labels = random.pick(&[1, 1, 2, 5]);
-    let home = random.between(1, labels);
-    let scatter = random.pick(&[0, 0, 10]);
-    let mut file = RoleFile {
-        counts: Counts {
-            labels,
-            roles,
-            users: random.below(6),
-            cards: flows.len() + random.below(3),
-        },
-        dominance: label_order(random, labels),
-        ..RoleFile::default()
-    };
-    file.counts.cards = file.counts.cards.min(LIMITS[3]);
-    let label = |random: &mut Random| {
-        if random.percent(scatter) {
-            random.between(1, labels)
-        } else {
-            home
-        }
-    };
-    file.clearances = (1..=file.counts.users)
-        .map(|user| (user, label(random)))
-        .collect();
-    file.card_labels = (1..=file.counts.cards)
-        .map(|card| (card, label(random)))
-        .collect();
-    if random.percent(25) {
-        file.seniority = role_seniority(random, roles, 3);
-    }
-    let cards = random.shuffled(file.counts.cards);
-    for (&(from, to), &card) in flows.iter().zip(&cards) {
-        file.permissions.push((names[from], card, WRITE));
-        file.permissions.push((names[to], card, READ));
-    }
-    arrange(&mut file);
-    add_assignments(random, &mut file, 12);
-    file
+    flows
 }
 
 /// A size for a file that is to be damaged: mostly small.
@@ -644,62 +663,67 @@ fn bend_length(random: &mut Random, mut bytes: Vec<u8>) -> Vec<u8> {
     bytes
 }
 
+/// Bytes that some reader may take for a line's end.
+const LIKE_AN_END: &[u8] = b"\r \x00\x0b\x8a";
+
+// How many kinds of wrong bytes there are.
+const WRONG_BLANKS: usize = LIKE_A_BLANK.len() * 3;
+const WRONG_ENDS: usize = LIKE_AN_END.len();
+const WRONG_DIGITS: usize = 7;
+const WRONG_LETTERS: usize = 4;
+
 /// An accepted file with one wrong byte, so that it gets number 2. The steps go
 /// through the kinds of places and the bytes in turn.
 pub fn one_wrong_byte(random: &mut Random, step: usize) -> Vec<u8> {
-    const ENDS: &[u8] = b"\r \x00\x0b\x8a";
-    const DIGITS: usize = 7;
-    const LETTERS: usize = 4;
-    let kinds = LIKE_A_BLANK.len() * 3 + ENDS.len() + DIGITS + LETTERS;
+    let kinds = WRONG_BLANKS + WRONG_ENDS + WRONG_DIGITS + WRONG_LETTERS;
     loop {
         let size = small_size(random);
         let mut lines = split(&write(&accepted(random, size)));
         let place = random.place(0, lines.len());
-        let line = &mut lines[place];
-        let used = fields_in_use(line);
-        let field = columns(random.below(used));
-        let blanks = line[field.clone()]
-            .iter()
-            .take_while(|byte| **byte == b' ')
-            .count();
-        let mut kind = step % kinds;
-        if kind < LIKE_A_BLANK.len() * 3 {
-            // In place of the last blank before a number, of its first blank,
-            // or of a blank in a field without use.
-            let column = match kind % 3 {
-                0 => field.start + blanks - 1,
-                1 => field.start,
-                _ => (1 + 5 * used + random.below(5)).min(LINE_LENGTH - 2),
-            };
-            line[column] = LIKE_A_BLANK[kind / 3];
-        } else {
-            kind -= LIKE_A_BLANK.len() * 3;
-            if kind < ENDS.len() {
-                line[LINE_LENGTH - 1] = ENDS[kind];
-            } else if kind < ENDS.len() + DIGITS {
-                let column = random.between(field.start + blanks, field.end - 1);
-                let digit = line[column];
-                let others = [
-                    b'/',
-                    b':',
-                    digit | 0x80,
-                    digit & 0x0f,
-                    digit ^ 0x40,
-                    b' ',
-                    b'O',
-                ];
-                line[column] = others[kind - ENDS.len()];
-            } else {
-                let letter = line[0];
-                let others = [letter | 0x20, letter | 0x80, letter & 0x1f, b' '];
-                line[0] = others[kind - ENDS.len() - DIGITS];
-            }
-        }
+        put_wrong_byte(random, &mut lines[place], step % kinds);
         let bytes = lines.concat();
         if check(&bytes).number() == 2 {
             return bytes;
         }
     }
+}
+
+/// Puts a wrong byte of this kind in a line.
+fn put_wrong_byte(random: &mut Random, line: &mut [u8], mut kind: usize) {
+    let used = fields_in_use(line);
+    let field = columns(random.below(used));
+    let blanks = leading_blanks(&line[field.clone()]);
+    if kind < WRONG_BLANKS {
+        // In place of the last blank before a number, of its first blank,
+        // or of a blank in a field without use.
+        let column = match kind % 3 {
+            0 => field.start + blanks - 1,
+            1 => field.start,
+            _ => (1 + 5 * used + random.below(5)).min(LINE_LENGTH - 2),
+        };
+        line[column] = LIKE_A_BLANK[kind / 3];
+        return;
+    }
+    kind -= WRONG_BLANKS;
+    if kind < WRONG_ENDS {
+        line[LINE_LENGTH - 1] = LIKE_AN_END[kind];
+        return;
+    }
+    kind -= WRONG_ENDS;
+    if kind < WRONG_DIGITS {
+        let column = random.between(field.start + blanks, field.end - 1);
+        let [a, b, c, d, e] = like_a_digit(line[column]);
+        line[column] = [a, b, c, d, e, b' ', b'O'][kind];
+        return;
+    }
+    let letter = line[0];
+    let others: [u8; WRONG_LETTERS] = [letter | 0x20, letter | 0x80, letter & 0x1f, b' '];
+    line[0] = others[kind - WRONG_DIGITS];
+}
+
+/// Bytes that some reader may take for this digit.
+fn like_a_digit(digit: u8) -> [u8; 5] {
+    [b'/', b':', digit | 0x80, digit & 0x0f, digit ^ 0x40]
 }
 
 /// Several rules broken in one file; the first by the document's order counts.
@@ -818,73 +842,53 @@ fn bend_bounds(random: &mut Random, file: &mut RoleFile) {
                 }
             }
         }
-        // Two labels with two upper bounds of which none is least, under one
-        // top; the others between, below or beside.
-        2 if labels >= 5 => {
-            let (top, one, other) = (names[0], names[1], names[2]);
-            let (left, right) = (names[3], names[4]);
-            let mut pairs = vec![(top, one), (top, other)];
-            for lower in [left, right] {
-                pairs.extend([(one, lower), (other, lower)]);
-            }
-            for index in 5..labels {
-                let upper = random.below(index);
-                pairs.push((names[upper], names[index]));
-            }
-            file.dominance = pairs;
-        }
-        // An order without any plan, with a top or not.
-        _ => {
-            let chance = random.between(5, 50);
-            let top = random.percent(70);
-            file.dominance.clear();
-            for lower in 0..labels {
-                for upper in 0..lower {
-                    if random.percent(chance) || (top && upper == 0) {
-                        file.dominance.push((names[upper], names[lower]));
-                    }
-                }
+        2 if labels >= 5 => file.dominance = two_upper_bounds(random, &names),
+        _ => file.dominance = order_without_plan(random, &names),
+    }
+}
+
+/// D lines: two labels with two upper bounds of which none is least, under one
+/// top; the others between, below or beside.
+fn two_upper_bounds(random: &mut Random, names: &[usize]) -> Vec<(usize, usize)> {
+    let (top, one, other) = (names[0], names[1], names[2]);
+    let (left, right) = (names[3], names[4]);
+    let mut pairs = vec![(top, one), (top, other)];
+    for lower in [left, right] {
+        pairs.extend([(one, lower), (other, lower)]);
+    }
+    for index in 5..names.len() {
+        let upper = random.below(index);
+        pairs.push((names[upper], names[index]));
+    }
+    pairs
+}
+
+/// D lines of any order, with a top or not.
+fn order_without_plan(random: &mut Random, names: &[usize]) -> Vec<(usize, usize)> {
+    let chance = random.between(5, 50);
+    let top = random.percent(70);
+    let mut pairs = Vec::new();
+    for lower in 0..names.len() {
+        for upper in 0..lower {
+            if random.percent(chance) || (top && upper == 0) {
+                pairs.push((names[upper], names[lower]));
             }
         }
     }
+    pairs
 }
 
 /// An assignment that gets 14, 15 or 16.
 fn bend_assignments(random: &mut Random, file: &mut RoleFile, number: usize) {
     let counts = file.counts;
-    if counts.users == 0 || counts.roles == 0 || file.card_labels.is_empty() {
+    if counts.users == 0 || counts.roles == 0 || counts.cards == 0 {
         return;
     }
-    // Only a file whose orders are still good can be judged further.
-    if file.clearances.len() != counts.users
-        || file.card_labels.len() != counts.cards
-        || check(&write(file)).number() != 0
-    {
+    // Only a file that is still good can be judged further.
+    if check(&write(file)).number() != 0 {
         return;
     }
-    match random.below(4) {
-        // Another clearance for a user.
-        0 => {
-            let index = random.place(0, file.clearances.len());
-            file.clearances[index].1 = random.between(1, counts.labels);
-        }
-        // Another label for a card.
-        1 => {
-            let index = random.place(0, file.card_labels.len());
-            file.card_labels[index].1 = random.between(1, counts.labels);
-        }
-        // More permissions for a role, and with it for its seniors.
-        2 => {
-            let role = random.between(1, counts.roles);
-            let mode = if number == 15 { READ } else { WRITE };
-            for _ in 0..random.between(1, 3) {
-                let card = random.between(1, counts.cards);
-                file.permissions.push((role, card, mode));
-            }
-            arrange(file);
-        }
-        _ => {}
-    }
+    bend_levels(random, file, number);
     let meaning = Meaning::of(file);
     let assigned_with = |wanted: usize| {
         file.assignments
@@ -916,6 +920,34 @@ fn bend_assignments(random: &mut Random, file: &mut RoleFile, number: usize) {
     }
 }
 
+/// Changes what an assignment is judged by, so that one may get this number.
+fn bend_levels(random: &mut Random, file: &mut RoleFile, number: usize) {
+    let counts = file.counts;
+    match random.below(4) {
+        // Another clearance for a user.
+        0 => {
+            let index = random.place(0, file.clearances.len());
+            file.clearances[index].1 = random.between(1, counts.labels);
+        }
+        // Another label for a card.
+        1 => {
+            let index = random.place(0, file.card_labels.len());
+            file.card_labels[index].1 = random.between(1, counts.labels);
+        }
+        // More permissions for a role, and with it for its seniors.
+        2 => {
+            let role = random.between(1, counts.roles);
+            let mode = if number == 15 { READ } else { WRITE };
+            for _ in 0..random.between(1, 3) {
+                let card = random.between(1, counts.cards);
+                file.permissions.push((role, card, mode));
+            }
+            arrange(file);
+        }
+        _ => {}
+    }
+}
+
 /// The assignments that would get this number; 0 are the good ones.
 pub fn assignments_with(file: &RoleFile, number: usize) -> Vec<(usize, usize)> {
     let meaning = Meaning::of(file);
@@ -943,7 +975,7 @@ fn split(bytes: &[u8]) -> Vec<Vec<u8>> {
 }
 
 /// The columns of field 0 to 3.
-fn columns(field: usize) -> std::ops::Range<usize> {
+fn columns(field: usize) -> Range<usize> {
     1 + 5 * field..6 + 5 * field
 }
 
@@ -1007,7 +1039,7 @@ const LIKE_A_BLANK: &[u8] = b"\t\x00\n\r\x0b\x0c\x1f!\xa00+-.,_";
 fn bend_used_field(random: &mut Random, line: &mut [u8]) {
     let field = random.below(fields_in_use(line));
     let field = &mut line[columns(field)];
-    let blanks = field.iter().take_while(|byte| **byte == b' ').count();
+    let blanks = leading_blanks(field);
     let some_blanks = (1..5).contains(&blanks);
     match random.below(12) {
         // Not right-justified.
@@ -1034,25 +1066,24 @@ fn bend_used_field(random: &mut Random, line: &mut [u8]) {
         7 => {
             field.copy_from_slice(random.pick(&[b"   00", b"00000", b"    -", b"1   1", b"   0x"]))
         }
-        // Another byte in place of a digit.
         _ => {
             let column = if some_blanks {
                 random.between(blanks, 4)
             } else {
                 random.below(5)
             };
-            let digit = field[column];
-            field[column] = match random.below(8) {
-                0 => b'/',
-                1 => b':',
-                2 => digit | 0x80,
-                3 => digit & 0x0f,
-                4 => digit ^ 0x40,
-                5 => b'\n',
-                6 => b' ',
-                _ => random.byte(),
-            };
+            field[column] = instead_of_digit(random, field[column]);
         }
+    }
+}
+
+/// Another byte in place of a digit.
+fn instead_of_digit(random: &mut Random, digit: u8) -> u8 {
+    match random.below(8) {
+        5 => b'\n',
+        6 => b' ',
+        7 => random.byte(),
+        index => like_a_digit(digit)[index],
     }
 }
 
@@ -1163,48 +1194,52 @@ fn bend_order(random: &mut Random, lines: &mut Vec<Vec<u8>>) {
         // Neighbours changed over, or any two lines.
         3 if place + 1 < lines.len() => lines.swap(place, place + 1),
         3 | 4 => lines.swap(place, other),
-        // A line followed by one that falls in its last field, or in an earlier
-        // field although the last one rises.
-        7 | 8 => {
-            let used = fields_in_use(&lines[place]);
-            let falling = if random.percent(60) {
-                used - 1
-            } else {
-                random.below(used)
-            };
-            let mut next = lines[place].clone();
-            let number = number_in(&next, falling);
-            if number <= 1 {
-                put_number(&mut lines[place], falling, 2);
-            } else {
-                put_number(&mut next, falling, number - 1);
-            }
-            for field in falling + 1..used {
-                let number = number_in(&next, field);
-                put_number(&mut next, field, number + random.below(2));
-            }
-            insert_after(lines, place, next);
-        }
+        7 | 8 => insert_falling_line(random, lines, place),
         // A line put elsewhere.
         5 => {
             let line = lines.remove(place);
             let target = random.between(1, lines.len());
             lines.insert(target, line);
         }
-        // All lines of a letter put elsewhere or turned round.
-        _ => {
-            let letter = lines[place][0];
-            let (mut moved, mut rest): (Vec<_>, Vec<_>) =
-                lines.drain(..).partition(|line| line[0] == letter);
-            let mut target = random.between(1, rest.len());
-            if random.percent(50) {
-                moved.reverse();
-                target = rest.len();
-            }
-            rest.splice(target..target, moved);
-            *lines = rest;
-        }
+        _ => move_letter(random, lines, place),
     }
+}
+
+/// Puts after a line one that falls in its last field, or in an earlier field
+/// although the last one rises.
+fn insert_falling_line(random: &mut Random, lines: &mut Vec<Vec<u8>>, place: usize) {
+    let used = fields_in_use(&lines[place]);
+    let falling = if random.percent(60) {
+        used - 1
+    } else {
+        random.below(used)
+    };
+    let mut next = lines[place].clone();
+    let number = number_in(&next, falling);
+    if number <= 1 {
+        put_number(&mut lines[place], falling, 2);
+    } else {
+        put_number(&mut next, falling, number - 1);
+    }
+    for field in falling + 1..used {
+        let number = number_in(&next, field);
+        put_number(&mut next, field, number + random.below(2));
+    }
+    insert_after(lines, place, next);
+}
+
+/// Puts all lines of a line's letter elsewhere, or turned round at the end.
+fn move_letter(random: &mut Random, lines: &mut Vec<Vec<u8>>, place: usize) {
+    let letter = lines[place][0];
+    let (mut moved, mut rest): (Vec<_>, Vec<_>) =
+        lines.drain(..).partition(|line| line[0] == letter);
+    let mut target = random.between(1, rest.len());
+    if random.percent(50) {
+        moved.reverse();
+        target = rest.len();
+    }
+    rest.splice(target..target, moved);
+    *lines = rest;
 }
 
 /// Puts a line after the one at a place; the last line goes where there is no
@@ -1234,51 +1269,8 @@ pub fn loose(random: &mut Random) -> RoleFile {
         counts,
         ..RoleFile::default()
     };
-    // Most orders lead from lower to higher numbers or the other way.
-    let turned = random.percent(50);
-    let wild = random.pick(&[0, 0, 0, 5, 30]);
-    let pairs = |random: &mut Random, size: usize, most: usize| {
-        let mut pairs = Vec::new();
-        for _ in 0..random.below(most + 1) {
-            let (one, other) = (random.between(1, size), random.between(1, size));
-            let (low, high) = (one.min(other), one.max(other));
-            if random.percent(wild) {
-                pairs.push((one, other));
-            } else if low != high {
-                pairs.push(if turned { (low, high) } else { (high, low) });
-            }
-        }
-        pairs
-    };
-    file.dominance = pairs(random, counts.labels, counts.labels * 3);
-    if random.percent(60) {
-        // A top makes least upper bounds more likely.
-        let top = if turned { 1 } else { counts.labels };
-        file.dominance.extend(
-            (1..=counts.labels)
-                .filter(|&label| label != top)
-                .map(|label| (top, label)),
-        );
-    }
-    if counts.roles > 0 {
-        file.seniority = pairs(random, counts.roles, counts.roles + 2);
-    }
-    let careless = random.pick(&[0, 0, 0, 10]);
-    for (count, lines) in [
-        (counts.users, &mut file.clearances),
-        (counts.cards, &mut file.card_labels),
-    ] {
-        for thing in 1..=count {
-            let times = if random.percent(careless) {
-                random.below(3)
-            } else {
-                1
-            };
-            for _ in 0..times {
-                lines.push((thing, random.between(1, counts.labels)));
-            }
-        }
-    }
+    add_loose_orders(random, &mut file);
+    add_loose_labels(random, &mut file);
     if counts.roles > 0 && counts.cards > 0 {
         for _ in 0..random.below(scale * 3) {
             file.permissions.push((
@@ -1299,6 +1291,58 @@ pub fn loose(random: &mut Random) -> RoleFile {
     }
     arrange(&mut file);
     file
+}
+
+/// D and S lines. Most orders lead from lower to higher numbers or the other
+/// way.
+fn add_loose_orders(random: &mut Random, file: &mut RoleFile) {
+    let Counts { labels, roles, .. } = file.counts;
+    let turned = random.percent(50);
+    let wild = random.pick(&[0, 0, 0, 5, 30]);
+    let pairs = |random: &mut Random, size: usize, most: usize| {
+        let mut pairs = Vec::new();
+        for _ in 0..random.below(most + 1) {
+            let (one, other) = (random.between(1, size), random.between(1, size));
+            let (low, high) = (one.min(other), one.max(other));
+            if random.percent(wild) {
+                pairs.push((one, other));
+            } else if low != high {
+                pairs.push(if turned { (low, high) } else { (high, low) });
+            }
+        }
+        pairs
+    };
+    file.dominance = pairs(random, labels, labels * 3);
+    if random.percent(60) {
+        // A top makes least upper bounds more likely.
+        let top = if turned { 1 } else { labels };
+        let others = (1..=labels).filter(|&label| label != top);
+        file.dominance.extend(others.map(|label| (top, label)));
+    }
+    if roles > 0 {
+        file.seniority = pairs(random, roles, roles + 2);
+    }
+}
+
+/// U and O lines; in some files a user or card may have none or two.
+fn add_loose_labels(random: &mut Random, file: &mut RoleFile) {
+    let counts = file.counts;
+    let careless = random.pick(&[0, 0, 0, 10]);
+    for (count, lines) in [
+        (counts.users, &mut file.clearances),
+        (counts.cards, &mut file.card_labels),
+    ] {
+        for thing in 1..=count {
+            let times = if random.percent(careless) {
+                random.below(3)
+            } else {
+                1
+            };
+            for _ in 0..times {
+                lines.push((thing, random.between(1, counts.labels)));
+            }
+        }
+    }
 }
 
 // ---------------------------------------------------------------------------
@@ -1409,10 +1453,9 @@ fn tear(random: &mut Random, bytes: &mut Vec<u8>) {
         return;
     }
     let length = bytes.len();
-    let lines = length / LINE_LENGTH;
     let at = random.place(0, length);
-    let line = random.place(0, lines);
-    let start = line * LINE_LENGTH;
+    let lines = length / LINE_LENGTH;
+    let start = random.place(0, lines) * LINE_LENGTH;
     match random.below(22) {
         0 | 1 => bytes[at] ^= 1 << random.below(8),
         2 => bytes[at] = random.byte(),
@@ -1420,78 +1463,75 @@ fn tear(random: &mut Random, bytes: &mut Vec<u8>) {
         // Cut at any byte, at a line's end, or at the front.
         4 => bytes.truncate(at),
         5 | 6 => bytes.truncate(start),
-        7 => {
-            bytes.drain(..at);
-        }
-        8 => {
-            bytes.drain(..start);
-        }
+        7 => lose(bytes, 0..at),
+        8 => lose(bytes, 0..start),
         9 => bytes.insert(at, random.byte()),
-        10 => {
-            bytes.remove(at);
-        }
+        10 => lose(bytes, at..at + 1),
         // A line doubled, two lines changed over, a line deleted.
-        11 => {
-            let doubled = bytes[start..start + LINE_LENGTH].to_vec();
-            bytes.splice(start..start, doubled);
-        }
-        12 => {
-            let other = random.place(0, lines) * LINE_LENGTH;
-            for column in 0..LINE_LENGTH {
-                bytes.swap(start + column, other + column);
-            }
-        }
-        13 | 14 => {
-            bytes.drain(start..start + LINE_LENGTH);
-        }
-        // Blanks and digits moved within a field; leading zeros.
-        15 => {
-            let field = columns(random.below(4));
-            bytes[start + field.start..start + field.end].rotate_left(random.between(1, 4));
-        }
-        16 => {
-            let field = columns(random.below(4));
-            for column in &mut bytes[start + field.start..start + field.end] {
-                if *column == b' ' {
-                    *column = b'0';
-                }
-            }
-        }
+        11 => double_line(bytes, start),
+        12 => swap_lines(bytes, start, random.place(0, lines) * LINE_LENGTH),
+        13 | 14 => lose(bytes, start..start + LINE_LENGTH),
+        15 => shift_field(random, &mut bytes[start..]),
+        16 => put_zeros(random, &mut bytes[start..]),
         // Another letter.
         17 => bytes[start] = random.pick(b"HDSUOPAhdsuopaVRFC"),
-        // CR instead of LF, on one line or on all; CR before each LF.
         18 => bytes[start + LINE_LENGTH - 1] = b'\r',
-        19 => match random.below(3) {
-            0 => bytes
-                .iter_mut()
-                .filter(|byte| **byte == b'\n')
-                .for_each(|byte| *byte = b'\r'),
-            1 => {
-                *bytes = bytes
-                    .iter()
-                    .flat_map(|&byte| {
-                        if byte == b'\n' {
-                            vec![b'\r', b'\n']
-                        } else {
-                            vec![byte]
-                        }
-                    })
-                    .collect();
-            }
-            _ => bytes.retain(|&byte| byte != b'\n'),
-        },
+        19 => change_line_ends(random, bytes),
         // A run of bytes overwritten, or a stretch lost.
-        20 => {
-            let run = random.between(1, 60).min(length - at);
-            for byte in &mut bytes[at..at + run] {
-                *byte = random.byte();
-            }
-        }
+        20 => overwrite(random, &mut bytes[at..]),
         _ => {
             let end = (at + random.between(1, 80)).min(length);
-            bytes.drain(at..end);
+            lose(bytes, at..end);
         }
     }
+}
+
+fn lose(bytes: &mut Vec<u8>, range: Range<usize>) {
+    bytes.drain(range);
+}
+
+fn double_line(bytes: &mut Vec<u8>, start: usize) {
+    let doubled = bytes[start..start + LINE_LENGTH].to_vec();
+    bytes.splice(start..start, doubled);
+}
+
+fn swap_lines(bytes: &mut [u8], start: usize, other: usize) {
+    for column in 0..LINE_LENGTH {
+        bytes.swap(start + column, other + column);
+    }
+}
+
+/// Puts any bytes over the first ones.
+fn overwrite(random: &mut Random, bytes: &mut [u8]) {
+    let run = random.between(1, 60).min(bytes.len());
+    for byte in &mut bytes[..run] {
+        *byte = random.byte();
+    }
+}
+
+/// Moves blanks and digits within a field of a line.
+fn shift_field(random: &mut Random, line: &mut [u8]) {
+    let field = columns(random.below(4));
+    line[field].rotate_left(random.between(1, 4));
+}
+
+/// Puts leading zeros in a field of a line.
+fn put_zeros(random: &mut Random, line: &mut [u8]) {
+    let field = columns(random.below(4));
+    for column in line[field].iter_mut().filter(|column| **column == b' ') {
+        *column = b'0';
+    }
+}
+
+/// CR instead of each LF, CR before each LF, or no LF.
+fn change_line_ends(random: &mut Random, bytes: &mut Vec<u8>) {
+    let end: &[u8] = match random.below(3) {
+        0 => b"\r",
+        1 => b"\r\n",
+        _ => b"",
+    };
+    let lines: Vec<&[u8]> = bytes.split(|&byte| byte == b'\n').collect();
+    *bytes = lines.join(end);
 }
 
 #[cfg(test)]
