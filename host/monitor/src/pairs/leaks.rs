@@ -64,7 +64,7 @@ impl Monitor for Leaky {
             (Leak::WriteLevel, Call::Load { file }, _) => self.load(file),
             (Leak::WriteLevel, &Call::Take { place, role }, 28) => {
                 self.take(place, role, |policy, role, session| {
-                    policy.read_level_allows(role, session.label)
+                    policy.meaning.read_level_allows(role, session.label)
                 })
             }
             (Leak::Clearance, &Call::Take { place, role }, 28) => {
