@@ -565,10 +565,7 @@ pub fn sparse_flow(random: &mut Random) -> RoleFile {
         file.seniority = role_seniority(random, roles, 3);
     }
     let cards = random.shuffled(file.counts.cards);
-    for (&(from, to), &card) in flows.iter().zip(&cards) {
-        file.permissions.push((names[from], card, WRITE));
-        file.permissions.push((names[to], card, READ));
-    }
+    file.permissions = flow_permissions(&flows, &names, cards);
     arrange(&mut file);
     add_assignments(random, &mut file, 12);
     file
@@ -586,7 +583,7 @@ fn few_flows(random: &mut Random, roles: usize) -> Vec<(usize, usize)> {
     let ring = random.pick(&[0, 0, 2, 3, 4, 5, roles]);
     if (2..=roles).contains(&ring) {
         let start = random.below(roles - ring + 1);
-        flows.extend((0..ring).map(|step| (start + step, start + (step + 1) % ring)));
+        flows.extend(flow_ring(start, ring));
     }
     for _ in 0..random.below(3) {
         let role = random.below(roles);
@@ -594,6 +591,26 @@ fn few_flows(random: &mut Random, roles: usize) -> Vec<(usize, usize)> {
     }
     flows.truncate(LIMITS[3]);
     flows
+}
+
+/// A ring of flows through so many roles from a first one on.
+pub fn flow_ring(start: usize, length: usize) -> impl Iterator<Item = (usize, usize)> {
+    (0..length).map(move |step| (start + step, start + (step + 1) % length))
+}
+
+/// P lines by which roles flow, a card for each flow; `names` has the number of
+/// each role.
+pub fn flow_permissions(
+    flows: &[(usize, usize)],
+    names: &[usize],
+    cards: impl IntoIterator<Item = usize>,
+) -> Vec<(usize, usize, usize)> {
+    let mut permissions = Vec::new();
+    for (&(from, to), card) in flows.iter().zip(cards) {
+        permissions.push((names[from], card, WRITE));
+        permissions.push((names[to], card, READ));
+    }
+    permissions
 }
 
 /// A size for a file that is to be damaged: mostly small.

@@ -46,6 +46,29 @@ fn refused(file: &[u8]) -> String {
     String::from_utf8(refusal::text(file, &verdict)).expect("bytes to show")
 }
 
+/// The text of a graph: what labels, roles and flows it has.
+fn drawn(labels: &[&str], roles: &[&str], flows: &[&str]) -> String {
+    let lines = |lines: &[&str]| -> String {
+        let lines = lines.iter().map(|line| format!("    {line};\n"));
+        lines.collect()
+    };
+    let (labels, roles, flows) = (lines(labels), lines(roles), lines(flows));
+    format!(
+        "\
+digraph policy {{
+  rankdir=BT; ranksep=0.8; nodesep=0.15;
+  node [shape=box, fontname=\"sans-serif\", fontsize=10, width=0.35, height=0.25, margin=0.05];
+  edge [arrowsize=0.6];
+  subgraph cluster_labels {{ label=\"labels\"; edge [arrowhead=none];
+{labels}  }}
+  subgraph cluster_roles {{ label=\"roles\"; edge [arrowhead=none];
+{roles}    edge [arrowhead=normal, style=dashed, color=blue, constraint=false];
+{flows}  }}
+}}
+"
+    )
+}
+
 #[test]
 fn lists() {
     for (numbers, text) in [
@@ -83,24 +106,11 @@ no user     takes      none
     );
     assert_eq!(
         graph::text(&policy),
-        "\
-digraph policy {
-  rankdir=BT; ranksep=0.8; nodesep=0.15;
-  node [shape=box, fontname=\"sans-serif\", fontsize=10, width=0.35, height=0.25, margin=0.05];
-  edge [arrowsize=0.6];
-  subgraph cluster_labels { label=\"labels\"; edge [arrowhead=none];
-    l1 [label=\"1\"];
-    l2 [label=\"2\"];
-    l1 -> l2;
-  }
-  subgraph cluster_roles { label=\"roles\"; edge [arrowhead=none];
-    r1 [label=\"1\"];
-    r2 [label=\"2\"];
-    r1 -> r2;
-    edge [arrowhead=normal, style=dashed, color=blue, constraint=false];
-  }
-}
-"
+        drawn(
+            &["l1 [label=\"1\"]", "l2 [label=\"2\"]", "l1 -> l2"],
+            &["r1 [label=\"1\"]", "r2 [label=\"2\"]", "r1 -> r2"],
+            &[],
+        )
     );
 }
 
@@ -145,34 +155,27 @@ no user     takes      4
     // that to 3 is one to role 2.
     assert_eq!(
         graph::text(&policy),
-        "\
-digraph policy {
-  rankdir=BT; ranksep=0.8; nodesep=0.15;
-  node [shape=box, fontname=\"sans-serif\", fontsize=10, width=0.35, height=0.25, margin=0.05];
-  edge [arrowsize=0.6];
-  subgraph cluster_labels { label=\"labels\"; edge [arrowhead=none];
-    l1 [label=\"1\"];
-    l2 [label=\"2\"];
-    l3 [label=\"3\"];
-    l4 [label=\"4\"];
-    l1 -> l2;
-    l1 -> l3;
-    l2 -> l4;
-    l3 -> l4;
-  }
-  subgraph cluster_roles { label=\"roles\"; edge [arrowhead=none];
-    r1 [label=\"1\"];
-    r2 [label=\"2\", color=red];
-    r3 [label=\"3\", color=red];
-    r4 [label=\"4\", color=red];
-    r1 -> r2;
-    r2 -> r3;
-    edge [arrowhead=normal, style=dashed, color=blue, constraint=false];
-    r1 -> r4;
-    r4 -> r2 [color=red];
-  }
-}
-"
+        drawn(
+            &[
+                "l1 [label=\"1\"]",
+                "l2 [label=\"2\"]",
+                "l3 [label=\"3\"]",
+                "l4 [label=\"4\"]",
+                "l1 -> l2",
+                "l1 -> l3",
+                "l2 -> l4",
+                "l3 -> l4"
+            ],
+            &[
+                "r1 [label=\"1\"]",
+                "r2 [label=\"2\", color=red]",
+                "r3 [label=\"3\", color=red]",
+                "r4 [label=\"4\", color=red]",
+                "r1 -> r2",
+                "r2 -> r3"
+            ],
+            &["r1 -> r4", "r4 -> r2 [color=red]"],
+        )
     );
 }
 
@@ -186,19 +189,7 @@ fn only_counts() {
     );
     assert_eq!(
         graph::text(&policy),
-        "\
-digraph policy {
-  rankdir=BT; ranksep=0.8; nodesep=0.15;
-  node [shape=box, fontname=\"sans-serif\", fontsize=10, width=0.35, height=0.25, margin=0.05];
-  edge [arrowsize=0.6];
-  subgraph cluster_labels { label=\"labels\"; edge [arrowhead=none];
-    l1 [label=\"1\"];
-  }
-  subgraph cluster_roles { label=\"roles\"; edge [arrowhead=none];
-    edge [arrowhead=normal, style=dashed, color=blue, constraint=false];
-  }
-}
-"
+        drawn(&["l1 [label=\"1\"]"], &[], &[])
     );
 }
 
