@@ -117,9 +117,7 @@ no user     takes      none
 #[test]
 fn crossed() {
     let policy = policy(CROSSED);
-    assert_eq!(
-        report::text(&policy, &[2, 1, 2]),
-        "\
+    let user_2 = "\
 user     2  clearance  3
             assigned   none
             inherited  none
@@ -129,7 +127,12 @@ label    1  takes      none
 label    3  takes      none
             reads      none
             writes     none
-
+";
+    assert_eq!(
+        report::text(&policy, &[2, 1, 2]),
+        format!(
+            "\
+{user_2}
 user     1  clearance  1
             assigned   3
             inherited  1-2
@@ -137,19 +140,11 @@ label    1  takes      1-3
             reads      2
             writes     1
 
-user     2  clearance  3
-            assigned   none
-            inherited  none
-label    1  takes      none
-            reads      none
-            writes     none
-label    3  takes      none
-            reads      none
-            writes     none
-
+{user_2}
 no user     takes      4
             reads      1 3
 "
+        )
     );
     // Flows: 1, 2 and 3 to 4, 4 to 2 and 3; those of 2 and 3 are role 1's, and
     // that to 3 is one to role 2.
@@ -187,10 +182,7 @@ fn only_counts() {
         report::text(&policy, &[]),
         "no user     takes      none\n            reads      none\n"
     );
-    assert_eq!(
-        graph::text(&policy),
-        drawn(&["l1 [label=\"1\"]"], &[], &[])
-    );
+    assert_eq!(graph::text(&policy), drawn(&["l1 [label=\"1\"]"], &[], &[]));
 }
 
 #[test]
