@@ -37,7 +37,7 @@ fn accepted_file_of_any_size(random: &mut Random) -> Vec<u8> {
 
 /// A role file of any kind: accepted, bent or torn. Most are bent, each number
 /// as often as another: a refused load leaves the sessions open.
-pub fn any_file(random: &mut Random) -> Vec<u8> {
+fn any_file(random: &mut Random) -> Vec<u8> {
     let number = random.pick(&REFUSALS);
     match random.below(100) {
         0..=4 => accepted_file(random),

@@ -59,7 +59,7 @@ impl Policy {
     }
 
     /// "a label that the clearance dominates"
-    pub fn is_cleared(&self, user: usize, label: usize) -> bool {
+    fn is_cleared(&self, user: usize, label: usize) -> bool {
         let clearance = self.meaning.clearance[user];
         self.meaning.dominance.over(clearance, label)
     }

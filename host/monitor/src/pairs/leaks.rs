@@ -50,7 +50,7 @@ impl Leak {
 }
 
 /// A copy of the model with one leak.
-pub struct Leaky {
+struct Leaky {
     leak: Leak,
     model: Model,
     /// Roles that the next session at a place begins with.
@@ -89,7 +89,7 @@ impl Monitor for Leaky {
 }
 
 impl Leaky {
-    pub fn new(leak: Leak) -> Leaky {
+    fn new(leak: Leak) -> Leaky {
         Leaky {
             leak,
             model: Model::default(),
