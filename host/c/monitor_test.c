@@ -13,6 +13,8 @@
 
 #define STATE_BYTES 65536u
 #define CARD_BYTES 64u
+/* The store of a file with two cards. */
+#define STORE_BYTES (2 * CARD_BYTES)
 #define FARTHEST UINT64_MAX
 
 static unsigned passed;
@@ -97,12 +99,19 @@ static int all_bytes_are(const uint8_t *bytes, size_t length, int byte)
     return 1;
 }
 
-/* Loads a file from an allocation of its exact length. */
+/* An allocation of the text's exact length, or of a byte where it is empty. */
+static uint8_t *copy_of(const char *text)
+{
+    size_t length = strlen(text);
+    uint8_t *copy = bytes_of(length + (length == 0), 0);
+    memcpy(copy, text, length);
+    return copy;
+}
+
 static struct monitor_verdict load(const char *text, uint8_t *state)
 {
     size_t length = strlen(text);
-    uint8_t *file = bytes_of(length + (length == 0), 0);
-    memcpy(file, text, length);
+    uint8_t *file = copy_of(text);
     struct monitor_verdict answer =
         monitor_load(file, length, state, STATE_BYTES);
     check(memcmp(file, text, length) == 0, "a load only reads the file");
@@ -114,13 +123,25 @@ static uint64_t write_bytes(const uint8_t *state, uint8_t *store,
                             size_t store_len, uint64_t place, uint64_t card,
                             uint64_t offset, const char *text)
 {
-    size_t length = strlen(text);
-    uint8_t *bytes = bytes_of(length + (length == 0), 0);
-    memcpy(bytes, text, length);
+    uint8_t *bytes = copy_of(text);
     uint64_t answer = monitor_write(state, STATE_BYTES, store, store_len,
-                                    place, card, offset, bytes, length);
+                                    place, card, offset, bytes, strlen(text));
     free(bytes);
     return answer;
+}
+
+/* A read with the whole state and store. */
+static uint64_t read_number(const uint8_t *state, const uint8_t *store,
+                            uint64_t place, uint64_t card, uint64_t offset,
+                            uint64_t length)
+{
+    return monitor_read_number(state, STATE_BYTES, store, STORE_BYTES, place,
+                               card, offset, length);
+}
+
+static void accepted(const char *text, uint8_t *state, const char *what)
+{
+    verdict(load(text, state), 0, 0, 0, what);
 }
 
 /* Document 01's example file, with the lines that the cases change apart. */
@@ -198,37 +219,32 @@ static void files(void)
             13, 2, 0, "S 2 2: 13 at [2, 0]");
     check(all_bytes_are(state, STATE_BYTES, 0xa5),
           "refused loads leave every byte of the state");
-    verdict(load("H    1    0    0    0\n", state), 0, 0, 0,
-            "only H with counts 1 0 0 0: accepted");
-    verdict(load(cleared_to_1, state), 0, 0, 0,
-            "user 1 cleared to 1 instead: accepted");
-    verdict(load(example, state), 0, 0, 0, "the example: accepted");
+    accepted("H    1    0    0    0\n", state,
+             "only H with counts 1 0 0 0: accepted");
+    accepted(cleared_to_1, state, "user 1 cleared to 1 instead: accepted");
+    accepted(example, state, "the example: accepted");
     free(state);
 }
 
 /* "user 1 at label 1 takes role 2, writes card 2: 0, reads card 2: 29" */
 static void writing_up(const char *file, const char *name)
 {
-    size_t store_len = 2 * CARD_BYTES;
     uint8_t *state = bytes_of(STATE_BYTES, 0);
-    uint8_t *store = bytes_of(store_len, '.');
+    uint8_t *store = bytes_of(STORE_BYTES, '.');
     about = name;
-    verdict(load(file, state), 0, 0, 0, "the file is accepted");
+    accepted(file, state, "the file is accepted");
     number(monitor_open(state, STATE_BYTES, 1, 1, 1), 0,
            "user 1 opens place 1 at label 1");
     number(monitor_take(state, STATE_BYTES, 1, 2), 0, "takes role 2");
-    number(write_bytes(state, store, store_len, 1, 2, 0, "valve"), 0,
+    number(write_bytes(state, store, STORE_BYTES, 1, 2, 0, "valve"), 0,
            "writes card 2");
     check(all_bytes_are(store, CARD_BYTES, '.') &&
               memcmp(store + CARD_BYTES, "valve", 5) == 0 &&
               all_bytes_are(store + CARD_BYTES + 5, CARD_BYTES - 5, '.'),
           "the store holds the bytes and is else as it was");
-    number(monitor_read_number(state, STATE_BYTES, store, store_len, 1, 2, 0,
-                               5),
-           29, "reads card 2: 29");
-    number(monitor_read_number(state, STATE_BYTES, store, store_len, 1, 1, 0,
-                               64),
-           0, "reads card 1 by its junior role 1");
+    number(read_number(state, store, 1, 2, 0, 5), 29, "reads card 2: 29");
+    number(read_number(state, store, 1, 1, 0, 64), 0,
+           "reads card 1 by its junior role 1");
     free(state);
     free(store);
 }
@@ -236,9 +252,8 @@ static void writing_up(const char *file, const char *name)
 /* "offset 60, length 4: 0; length 5: 30; offset 64, length 0: 0" */
 static void offset_and_length(void)
 {
-    size_t store_len = 2 * CARD_BYTES;
     uint8_t *state = bytes_of(STATE_BYTES, 0);
-    uint8_t *store = bytes_of(store_len, '.');
+    uint8_t *store = bytes_of(STORE_BYTES, '.');
     static const struct {
         uint64_t offset, length, expected;
         const char *what;
@@ -253,27 +268,27 @@ static void offset_and_length(void)
          "read, offset 2^63, length 2^63: 30"},
     };
     about = "offset and length";
-    verdict(load(example, state), 0, 0, 0, "the example: accepted");
+    accepted(example, state, "the example: accepted");
     number(monitor_open(state, STATE_BYTES, 64, 1, 2), 0,
            "user 1 opens place 64 at label 2");
     number(monitor_take(state, STATE_BYTES, 64, 2), 0, "takes role 2");
     for (size_t at = 0; at < sizeof reads / sizeof reads[0]; at++) {
-        number(monitor_read_number(state, STATE_BYTES, store, store_len, 64, 1,
-                                   reads[at].offset, reads[at].length),
+        number(read_number(state, store, 64, 1, reads[at].offset,
+                           reads[at].length),
                reads[at].expected, reads[at].what);
     }
-    number(write_bytes(state, store, store_len, 64, 2, 60, "hose"), 0,
+    number(write_bytes(state, store, STORE_BYTES, 64, 2, 60, "hose"), 0,
            "write, offset 60, length 4: 0");
-    check(all_bytes_are(store, store_len - 4, '.') &&
-              memcmp(store + store_len - 4, "hose", 4) == 0,
+    check(all_bytes_are(store, STORE_BYTES - 4, '.') &&
+              memcmp(store + STORE_BYTES - 4, "hose", 4) == 0,
           "the last four bytes of card 2, no other");
-    number(write_bytes(state, store, store_len, 64, 2, 60, "HOSES"), 30,
+    number(write_bytes(state, store, STORE_BYTES, 64, 2, 60, "HOSES"), 30,
            "write, offset 60, length 5: 30");
-    number(write_bytes(state, store, store_len, 64, 2, 64, ""), 0,
+    number(write_bytes(state, store, STORE_BYTES, 64, 2, 64, ""), 0,
            "write, offset 64, length 0: 0");
-    number(write_bytes(state, store, store_len, 64, 2, FARTHEST, "X"), 30,
+    number(write_bytes(state, store, STORE_BYTES, 64, 2, FARTHEST, "X"), 30,
            "write, offset 2^64 - 1, length 1: 30");
-    check(memcmp(store + store_len - 4, "hose", 4) == 0,
+    check(memcmp(store + STORE_BYTES - 4, "hose", 4) == 0,
           "the store is as it was");
     free(state);
     free(store);
@@ -281,14 +296,13 @@ static void offset_and_length(void)
 
 static void opening_and_closing(void)
 {
-    size_t store_len = 2 * CARD_BYTES;
     uint8_t *state = bytes_of(STATE_BYTES, 0);
     uint8_t *before = bytes_of(STATE_BYTES, 0);
-    uint8_t *store = bytes_of(store_len, '.');
+    uint8_t *store = bytes_of(STORE_BYTES, '.');
     int all_open = 1;
     int all_closed = 1;
     about = "opening and closing";
-    verdict(load(example, state), 0, 0, 0, "the example: accepted");
+    accepted(example, state, "the example: accepted");
     for (uint64_t place = 1; place <= 64; place++) {
         all_open &= monitor_open(state, STATE_BYTES, place, 1, 1) == 0;
     }
@@ -299,27 +313,22 @@ static void opening_and_closing(void)
     number(monitor_drop(state, STATE_BYTES, 7, 1), 0,
            "and drops role 1, which it doesn't hold");
     check(memcmp(before, state, STATE_BYTES) == 0, "which changes nothing");
-    number(monitor_read_number(state, STATE_BYTES, store, store_len, 8, 1, 0,
-                               64),
-           29, "place 8 has none of place 7's roles");
+    number(read_number(state, store, 8, 1, 0, 64), 29,
+           "place 8 has none of place 7's roles");
     number(monitor_drop(state, STATE_BYTES, 7, 2), 0, "place 7 drops role 2");
-    number(monitor_read_number(state, STATE_BYTES, store, store_len, 7, 1, 0,
-                               64),
-           29, "and may read no more");
+    number(read_number(state, store, 7, 1, 0, 64), 29, "and may read no more");
     number(monitor_take(state, STATE_BYTES, 7, 2), 0, "and takes it again");
     number(monitor_close(state, STATE_BYTES, 7), 0, "place 7 closes");
     number(monitor_close(state, STATE_BYTES, 7), 24, "and can't close twice");
     number(monitor_open(state, STATE_BYTES, 7, 1, 2), 0,
            "and can be opened again");
-    number(monitor_read_number(state, STATE_BYTES, store, store_len, 7, 1, 0,
-                               64),
-           29, "with no roles");
+    number(read_number(state, store, 7, 1, 0, 64), 29, "with no roles");
     memcpy(before, state, STATE_BYTES);
     verdict(load("H   33    0    0    0\n", state), 3, 1, 0,
             "a load is refused");
     check(memcmp(before, state, STATE_BYTES) == 0,
           "and every session is what it was");
-    verdict(load(example, state), 0, 0, 0, "a load is done");
+    accepted(example, state, "a load is done");
     for (uint64_t place = 1; place <= 64; place++) {
         all_closed &= monitor_close(state, STATE_BYTES, place) == 24;
     }
@@ -329,30 +338,12 @@ static void opening_and_closing(void)
     free(store);
 }
 
-/* Every number of the list that doesn't come from a file, once. */
-static void every_number(void)
+/* 7 and 22 to 26 and 29: user 1, cleared to 1, is at place 1, label 1. */
+static void numbers_without_a_role(uint8_t *state, uint8_t *store)
 {
-    size_t store_len = 2 * CARD_BYTES;
-    uint8_t *state = bytes_of(STATE_BYTES, 0);
     uint8_t *before = bytes_of(STATE_BYTES, 0);
-    uint8_t *store = bytes_of(store_len, '.');
-    uint8_t *file = bytes_of(sizeof example - 1, 0);
-    memcpy(file, example, sizeof example - 1);
-
-    about = "numbers";
-    /* A zeroed state has 0 labels. */
-    number(monitor_open(state, STATE_BYTES, 1, 1, 1), 21,
-           "21: open with a zeroed state");
-    figure(monitor_circle(state, STATE_BYTES), 21, 0,
-           "21: circle with a zeroed state, figure 0");
-    check(all_bytes_are(state, STATE_BYTES, 0), "which stays zeroed");
-
-    verdict(load(cleared_to_1, state), 0, 0, 0,
-            "user 1 cleared to 1 instead: accepted");
-    number(monitor_open(state, STATE_BYTES, 1, 1, 1), 0,
-           "user 1 opens place 1 at label 1");
+    uint8_t *file = copy_of(example);
     memcpy(before, state, STATE_BYTES);
-
     /* The state is a byte short. */
     verdict(monitor_load(file, sizeof example - 1, state, STATE_BYTES - 1), 7,
             0, 0, "7: load with a state one byte short");
@@ -369,54 +360,79 @@ static void every_number(void)
     number(monitor_open(state, STATE_BYTES, 2, 2, 1), 25, "25: user 2");
     number(monitor_open(state, STATE_BYTES, 2, 1, 3), 25, "25: label 3");
     number(monitor_take(state, STATE_BYTES, 1, 3), 25, "25: role 3");
-    number(monitor_read_number(state, STATE_BYTES, store, store_len, 1, 3, 0,
-                               1),
-           25, "25: card 3");
+    number(read_number(state, store, 1, 3, 0, 1), 25, "25: card 3");
     figure(monitor_flows(state, STATE_BYTES, 1, 0), 25, 0,
            "25: flows to role 0, figure 0");
     /* Clearance 1 doesn't dominate label 2. */
     number(monitor_open(state, STATE_BYTES, 2, 1, 2), 26,
            "26: user 1, cleared to 1, at label 2");
     /* Role 2 would give the write; it isn't held yet. */
-    number(write_bytes(state, store, store_len, 1, 2, 0, "x"), 29,
+    number(write_bytes(state, store, STORE_BYTES, 1, 2, 0, "x"), 29,
            "29: write without a role");
     check(memcmp(before, state, STATE_BYTES) == 0,
           "refusals leave every byte of the state");
+    free(before);
+    free(file);
+}
 
+/* 30 and 31 at the same place. */
+static void numbers_with_a_role(uint8_t *state, uint8_t *store)
+{
     number(monitor_take(state, STATE_BYTES, 1, 2), 0, "place 1 takes role 2");
     /* A card has 64 bytes. */
-    number(write_bytes(state, store, store_len, 1, 2, 64, "x"), 30,
+    number(write_bytes(state, store, STORE_BYTES, 1, 2, 64, "x"), 30,
            "30: write at offset 64");
     /* Two cards are 128 bytes. */
-    number(write_bytes(state, store, store_len - 1, 1, 2, 0, "x"), 31,
+    number(write_bytes(state, store, STORE_BYTES - 1, 1, 2, 0, "x"), 31,
            "31: write with a store one byte short");
     number(monitor_read_number(state, STATE_BYTES, store, CARD_BYTES, 1, 1, 0,
                                1),
            31, "31: read card 1 of a store with card 1 only");
-    check(all_bytes_are(store, store_len, '.'),
+    check(all_bytes_are(store, STORE_BYTES, '.'),
           "refusals leave every byte of the store");
+}
 
+/* 27 and 28. */
+static void numbers_of_taking(uint8_t *state)
+{
     /* User 1 is assigned to role 1; role 2 is its senior, not its junior. */
-    verdict(load(COUNTS DOMINANCE SENIORITY CLEARED_TO_2 CARDS
-                     ROLE_1_READS_CARD_1 ROLE_2_WRITES_CARD_2 ASSIGNED_ROLE_1,
-                 state),
-            0, 0, 0, "user 1 assigned to role 1 instead: accepted");
+    accepted(COUNTS DOMINANCE SENIORITY CLEARED_TO_2 CARDS ROLE_1_READS_CARD_1
+                 ROLE_2_WRITES_CARD_2 ASSIGNED_ROLE_1,
+             state, "user 1 assigned to role 1 instead: accepted");
     number(monitor_open(state, STATE_BYTES, 1, 1, 1), 0, "user 1 at label 1");
     number(monitor_take(state, STATE_BYTES, 1, 2), 27,
            "27: take a senior of the role assigned");
 
     /* Role 1 reads card 2 of label 2. Clearance 2 would dominate it; the
        session's label 1 doesn't. */
-    verdict(load(COUNTS DOMINANCE SENIORITY CLEARED_TO_2 CARDS
-                     ROLE_1_READS_CARD_1 ROLE_1_READS_CARD_2
-                         ROLE_2_WRITES_CARD_2 ASSIGNED_ROLE_2,
-                 state),
-            0, 0, 0, "role 1 reading card 2 as well: accepted");
+    accepted(COUNTS DOMINANCE SENIORITY CLEARED_TO_2 CARDS ROLE_1_READS_CARD_1
+                 ROLE_1_READS_CARD_2 ROLE_2_WRITES_CARD_2 ASSIGNED_ROLE_2,
+             state, "role 1 reading card 2 as well: accepted");
     number(monitor_open(state, STATE_BYTES, 1, 1, 1), 0, "user 1 at label 1");
     number(monitor_take(state, STATE_BYTES, 1, 2), 28,
            "28: take a role that reads at label 2");
     number(monitor_open(state, STATE_BYTES, 2, 1, 2), 0, "user 1 at label 2");
     number(monitor_take(state, STATE_BYTES, 2, 2), 0, "takes the role there");
+}
+
+/* Every number of the list that doesn't come from a file, once. */
+static void every_number(void)
+{
+    uint8_t *state = bytes_of(STATE_BYTES, 0);
+    uint8_t *store = bytes_of(STORE_BYTES, '.');
+    about = "numbers";
+    /* A zeroed state has 0 labels. */
+    number(monitor_open(state, STATE_BYTES, 1, 1, 1), 21,
+           "21: open with a zeroed state");
+    figure(monitor_circle(state, STATE_BYTES), 21, 0,
+           "21: circle with a zeroed state, figure 0");
+    check(all_bytes_are(state, STATE_BYTES, 0), "which stays zeroed");
+    accepted(cleared_to_1, state, "user 1 cleared to 1 instead: accepted");
+    number(monitor_open(state, STATE_BYTES, 1, 1, 1), 0,
+           "user 1 opens place 1 at label 1");
+    numbers_without_a_role(state, store);
+    numbers_with_a_role(state, store);
+    numbers_of_taking(state);
     /* Role 2 writes card 2, and role 1 reads it. */
     figure(monitor_flows(state, STATE_BYTES, 2, 1), 0, 1,
            "role 2 flows to role 1");
@@ -426,9 +442,7 @@ static void every_number(void)
            "role 2 never flows to itself");
     figure(monitor_circle(state, STATE_BYTES), 0, 0, "no circle");
     free(state);
-    free(before);
     free(store);
-    free(file);
 }
 
 /* "Other calls check in order of number": what else is wrong comes later. */
@@ -436,7 +450,7 @@ static void order_of_numbers(void)
 {
     uint8_t *state = bytes_of(STATE_BYTES, 0);
     about = "order of numbers";
-    verdict(load(example, state), 0, 0, 0, "the example: accepted");
+    accepted(example, state, "the example: accepted");
     number(monitor_open(state, STATE_BYTES, 65, FARTHEST, FARTHEST), 22,
            "open: 22 before 25");
     number(monitor_take(state, STATE_BYTES, 1, FARTHEST), 24,
@@ -469,15 +483,14 @@ static void role_flow(void)
 {
     uint8_t *state = bytes_of(STATE_BYTES, 0);
     about = "role flow";
-    verdict(load("H    1    3    0    2\n"
-                 "O    1    1          \n"
-                 "O    2    1          \n"
-                 "P    2    1    2     \n"
-                 "P    2    2    1     \n"
-                 "P    3    1    1     \n"
-                 "P    3    2    2     \n",
-                 state),
-            0, 0, 0, "two roles that write for each other: accepted");
+    accepted("H    1    3    0    2\n"
+             "O    1    1          \n"
+             "O    2    1          \n"
+             "P    2    1    2     \n"
+             "P    2    2    1     \n"
+             "P    3    1    1     \n"
+             "P    3    2    2     \n",
+             state, "two roles that write for each other: accepted");
     figure(monitor_flows(state, STATE_BYTES, 2, 3), 0, 1,
            "role 2 flows to role 3");
     figure(monitor_flows(state, STATE_BYTES, 3, 2), 0, 1,
@@ -494,7 +507,7 @@ static void what_a_user_can(void)
     uint8_t *state = bytes_of(STATE_BYTES, 0);
     uint8_t *before = bytes_of(STATE_BYTES, 0);
     about = "what a user can";
-    verdict(load(example, state), 0, 0, 0, "the example: accepted");
+    accepted(example, state, "the example: accepted");
     memcpy(before, state, STATE_BYTES);
     figure(monitor_can(state, STATE_BYTES, 1, 1, 2, 2), 0, 1,
            "at label 1, write card 2");
@@ -517,8 +530,7 @@ static void what_a_user_can(void)
     check(memcmp(before, state, STATE_BYTES) == 0,
           "every byte of the state is as it was");
 
-    verdict(load(cleared_to_1, state), 0, 0, 0,
-            "user 1 cleared to 1 instead: accepted");
+    accepted(cleared_to_1, state, "user 1 cleared to 1 instead: accepted");
     figure(monitor_can(state, STATE_BYTES, 1, 1, 2, 2), 0, 1,
            "at label 1, write card 2");
     figure(monitor_can(state, STATE_BYTES, 1, 2, 2, 2), 26, 0,
@@ -529,79 +541,60 @@ static void what_a_user_can(void)
     free(before);
 }
 
-/* Every call with no state, with a state one byte short, and with NULL. */
-static void short_buffers(void)
+/* Every call with a state that is too short. */
+static void calls_with_short_state(uint8_t *state, size_t length,
+                                   uint8_t *store)
 {
-    size_t store_len = 2 * CARD_BYTES;
-    uint8_t *whole = bytes_of(STATE_BYTES, 0);
-    uint8_t *store = bytes_of(store_len, '.');
     uint8_t byte = 'x';
-    about = "a whole state";
-    verdict(load(example, whole), 0, 0, 0, "the example: accepted");
-    number(monitor_open(whole, STATE_BYTES, 1, 1, 1), 0, "user 1 at label 1");
-    number(monitor_take(whole, STATE_BYTES, 1, 2), 0, "takes role 2");
+    verdict(monitor_load((const uint8_t *)example, sizeof example - 1,
+                         state, length),
+            7, 0, 0, "load: 7");
+    verdict(monitor_load(NULL, 0, state, length), 7, 0, 0,
+            "load of nothing: 7 before 1");
+    number(monitor_open(state, length, 0, 0, 0), 21,
+           "open: 21 before all others");
+    number(monitor_close(state, length, 1), 21, "close: 21");
+    number(monitor_take(state, length, 1, 2), 21, "take: 21");
+    number(monitor_drop(state, length, 1, 2), 21, "drop: 21");
+    number(monitor_read_number(state, length, store, STORE_BYTES, 1, 1, 0,
+                               1),
+           21, "read: 21");
+    number(monitor_read_number(state, length, NULL, 0, 1, 1, 0, 1), 21,
+           "read without a store: 21");
+    number(monitor_write(state, length, store, STORE_BYTES, 1, 2, 0, &byte,
+                         1),
+           21, "write: 21");
+    figure(monitor_flows(state, length, 1, 2), 21, 0, "flows: 21");
+    figure(monitor_circle(state, length), 21, 0, "circle: 21");
+    figure(monitor_can(state, length, 1, 1, 2, 2), 21, 0, "can: 21");
+    figure(monitor_can(state, length, 0, 0, 0, 0), 21, 0,
+           "can: 21 before 25");
+}
 
-    uint8_t *short_by_one = bytes_of(STATE_BYTES - 1, 0);
-    memcpy(short_by_one, whole, STATE_BYTES - 1);
-    struct {
-        uint8_t *state;
-        size_t length;
-        const char *name;
-    } states[] = {
-        {short_by_one, STATE_BYTES - 1, "a state one byte short"},
-        {whole, 0, "a state of length 0"},
-        {NULL, 0, "NULL with length 0 as state"},
-    };
-    for (size_t at = 0; at < sizeof states / sizeof states[0]; at++) {
-        uint8_t *state = states[at].state;
-        size_t length = states[at].length;
-        about = states[at].name;
-        verdict(monitor_load((const uint8_t *)example, sizeof example - 1,
-                             state, length),
-                7, 0, 0, "load: 7");
-        verdict(monitor_load(NULL, 0, state, length), 7, 0, 0,
-                "load of nothing: 7 before 1");
-        number(monitor_open(state, length, 0, 0, 0), 21,
-               "open: 21 before all others");
-        number(monitor_close(state, length, 1), 21, "close: 21");
-        number(monitor_take(state, length, 1, 2), 21, "take: 21");
-        number(monitor_drop(state, length, 1, 2), 21, "drop: 21");
-        number(monitor_read_number(state, length, store, store_len, 1, 1, 0,
-                                   1),
-               21, "read: 21");
-        number(monitor_read_number(state, length, NULL, 0, 1, 1, 0, 1), 21,
-               "read without a store: 21");
-        number(monitor_write(state, length, store, store_len, 1, 2, 0, &byte,
-                             1),
-               21, "write: 21");
-        figure(monitor_flows(state, length, 1, 2), 21, 0, "flows: 21");
-        figure(monitor_circle(state, length), 21, 0, "circle: 21");
-        figure(monitor_can(state, length, 1, 1, 2, 2), 21, 0, "can: 21");
-        figure(monitor_can(state, length, 0, 0, 0, 0), 21, 0,
-               "can: 21 before 25");
-    }
-    about = "a state one byte short";
-    check(memcmp(short_by_one, whole, STATE_BYTES - 1) == 0,
-          "every byte is as it was");
-
+static void null_beside_a_whole_state(uint8_t *state, uint8_t *store)
+{
+    uint8_t byte = 'x';
     about = "NULL with length 0 beside a whole state";
-    verdict(monitor_load(NULL, 0, whole, STATE_BYTES), 1, 0, 0,
+    verdict(monitor_load(NULL, 0, state, STATE_BYTES), 1, 0, 0,
             "no file: 1");
-    number(monitor_read_number(whole, STATE_BYTES, NULL, 0, 1, 1, 0, 1), 31,
+    number(monitor_read_number(state, STATE_BYTES, NULL, 0, 1, 1, 0, 1), 31,
            "read without a store: 31");
-    number(monitor_write(whole, STATE_BYTES, NULL, 0, 1, 2, 0, &byte, 1), 31,
+    number(monitor_write(state, STATE_BYTES, NULL, 0, 1, 2, 0, &byte, 1), 31,
            "write without a store: 31");
-    number(monitor_write(whole, STATE_BYTES, store, store_len, 1, 2, 64, NULL,
+    number(monitor_write(state, STATE_BYTES, store, STORE_BYTES, 1, 2, 64, NULL,
                          0),
            0, "write of no bytes at offset 64: 0");
-    number(monitor_write(whole, STATE_BYTES, store, store_len, 1, 2, 65, NULL,
+    number(monitor_write(state, STATE_BYTES, store, STORE_BYTES, 1, 2, 65, NULL,
                          0),
            30, "write of no bytes at offset 65: 30");
-    check(all_bytes_are(store, store_len, '.'), "the store is as it was");
+    check(all_bytes_are(store, STORE_BYTES, '.'), "the store is as it was");
+}
 
-    /* The first 65,536 bytes are used where more are lent. */
-    about = "a state with bytes to spare";
+/* The first 65,536 bytes are used where more are lent. */
+static void long_state(const uint8_t *whole)
+{
     uint8_t *longer = bytes_of(STATE_BYTES + 100, 0x5a);
+    about = "a state with bytes to spare";
     verdict(monitor_load((const uint8_t *)example, sizeof example - 1, longer,
                          STATE_BYTES + 100),
             0, 0, 0, "load: 0");
@@ -612,6 +605,32 @@ static void short_buffers(void)
     check(all_bytes_are(longer + STATE_BYTES, 100, 0x5a),
           "the bytes past 65,536 are as they were");
     free(longer);
+}
+
+/* Every call with no state, with a state one byte short, and with NULL; then
+   the first calls with a longer one. */
+static void short_and_long_buffers(void)
+{
+    uint8_t *whole = bytes_of(STATE_BYTES, 0);
+    uint8_t *store = bytes_of(STORE_BYTES, '.');
+    about = "a whole state";
+    accepted(example, whole, "the example: accepted");
+    number(monitor_open(whole, STATE_BYTES, 1, 1, 1), 0, "user 1 at label 1");
+    number(monitor_take(whole, STATE_BYTES, 1, 2), 0, "takes role 2");
+
+    uint8_t *short_by_one = bytes_of(STATE_BYTES - 1, 0);
+    memcpy(short_by_one, whole, STATE_BYTES - 1);
+    about = "a state one byte short";
+    calls_with_short_state(short_by_one, STATE_BYTES - 1, store);
+    about = "a state of length 0";
+    calls_with_short_state(whole, 0, store);
+    about = "NULL with length 0 as state";
+    calls_with_short_state(NULL, 0, store);
+    about = "a state one byte short";
+    check(memcmp(short_by_one, whole, STATE_BYTES - 1) == 0,
+          "every byte is as it was");
+    null_beside_a_whole_state(whole, store);
+    long_state(whole);
     free(short_by_one);
     free(whole);
     free(store);
@@ -628,7 +647,7 @@ int main(void)
     order_of_numbers();
     role_flow();
     what_a_user_can();
-    short_buffers();
+    short_and_long_buffers();
     printf("%u passed, %u failed\n", passed, failed);
     return failed == 0 ? 0 : 1;
 }

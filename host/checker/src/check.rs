@@ -33,6 +33,16 @@ impl Level {
             Level::Undefined => 99,
         }
     }
+
+    /// Whether the level passes where a label must: "A free level always
+    /// passes; an undefined one never."
+    fn passes(self, label_passes: impl Fn(usize) -> bool) -> bool {
+        match self {
+            Level::Free => true,
+            Level::Label(label) => label_passes(label),
+            Level::Undefined => false,
+        }
+    }
 }
 
 /// The two levels of a role.
@@ -134,40 +144,42 @@ pub fn read(file: &[u8]) -> Result<RoleFile, Refusal> {
     let mut role_file = RoleFile::default();
     let mut previous: Option<Line> = None;
     for (index, bytes) in file.chunks(LINE_LENGTH).enumerate() {
-        let line_number = index + 1;
-        let refuse = |number| {
-            Err(Refusal {
+        let line =
+            next_line(bytes, previous.as_ref(), &role_file.counts).map_err(|number| Refusal {
                 number,
-                place: [line_number, 0],
-            })
-        };
-        // "2: malformed line, unknown letter, H missing on line 1 or found
-        // later [line, 0]"
-        let Some(line) = read_line(bytes) else {
-            return refuse(2);
-        };
-        if (line.letter == Letter::H) != (line_number == 1) {
-            return refuse(2);
-        }
-        // "3: count outside its limits [line, 0]"
-        if line.letter == Letter::H && !counts_within_limits(&line.numbers) {
-            return refuse(3);
-        }
-        // "4: a user, role, card, label or mode number out of its range
-        // [line, 0]"
-        if !numbers_in_range(&line, &role_file.counts) {
-            return refuse(4);
-        }
-        // "5: line out of order or repeated [line, 0]": "After H the letters
-        // come in the table's order, and lines of a letter rise strictly by
-        // their fields read left to right."
-        if previous.is_some_and(|previous| previous >= line) {
-            return refuse(5);
-        }
+                place: [index + 1, 0],
+            })?;
         keep(&line, &mut role_file);
         previous = Some(line);
     }
     Ok(role_file)
+}
+
+/// The line that comes after another, or its number, 2 to 5.
+fn next_line(bytes: &[u8], previous: Option<&Line>, counts: &Counts) -> Result<Line, usize> {
+    // "2: malformed line, unknown letter, H missing on line 1 or found later
+    // [line, 0]"
+    let Some(line) = read_line(bytes) else {
+        return Err(2);
+    };
+    if (line.letter == Letter::H) != previous.is_none() {
+        return Err(2);
+    }
+    // "3: count outside its limits [line, 0]"
+    if line.letter == Letter::H && !counts_within_limits(&line.numbers) {
+        return Err(3);
+    }
+    // "4: a user, role, card, label or mode number out of its range [line, 0]"
+    if !numbers_in_range(&line, counts) {
+        return Err(4);
+    }
+    // "5: line out of order or repeated [line, 0]": "After H the letters come
+    // in the table's order, and lines of a letter rise strictly by their
+    // fields read left to right."
+    if previous.is_some_and(|previous| *previous >= line) {
+        return Err(5);
+    }
+    Ok(line)
 }
 
 /// "Counts: labels 1 to 32, roles 0 to 128, users 0 to 256, cards 0 to 512."
@@ -225,6 +237,32 @@ fn keep(line: &Line, role_file: &mut RoleFile) {
 /// Numbers 6 and 11 to 16, then the report's numbers.
 fn judge(role_file: &RoleFile) -> Result<Accepted, Refusal> {
     let counts = &role_file.counts;
+    judge_labels_and_orders(role_file)?;
+    // "then assignments in file order, 14 to 16 within each"
+    let meaning = Meaning::of(role_file);
+    for &(user, role) in &role_file.assignments {
+        let number = meaning.assignment_number(user, role);
+        if number != 0 {
+            let place = [user, role];
+            return Err(Refusal { number, place });
+        }
+    }
+    let flows = meaning.flows();
+    let pairs: Vec<(usize, usize)> = flows.iter().copied().collect();
+    Ok(Accepted {
+        roles: (1..=counts.roles)
+            .map(|role| meaning.levels(role))
+            .collect(),
+        // "the lowest role on a circle of two or more roles, or 0"; no role
+        // flows to itself, so that every circle has two roles or more.
+        circle: lowest_on_circle(counts.roles, &pairs),
+        flows,
+    })
+}
+
+/// Numbers 6 and 11 to 13.
+fn judge_labels_and_orders(role_file: &RoleFile) -> Result<(), Refusal> {
+    let counts = &role_file.counts;
     let refuse = |number, place| Err(Refusal { number, place });
 
     // "6: user or card with no label or more than one [1 and lowest such user,
@@ -251,27 +289,7 @@ fn judge(role_file: &RoleFile) -> Result<Accepted, Refusal> {
     if let Some(role) = lowest_on_circle(counts.roles, &role_file.seniority) {
         return refuse(13, [role, 0]);
     }
-
-    // "then assignments in file order, 14 to 16 within each"
-    let meaning = Meaning::of(role_file);
-    for &(user, role) in &role_file.assignments {
-        let number = meaning.assignment_number(user, role);
-        if number != 0 {
-            return refuse(number, [user, role]);
-        }
-    }
-
-    let flows = meaning.flows();
-    let pairs: Vec<(usize, usize)> = flows.iter().copied().collect();
-    Ok(Accepted {
-        roles: (1..=counts.roles)
-            .map(|role| meaning.levels(role))
-            .collect(),
-        // "the lowest role on a circle of two or more roles, or 0"; no role
-        // flows to itself, so that every circle has two roles or more.
-        circle: lowest_on_circle(counts.roles, &pairs),
-        flows,
-    })
+    Ok(())
 }
 
 /// "Each user has one U line and each card one O line."
@@ -299,31 +317,10 @@ impl Meaning {
         let counts = &role_file.counts;
         let dominance = Order::closure(counts.labels, &role_file.dominance);
         let seniority = Order::closure(counts.roles, &role_file.seniority);
-        let mut clearance = vec![0; counts.users + 1];
-        for &(user, label) in &role_file.clearances {
-            clearance[user] = label;
-        }
-        let mut card_label = vec![0; counts.cards + 1];
-        for &(card, label) in &role_file.card_labels {
-            card_label[card] = label;
-        }
-
-        // "A role has the permissions of its own P lines and of all its
-        // juniors."
-        let mut may_read = vec![BTreeSet::new(); counts.roles + 1];
-        let mut may_write = vec![BTreeSet::new(); counts.roles + 1];
-        for &(owner, card, mode) in &role_file.permissions {
-            for role in 1..=counts.roles {
-                if seniority.over(role, owner) {
-                    if mode == READ {
-                        may_read[role].insert(card);
-                    } else {
-                        may_write[role].insert(card);
-                    }
-                }
-            }
-        }
-
+        let clearance = label_of_each(counts.users, &role_file.clearances);
+        let card_label = label_of_each(counts.cards, &role_file.card_labels);
+        let may_read = cards_of_each(role_file, &seniority, READ);
+        let may_write = cards_of_each(role_file, &seniority, WRITE);
         let labels_of = |cards: &BTreeSet<usize>| -> BTreeSet<usize> {
             cards.iter().map(|&card| card_label[card]).collect()
         };
@@ -361,10 +358,19 @@ impl Meaning {
         }
     }
 
+    /// Whether the label dominates the role's r-level.
+    pub fn read_level_allows(&self, role: usize, label: usize) -> bool {
+        self.read_level[role].passes(|level| self.dominance.over(label, level))
+    }
+
+    /// Whether the role's w-level dominates the label.
+    pub fn write_level_allows(&self, role: usize, label: usize) -> bool {
+        self.write_level[role].passes(|level| self.dominance.over(level, label))
+    }
+
     /// The number an A line gets, 0 where it is good: "For each A line the
     /// w-level must not be undefined, the clearance must dominate the r-level,
-    /// and the w-level must dominate the clearance". "A free level always
-    /// passes".
+    /// and the w-level must dominate the clearance".
     pub fn assignment_number(&self, user: usize, role: usize) -> usize {
         let clearance = self.clearance[user];
         // "14: assigned role with undefined w-level [user, role]"
@@ -372,21 +378,11 @@ impl Meaning {
             return 14;
         }
         // "15: clearance doesn't dominate the r-level [user, role]"
-        let clearance_is_enough = match self.read_level[role] {
-            Level::Free => true,
-            Level::Label(label) => self.dominance.over(clearance, label),
-            Level::Undefined => false,
-        };
-        if !clearance_is_enough {
+        if !self.read_level_allows(role, clearance) {
             return 15;
         }
         // "16: w-level doesn't dominate the clearance [user, role]"
-        let clearance_is_low_enough = match self.write_level[role] {
-            Level::Free => true,
-            Level::Label(label) => self.dominance.over(label, clearance),
-            Level::Undefined => false,
-        };
-        if !clearance_is_low_enough {
+        if !self.write_level_allows(role, clearance) {
             return 16;
         }
         0
@@ -406,6 +402,29 @@ impl Meaning {
         }
         flows
     }
+}
+
+/// The label of each user or card by its lines.
+fn label_of_each(count: usize, lines: &[(usize, usize)]) -> Vec<usize> {
+    let mut labels = vec![0; count + 1];
+    for &(thing, label) in lines {
+        labels[thing] = label;
+    }
+    labels
+}
+
+/// The cards each role may use in a mode: "A role has the permissions of its
+/// own P lines and of all its juniors."
+fn cards_of_each(role_file: &RoleFile, seniority: &Order, mode: usize) -> Vec<BTreeSet<usize>> {
+    let roles = role_file.counts.roles;
+    let mut cards = vec![BTreeSet::new(); roles + 1];
+    let of_the_mode = |line: &&(usize, usize, usize)| line.2 == mode;
+    for &(owner, card, _) in role_file.permissions.iter().filter(of_the_mode) {
+        for role in (1..=roles).filter(|&role| seniority.over(role, owner)) {
+            cards[role].insert(card);
+        }
+    }
+    cards
 }
 
 /// Free with no card, undefined without a bound.

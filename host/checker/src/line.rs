@@ -52,17 +52,22 @@ impl Letter {
 
 /// What five columns read as.
 #[derive(Clone, Copy, Debug, PartialEq, Eq)]
-pub enum Field {
+enum Field {
     /// "A field without use is five blanks."
     Blank,
     Number(usize),
     Malformed,
 }
 
+/// How many blanks stand before anything else.
+pub fn leading_blanks(columns: &[u8]) -> usize {
+    columns.iter().take_while(|&&byte| byte == b' ').count()
+}
+
 /// "A number is right-justified with blanks before it, has no leading zeros,
 /// and 0 is the single digit." "All numbers in the file are decimal."
-pub fn read_field(columns: &[u8]) -> Field {
-    let blanks = columns.iter().take_while(|&&byte| byte == b' ').count();
+fn read_field(columns: &[u8]) -> Field {
+    let blanks = leading_blanks(columns);
     let digits = &columns[blanks..];
     if digits.is_empty() {
         return Field::Blank;

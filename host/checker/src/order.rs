@@ -4,8 +4,7 @@
 use std::collections::BTreeSet;
 
 /// The things reached from `start` by one step or more, found by search.
-/// A step leads from the first to the second thing of a pair.
-fn reached(steps: &[Vec<usize>], start: usize) -> BTreeSet<usize> {
+pub fn reached(steps: &[Vec<usize>], start: usize) -> BTreeSet<usize> {
     let mut found = BTreeSet::new();
     let mut waiting = vec![start];
     while let Some(thing) = waiting.pop() {
@@ -18,8 +17,9 @@ fn reached(steps: &[Vec<usize>], start: usize) -> BTreeSet<usize> {
     found
 }
 
-/// For each thing (from 1 to `size`), where one step leads.
-fn steps(size: usize, pairs: &[(usize, usize)]) -> Vec<Vec<usize>> {
+/// For each thing (from 1 to `size`), where one step leads: from the first to
+/// the second thing of a pair.
+pub fn steps(size: usize, pairs: &[(usize, usize)]) -> Vec<Vec<usize>> {
     let mut steps = vec![Vec::new(); size + 1];
     for &(from, to) in pairs {
         steps[from].push(to);
@@ -64,24 +64,27 @@ impl Order {
 
     /// The thing over all of `things` that every other such thing is over.
     pub fn least_upper_bound(&self, things: &BTreeSet<usize>) -> Option<usize> {
-        let bounds: Vec<usize> = (1..=self.size)
-            .filter(|&bound| things.iter().all(|&thing| self.over(bound, thing)))
-            .collect();
-        bounds
-            .iter()
-            .copied()
-            .find(|&least| bounds.iter().all(|&bound| self.over(bound, least)))
+        self.nearest_bound(things, |upper, lower| self.over(upper, lower))
     }
 
     /// The thing under all of `things` that is over every other such thing.
     pub fn greatest_lower_bound(&self, things: &BTreeSet<usize>) -> Option<usize> {
+        self.nearest_bound(things, |lower, upper| self.over(upper, lower))
+    }
+
+    /// The thing beyond all of `things` that every other such thing is beyond.
+    fn nearest_bound(
+        &self,
+        things: &BTreeSet<usize>,
+        beyond: impl Fn(usize, usize) -> bool,
+    ) -> Option<usize> {
         let bounds: Vec<usize> = (1..=self.size)
-            .filter(|&bound| things.iter().all(|&thing| self.over(thing, bound)))
+            .filter(|&bound| things.iter().all(|&thing| beyond(bound, thing)))
             .collect();
         bounds
             .iter()
             .copied()
-            .find(|&greatest| bounds.iter().all(|&bound| self.over(greatest, bound)))
+            .find(|&nearest| bounds.iter().all(|&bound| beyond(bound, nearest)))
     }
 
     /// "Every two labels must have a least upper bound": the pair without one

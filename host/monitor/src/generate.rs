@@ -37,7 +37,7 @@ fn accepted_file_of_any_size(random: &mut Random) -> Vec<u8> {
 
 /// A role file of any kind: accepted, bent or torn. Most are bent, each number
 /// as often as another: a refused load leaves the sessions open.
-pub fn any_file(random: &mut Random) -> Vec<u8> {
+fn any_file(random: &mut Random) -> Vec<u8> {
     let number = random.pick(&REFUSALS);
     match random.below(100) {
         0..=4 => accepted_file(random),
@@ -137,6 +137,42 @@ fn wild_span(random: &mut Random) -> (u64, u64) {
     }
 }
 
+/// A read of this offset and length.
+pub fn reading(place: u64, card: u64, (offset, length): (u64, u64)) -> Call {
+    Call::Read(Part {
+        place,
+        card,
+        offset,
+        length,
+    })
+}
+
+/// A write of any bytes, as many as the length says, at this offset.
+pub fn writing(random: &mut Random, place: u64, card: u64, (offset, length): (u64, u64)) -> Call {
+    Call::Write {
+        place,
+        card,
+        offset,
+        bytes: random_bytes(random, length as usize),
+    }
+}
+
+/// So many places, the first and the last of all more often than others.
+pub fn some_places(random: &mut Random, count: usize) -> Vec<u64> {
+    (0..count)
+        .map(|_| random.place(1, PLACES + 1) as u64)
+        .collect()
+}
+
+/// Mostly one of these places, else any.
+pub fn place_among(random: &mut Random, places: &[u64]) -> u64 {
+    if random.percent(90) {
+        random.pick(places)
+    } else {
+        number(random, PLACES)
+    }
+}
+
 /// Which state is lent to a call.
 #[derive(Clone, Copy, Debug, PartialEq, Eq)]
 pub enum LentState {
@@ -158,15 +194,15 @@ pub struct Lending {
 /// Makes calls that fit what the model holds, so that they succeed often.
 pub struct Caller {
     /// Most calls are at these places, so that places are used again.
-    places: Vec<usize>,
+    places: Vec<u64>,
 }
 
 impl Caller {
     pub fn new(random: &mut Random) -> Caller {
-        let places = (0..random.between(1, 10))
-            .map(|_| random.place(1, PLACES + 1))
-            .collect();
-        Caller { places }
+        let count = random.between(1, 10);
+        Caller {
+            places: some_places(random, count),
+        }
     }
 
     /// The next call on this model, with what is lent to it.
@@ -261,43 +297,22 @@ impl Caller {
             }
             Kind::Read => {
                 let card = card(random, model, &policy, place, Mode::Read, wish);
-                let (offset, length) = match (wish, random.below(4)) {
+                let span = match (wish, random.below(4)) {
                     (30, 0) => wild_span(random),
                     (30, _) => bad_span(random),
                     _ => good_span(random),
                 };
-                Call::Read(Part {
-                    place,
-                    card,
-                    offset,
-                    length,
-                })
+                reading(place, card, span)
             }
             Kind::Write => {
                 let card = card(random, model, &policy, place, Mode::Write, wish);
-                let (offset, length) = match wish {
+                let span = match wish {
                     30 => bad_span(random),
                     _ => good_span(random),
                 };
-                let bytes = random_bytes(random, length as usize);
-                Call::Write {
-                    place,
-                    card,
-                    offset,
-                    bytes,
-                }
+                writing(random, place, card, span)
             }
-            Kind::Flows => {
-                let from = number(random, policy.counts.roles);
-                let to = number(random, policy.counts.roles);
-                match some(random, &policy.flows) {
-                    Some((from, to)) if random.percent(50) => Call::Flows {
-                        from: from as u64,
-                        to: to as u64,
-                    },
-                    _ => Call::Flows { from, to },
-                }
-            }
+            Kind::Flows => two_roles(random, &policy),
             Kind::Circle => Call::Circle,
             Kind::Can => {
                 let user = user(random, &policy, wish);
@@ -325,11 +340,7 @@ impl Caller {
         if kind != Kind::Open && !open.is_empty() && random.percent(90) {
             return random.pick(&open) as u64;
         }
-        if random.percent(90) {
-            random.pick(&self.places) as u64
-        } else {
-            number(random, PLACES)
-        }
+        place_among(random, &self.places)
     }
 }
 
@@ -463,6 +474,19 @@ fn card(
     number(random, policy.counts.cards)
 }
 
+/// Whether one role flows to another: every second time roles that do.
+fn two_roles(random: &mut Random, policy: &Policy) -> Call {
+    let from = number(random, policy.counts.roles);
+    let to = number(random, policy.counts.roles);
+    match some(random, &policy.flows) {
+        Some((from, to)) if random.percent(50) => Call::Flows {
+            from: from as u64,
+            to: to as u64,
+        },
+        _ => Call::Flows { from, to },
+    }
+}
+
 /// What a user can at a label: rather of a card that a role assigned to the
 /// user gives in this mode.
 fn question(random: &mut Random, policy: &Policy, user: u64, label: u64, wish: u64) -> Call {
@@ -520,18 +544,11 @@ pub fn any_call(random: &mut Random, kind: Kind) -> Call {
             place,
             role: number(random, roles),
         },
-        Kind::Read => Call::Read(Part {
-            place,
-            card: number(random, cards),
-            offset,
-            length,
-        }),
-        Kind::Write => Call::Write {
-            place,
-            card: number(random, cards),
-            offset,
-            bytes: random_bytes(random, length.min(5_000) as usize),
-        },
+        Kind::Read => reading(place, number(random, cards), (offset, length)),
+        Kind::Write => {
+            let card = number(random, cards);
+            writing(random, place, card, (offset, length.min(5_000)))
+        }
         Kind::Flows => Call::Flows {
             from: number(random, roles),
             to: number(random, roles),

@@ -2,7 +2,7 @@
 //! holds.
 
 use crate::call::{Answer, Call, Kind};
-use crate::model::{CARD_BYTES, PLACES, STATE_BYTES};
+use crate::model::{Part, CARD_BYTES, PLACES, STATE_BYTES};
 
 /// A lent buffer before and after a call.
 #[derive(Clone, Copy)]
@@ -33,84 +33,118 @@ fn within(numbers: &[u64], limits: &[u64]) -> bool {
 
 /// The law a call broke, if it broke one.
 pub fn check(call: &Call, answer: Answer, state: Change, store: Change) -> Result<(), String> {
-    let kind = call.kind();
-    let number = answer.number();
-    let holds = |holds: bool, law: &str| {
-        if holds {
-            Ok(())
-        } else {
-            Err(format!("{call}: {answer:?}: {law}"))
-        }
+    let made = Made {
+        call,
+        answer,
+        state,
+        store,
     };
-
-    holds(kind.numbers().contains(&number), "a number of its list")?;
-    let short = state.before.len() < STATE_BYTES;
-    match kind {
-        Kind::Load => holds((number == 7) == short, "7 where the state is short")?,
-        _ => holds(number == 21 || !short, "21 where the state is short")?,
+    made.number()?;
+    made.buffers()?;
+    if let Some(part) = call.part() {
+        made.part(part)?;
     }
-    if let Some(place) = call.place() {
-        if number != 21 {
-            let in_range = (1..=PLACES as u64).contains(&place);
-            holds(
-                (number == 22) != in_range,
-                "22 where the place isn't 1 to 64",
-            )?;
+    if let Answer::Figure(figure) = answer {
+        made.figure(figure.figure)?;
+    }
+    Ok(())
+}
+
+/// A call that was made.
+struct Made<'a> {
+    call: &'a Call,
+    answer: Answer,
+    state: Change<'a>,
+    store: Change<'a>,
+}
+
+impl Made<'_> {
+    fn holds(&self, holds: bool, law: &str) -> Result<(), String> {
+        if holds {
+            return Ok(());
+        }
+        Err(format!("{}: {:?}: {law}", self.call, self.answer))
+    }
+
+    fn state_is_short(&self) -> bool {
+        self.state.before.len() < STATE_BYTES
+    }
+
+    /// The number is one that the call can get.
+    fn number(&self) -> Result<(), String> {
+        let kind = self.call.kind();
+        let number = self.answer.number();
+        let short = self.state_is_short();
+        self.holds(kind.numbers().contains(&number), "a number of its list")?;
+        match kind {
+            Kind::Load => self.holds((number == 7) == short, "7 where the state is short")?,
+            _ => self.holds(number == 21 || !short, "21 where the state is short")?,
+        }
+        match self.call.place() {
+            Some(place) if number != 21 => {
+                let in_range = (1..=PLACES as u64).contains(&place);
+                let law = "22 where the place isn't 1 to 64";
+                self.holds((number == 22) != in_range, law)
+            }
+            _ => Ok(()),
         }
     }
 
-    // "Every refusal leaves state, store and any other lent buffer unchanged,
-    // and a call that is done changes nothing past what it fills."
-    if number != 0 || !kind.changes_state() {
-        holds(state.none(), "the state unchanged")?;
-    }
-    if !short {
-        let past = |bytes: &[u8]| bytes[STATE_BYTES..].to_vec();
-        holds(
-            past(state.before) == past(state.after),
-            "bytes past 65,536 unchanged",
-        )?;
-    }
-    if number != 0 || kind != Kind::Write {
-        holds(store.none(), "the store unchanged")?;
+    /// "Every refusal leaves state, store and any other lent buffer unchanged,
+    /// and a call that is done changes nothing past what it fills."
+    fn buffers(&self) -> Result<(), String> {
+        let kind = self.call.kind();
+        let number = self.answer.number();
+        if number != 0 || !kind.changes_state() {
+            self.holds(self.state.none(), "the state unchanged")?;
+        }
+        if !self.state_is_short() {
+            let same = self.state.before[STATE_BYTES..] == self.state.after[STATE_BYTES..];
+            self.holds(same, "bytes past 65,536 unchanged")?;
+        }
+        if number != 0 || kind != Kind::Write {
+            self.holds(self.store.none(), "the store unchanged")?;
+        }
+        Ok(())
     }
 
-    if let Some(part) = call.part() {
+    /// A read or a write keeps to its card.
+    fn part(&self, part: Part) -> Result<(), String> {
+        let number = self.answer.number();
         let end = u128::from(part.offset) + u128::from(part.length);
         let past_the_card = end > CARD_BYTES as u128;
-        holds(number != 30 || past_the_card, "30 past the card only")?;
+        self.holds(number != 30 || past_the_card, "30 past the card only")?;
         if past_the_card {
-            holds(number != 0 && number != 31, "30 comes first")?;
+            self.holds(number != 0 && number != 31, "30 comes first")?;
         }
-        let most = CARD_BYTES * MOST_CARDS as usize;
-        holds(
-            number != 31 || store.before.len() < most,
-            "31 with a short store only",
-        )?;
-        if number == 0 {
-            holds((1..=MOST_CARDS).contains(&part.card), "a card in range")?;
-            let start = CARD_BYTES * (part.card as usize - 1);
-            holds(
-                store.before.len() >= start + CARD_BYTES,
-                "a store with the card",
-            )?;
-            if let Call::Write { bytes, .. } = call {
-                let at = start + part.offset as usize;
-                let mut expected = store.before.to_vec();
-                expected[at..at + bytes.len()].copy_from_slice(bytes);
-                holds(expected == store.after, "the named bytes only")?;
-            }
+        let store = self.store.before;
+        let short = store.len() < CARD_BYTES * MOST_CARDS as usize;
+        self.holds(number != 31 || short, "31 with a short store only")?;
+        if number != 0 {
+            return Ok(());
         }
+        self.holds((1..=MOST_CARDS).contains(&part.card), "a card in range")?;
+        let start = CARD_BYTES * (part.card as usize - 1);
+        self.holds(store.len() >= start + CARD_BYTES, "a store with the card")?;
+        if let Call::Write { bytes, .. } = self.call {
+            let at = start + part.offset as usize;
+            let mut expected = store.to_vec();
+            expected[at..at + bytes.len()].copy_from_slice(bytes);
+            self.holds(expected == self.store.after, "the named bytes only")?;
+        }
+        Ok(())
     }
 
-    if let Answer::Figure(figure) = answer {
-        holds(number == 0 || figure.figure == 0, "a refusal's figure is 0")?;
-        match *call {
+    /// A report's figure is one that it can have.
+    fn figure(&self, figure: u64) -> Result<(), String> {
+        let number = self.answer.number();
+        self.holds(number == 0 || figure == 0, "a refusal's figure is 0")?;
+        match *self.call {
             Call::Flows { from, to } => {
-                holds(figure.figure <= 1, "a flow's figure is 0 or 1")?;
-                holds(from != to || figure.figure == 0, "never to itself")?;
+                self.holds(figure <= 1, "a flow's figure is 0 or 1")?;
+                self.holds(from != to || figure == 0, "never to itself")?;
                 let roles = within(&[from, to], &[MOST_ROLES, MOST_ROLES]);
-                holds(number != 0 || roles, "roles in range")?;
+                self.holds(number != 0 || roles, "roles in range")
             }
             Call::Can {
                 user,
@@ -118,13 +152,12 @@ pub fn check(call: &Call, answer: Answer, state: Change, store: Change) -> Resul
                 card,
                 mode,
             } => {
-                holds(figure.figure <= 1, "what a user can is 0 or 1")?;
+                self.holds(figure <= 1, "what a user can is 0 or 1")?;
                 let most = [MOST_USERS, MOST_LABELS, MOST_CARDS, MODES];
                 let in_range = within(&[user, label, card, mode], &most);
-                holds(![0, 26].contains(&number) || in_range, "25 comes first")?;
+                self.holds(![0, 26].contains(&number) || in_range, "25 comes first")
             }
-            _ => holds(figure.figure <= MOST_ROLES, "a role on the circle")?,
+            _ => self.holds(figure <= MOST_ROLES, "a role on the circle"),
         }
     }
-    Ok(())
 }

@@ -1,11 +1,11 @@
 //! Random lists of calls, each call made on the model and on the library.
 
 use crate::call::{Answer, Call, Kind};
-use crate::generate::{accepted_file, random_bytes, Caller, Lending, LentState};
-use crate::laws::Change;
+use crate::generate::{accepted_file, random_bytes, reading, Caller, Lending, LentState};
 use crate::lent::Lent;
 use crate::library;
-use crate::model::{Model, Part, CARD_BYTES, PLACES, STATE_BYTES};
+use crate::model::{Model, CARD_BYTES, PLACES, STATE_BYTES};
+use second_checker::check::Counts;
 use second_checker::differential::Totals;
 use second_checker::random::Random;
 use std::collections::BTreeMap;
@@ -201,7 +201,6 @@ impl List {
         let state_before = self.state.bytes().to_vec();
         let expected = self.expect(&call, lending);
         let answer = self.ask(&call, lending, random)?;
-        let number = answer.number();
         trace(&format!("{call}, lent {lending:?}: {answer:?}"));
         tally.count(call.kind(), answer);
 
@@ -210,29 +209,30 @@ impl List {
                 "{call}, lent {lending:?}: expected {expected:?}, got {answer:?}"
             ));
         }
-        let fault = |what: &str| Err(format!("{call}, lent {lending:?}: {answer:?}: {what}"));
-        if !self.state.canaries_unchanged() || !self.store.canaries_unchanged() {
-            return fault("bytes around a buffer were changed");
-        }
-        if self.store.bytes() != self.cards {
-            return fault(&format!(
-                "the store differs, first at byte {:?}",
-                first_difference(self.store.bytes(), &self.cards)
-            ));
-        }
-        let state = Change {
-            before: &state_before,
-            after: self.state.bytes(),
-        };
-        if self.changes_nothing(&call, number) && !state.none() {
-            return fault("the state was changed");
-        }
-        if state.before[STATE_BYTES..] != state.after[STATE_BYTES..] {
-            return fault("bytes past 65,536 were changed");
-        }
+        self.compare_buffers(&call, answer.number(), &state_before)
+            .map_err(|what| format!("{call}, lent {lending:?}: {answer:?}: {what}"))?;
         self.apply(&call, lending);
         if call.kind() == Kind::Load && random.percent(75) {
             self.lengthen_store(random);
+        }
+        Ok(())
+    }
+
+    /// What is wrong with state and store after a call, if anything.
+    fn compare_buffers(&self, call: &Call, number: u64, before: &[u8]) -> Result<(), String> {
+        if !self.state.canaries_unchanged() || !self.store.canaries_unchanged() {
+            return Err("bytes around a buffer were changed".to_string());
+        }
+        if self.store.bytes() != self.cards {
+            let at = first_difference(self.store.bytes(), &self.cards);
+            return Err(format!("the store differs, first at byte {at:?}"));
+        }
+        let after = self.state.bytes();
+        if self.changes_nothing(call, number) && before != after {
+            return Err("the state was changed".to_string());
+        }
+        if before[STATE_BYTES..] != after[STATE_BYTES..] {
+            return Err("bytes past 65,536 were changed".to_string());
         }
         Ok(())
     }
@@ -312,42 +312,10 @@ impl List {
         let Some(policy) = self.model.policy() else {
             return Ok(());
         };
-        let counts = policy.counts;
         let mut model = self.model.clone();
         let mut state = Lent::new(self.state.bytes(), random);
-        let mut store = Lent::new(&vec![0; CARD_BYTES * counts.cards], random);
-        let mut calls = Vec::new();
-        for place in 1..=PLACES as u64 {
-            let open = self.model.session(place as usize).is_some();
-            // A place without a session answers 24 whatever the card.
-            let cards = if open {
-                counts.cards
-            } else {
-                counts.cards.min(1)
-            };
-            for card in 1..=cards as u64 {
-                calls.push(Call::Read(Part {
-                    place,
-                    card,
-                    offset: 0,
-                    length: CARD_BYTES as u64,
-                }));
-                calls.push(Call::Write {
-                    place,
-                    card,
-                    offset: CARD_BYTES as u64,
-                    bytes: Vec::new(),
-                });
-            }
-            let roles = if open {
-                counts.roles
-            } else {
-                counts.roles.min(1)
-            };
-            calls.extend((1..=roles as u64).map(|role| Call::Take { place, role }));
-            calls.push(Call::Close { place });
-        }
-        for call in calls {
+        let mut store = Lent::new(&vec![0; CARD_BYTES * policy.counts.cards], random);
+        for call in self.survey_calls(policy.counts) {
             tally.surveyed += 1;
             let expected = call.on_model(&mut model, STATE_BYTES, store.bytes_mut());
             let answer = call.on_library(state.bytes_mut(), store.bytes_mut(), random)?;
@@ -358,6 +326,29 @@ impl List {
             }
         }
         Ok(())
+    }
+
+    /// Calls at each place: reads, writes, takings of each role, and a closing.
+    fn survey_calls(&self, counts: Counts) -> Vec<Call> {
+        let mut calls = Vec::new();
+        for place in 1..=PLACES as u64 {
+            let open = self.model.session(place as usize).is_some();
+            // A place without a session answers 24 whatever the card or role.
+            let some = |count: usize| if open { count } else { count.min(1) };
+            for card in 1..=some(counts.cards) as u64 {
+                calls.push(reading(place, card, (0, CARD_BYTES as u64)));
+                calls.push(Call::Write {
+                    place,
+                    card,
+                    offset: CARD_BYTES as u64,
+                    bytes: Vec::new(),
+                });
+            }
+            let roles = 1..=some(counts.roles) as u64;
+            calls.extend(roles.map(|role| Call::Take { place, role }));
+            calls.push(Call::Close { place });
+        }
+        calls
     }
 }
 

@@ -5,7 +5,7 @@
 //! call." So each call below is a row of checks, left at the first that fails.
 
 use crate::answer::{Figure, Verdict};
-use second_checker::check::{read, Counts, Level, Meaning, RoleFile, READ, WRITE};
+use second_checker::check::{read, Counts, Meaning, RoleFile, READ, WRITE};
 use second_checker::{check, Outcome};
 use std::collections::BTreeSet;
 use std::ops::Range;
@@ -59,7 +59,7 @@ impl Policy {
     }
 
     /// "a label that the clearance dominates"
-    pub fn is_cleared(&self, user: usize, label: usize) -> bool {
+    fn is_cleared(&self, user: usize, label: usize) -> bool {
         let clearance = self.meaning.clearance[user];
         self.meaning.dominance.over(clearance, label)
     }
@@ -80,23 +80,7 @@ impl Policy {
     /// the session's label. A free level always passes; an undefined one
     /// never."
     pub fn levels_allow(&self, role: usize, label: usize) -> bool {
-        self.read_level_allows(role, label) && self.write_level_allows(role, label)
-    }
-
-    pub fn read_level_allows(&self, role: usize, label: usize) -> bool {
-        match self.meaning.read_level[role] {
-            Level::Free => true,
-            Level::Label(level) => self.meaning.dominance.over(label, level),
-            Level::Undefined => false,
-        }
-    }
-
-    fn write_level_allows(&self, role: usize, label: usize) -> bool {
-        match self.meaning.write_level[role] {
-            Level::Free => true,
-            Level::Label(level) => self.meaning.dominance.over(level, label),
-            Level::Undefined => false,
-        }
+        self.meaning.read_level_allows(role, label) && self.meaning.write_level_allows(role, label)
     }
 
     /// The cards a role may read or write, "inherited ones included".
@@ -166,7 +150,7 @@ impl Model {
     }
 
     // -----------------------------------------------------------------------
-    // The checks, one for each number
+    // The checks that several calls begin with
 
     /// "21: another call with such a state, or one holding a number outside
     /// the limits above (a zeroed state has 0 labels ...)"
@@ -177,9 +161,17 @@ impl Model {
         }
     }
 
-    /// "24: no session at the place"
-    fn in_session(&self, place: usize) -> Result<&Session, u64> {
-        self.session(place).ok_or(24)
+    /// 21, 22, then "24: no session at the place": the policy, the place and its
+    /// session.
+    fn in_session(
+        &self,
+        state_length: usize,
+        place: u64,
+    ) -> Result<(&Policy, usize, &Session), u64> {
+        let policy = self.usable(state_length)?;
+        let place = place_in_range(place)?;
+        let session = self.session(place);
+        session.map(|session| (policy, place, session)).ok_or(24)
     }
 
     // -----------------------------------------------------------------------
@@ -215,9 +207,7 @@ impl Model {
 
     /// 21, 22, 24
     pub fn closing(&self, state_length: usize, place: u64) -> Result<usize, u64> {
-        self.usable(state_length)?;
-        let place = place_in_range(place)?;
-        self.in_session(place)?;
+        let (_, place, _) = self.in_session(state_length, place)?;
         Ok(place)
     }
 
@@ -229,9 +219,7 @@ impl Model {
         place: u64,
         role: u64,
     ) -> Result<(usize, usize), u64> {
-        let policy = self.usable(state_length)?;
-        let place = place_in_range(place)?;
-        let session = self.in_session(place)?;
+        let (policy, place, session) = self.in_session(state_length, place)?;
         let role = in_range(role, policy.counts.roles)?;
         // "27: neither the role nor a senior of it is assigned to the user"
         if !policy.is_member(session.user, role) {
@@ -251,9 +239,7 @@ impl Model {
         place: u64,
         role: u64,
     ) -> Result<(usize, usize), u64> {
-        let policy = self.usable(state_length)?;
-        let place = place_in_range(place)?;
-        self.in_session(place)?;
+        let (policy, place, _) = self.in_session(state_length, place)?;
         let role = in_range(role, policy.counts.roles)?;
         Ok((place, role))
     }
@@ -267,9 +253,7 @@ impl Model {
         part: Part,
         mode: Mode,
     ) -> Result<Range<usize>, u64> {
-        let policy = self.usable(state_length)?;
-        let place = place_in_range(part.place)?;
-        let session = self.in_session(place)?;
+        let (policy, _, session) = self.in_session(state_length, part.place)?;
         let card = in_range(part.card, policy.counts.cards)?;
         // "29: no role held gives this read or write": "A session may use the
         // permissions of all roles it holds, inherited ones included."

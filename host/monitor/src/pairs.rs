@@ -12,8 +12,8 @@ pub mod tally;
 pub mod tracker;
 
 use crate::call::Call;
-use crate::generate::random_bytes;
-use crate::model::{Policy, CARD_BYTES, PLACES};
+use crate::generate::{random_bytes, some_places};
+use crate::model::{Policy, CARD_BYTES};
 use caller::Caller;
 use second_checker::check::RoleFile;
 use second_checker::generate::write;
@@ -131,9 +131,8 @@ fn two_lists(
     file: &RoleFile,
 ) -> [Vec<Call>; 2] {
     let policy = &Policy::unchecked(file);
-    let places: Vec<u64> = (0..random.between(2, 7))
-        .map(|_| random.place(1, PLACES + 1) as u64)
-        .collect();
+    let count = random.between(2, 7);
+    let places = some_places(random, count);
     let [mut first, mut second] = [0, 1].map(|_| Making {
         tracker: Tracker::new(labels),
         caller: Caller::new(policy, &places),

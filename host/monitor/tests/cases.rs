@@ -353,14 +353,22 @@ fn role_flow() {
     both.circle(2);
 }
 
+fn role_of_user(user: u64) -> u64 {
+    user.div_ceil(2)
+}
+
+fn role_of_card(card: u64) -> u64 {
+    card.div_ceil(4)
+}
+
+fn label_of_role(role: u64) -> u64 {
+    1 + (role - 1) % 32
+}
+
 /// "Counts: labels 1 to 32, roles 0 to 128, users 0 to 256, cards 0 to 512",
 /// each of them used: role r reads cards 4r - 3 and 4r - 2 and writes cards
 /// 4r - 1 and 4r, and users 2r - 1 and 2r are assigned to it.
-#[test]
-fn the_largest_counts() {
-    let role_of_user = |user: u64| user.div_ceil(2);
-    let role_of_card = |card: u64| card.div_ceil(4);
-    let label_of_role = |role: u64| 1 + (role - 1) % 32;
+fn file_of_the_largest_counts() -> String {
     let mut text = String::from("H 32 128 256 512\n");
     for label in 2..=32 {
         text.push_str(&format!("D {label} {}\n", label - 1));
@@ -380,8 +388,12 @@ fn the_largest_counts() {
     for user in 1..=256 {
         text.push_str(&format!("A {user} {}\n", role_of_user(user)));
     }
+    text
+}
 
-    let mut both = Both::loaded(&text, 512);
+#[test]
+fn the_largest_counts() {
+    let mut both = Both::loaded(&file_of_the_largest_counts(), 512);
     for user in 1..=256 {
         let role = role_of_user(user);
         let label = label_of_role(role);

@@ -81,10 +81,51 @@ fn wild_bytes(random: &mut Random) -> Vec<u8> {
     bytes
 }
 
+/// Puts such a number into the state.
+fn put_wild_bytes(random: &mut Random, state: &mut [u8], at: usize) {
+    let bytes = wild_bytes(random);
+    state[at..at + bytes.len()].copy_from_slice(&bytes);
+}
+
 /// A state that no load left, and what it is.
 fn hostile_state(random: &mut Random, used: &[Used], from: &Used) -> (&'static str, Vec<u8>) {
-    let mut state = from.state.clone();
     let other = &used[random.below(used.len())];
+    match random.below(16) {
+        kind @ 0..=5 => made_up_state(random, kind),
+        kind => damaged_state(random, from, other, kind),
+    }
+}
+
+/// Kinds 0 to 5: nothing of a loaded state.
+fn made_up_state(random: &mut Random, kind: usize) -> (&'static str, Vec<u8>) {
+    let (name, mut state) = match kind {
+        0 => return ("random bytes", random_bytes(random, STATE_BYTES)),
+        1..=2 => {
+            let bytes = random_bytes(random, STATE_BYTES);
+            ("counts, then random bytes", bytes)
+        }
+        3..=4 => {
+            let below = random.pick(&[1, 2, 3, 5, 33]);
+            let bytes = (0..STATE_BYTES).map(|_| random.below(below) as u8);
+            ("counts, then small bytes", bytes.collect())
+        }
+        _ => {
+            let byte = random.pick(&[0x00, 0xff, 0x80, 0x01]);
+            ("counts, then one byte throughout", vec![byte; STATE_BYTES])
+        }
+    };
+    put_counts(random, &mut state);
+    (name, state)
+}
+
+/// Kinds 6 and above: a loaded state, or what is made from it.
+fn damaged_state(
+    random: &mut Random,
+    from: &Used,
+    other: &Used,
+    kind: usize,
+) -> (&'static str, Vec<u8>) {
+    let mut state = from.state.clone();
     // Where the state isn't 0, it holds something.
     let in_use: Vec<usize> = (0..STATE_BYTES - 8).filter(|&at| state[at] != 0).collect();
     let any_byte = |random: &mut Random| match random.below(4) {
@@ -92,30 +133,7 @@ fn hostile_state(random: &mut Random, used: &[Used], from: &Used) -> (&'static s
         1 => random.below(STATE_BYTES - 8),
         _ => random.pick(&in_use),
     };
-    let kind = match random.below(16) {
-        0 => {
-            state = random_bytes(random, STATE_BYTES);
-            "random bytes"
-        }
-        1..=2 => {
-            state = random_bytes(random, STATE_BYTES);
-            put_counts(random, &mut state);
-            "counts, then random bytes"
-        }
-        3..=4 => {
-            let below = random.pick(&[1, 2, 3, 5, 33]);
-            state = (0..STATE_BYTES)
-                .map(|_| random.below(below) as u8)
-                .collect();
-            put_counts(random, &mut state);
-            "counts, then small bytes"
-        }
-        5 => {
-            let byte = random.pick(&[0x00, 0xff, 0x80, 0x01]);
-            state.fill(byte);
-            put_counts(random, &mut state);
-            "counts, then one byte throughout"
-        }
+    let name = match kind {
         6..=7 => {
             for _ in 0..random.between(1, 8) {
                 let at = any_byte(random);
@@ -126,16 +144,14 @@ fn hostile_state(random: &mut Random, used: &[Used], from: &Used) -> (&'static s
         8..=9 => {
             for _ in 0..random.between(1, 3) {
                 let at = any_byte(random);
-                let bytes = wild_bytes(random);
-                state[at..at + bytes.len()].copy_from_slice(&bytes);
+                put_wild_bytes(random, &mut state, at);
             }
             "a loaded state with wild numbers"
         }
         10..=12 => {
             for _ in 0..random.between(1, 3) {
                 let at = random.pick(&from.changed).min(STATE_BYTES - 8);
-                let bytes = wild_bytes(random);
-                state[at..at + bytes.len()].copy_from_slice(&bytes);
+                put_wild_bytes(random, &mut state, at);
             }
             "a loaded state with wild numbers in its sessions"
         }
@@ -160,7 +176,7 @@ fn hostile_state(random: &mut Random, used: &[Used], from: &Used) -> (&'static s
             "a zeroed state with bytes changed"
         }
     };
-    (kind, state)
+    (name, state)
 }
 
 /// Makes a call on copies of state and store, in new surroundings: other

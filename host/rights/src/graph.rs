@@ -1,7 +1,7 @@
 //! An accepted file as Graphviz text: labels, roles and role flow.
 
 use crate::model::Policy;
-use second_checker::order::Order;
+use second_checker::order::{reached, steps, Order};
 use std::collections::BTreeSet;
 
 /// The line before the flows: how they are drawn, blue unless it is said.
@@ -21,8 +21,10 @@ pub fn text(policy: &Policy) -> String {
     text += &lines("l", counts.labels, &policy.meaning.dominance);
     text += "  }\n";
     text += "  subgraph cluster_roles { label=\"roles\"; edge [arrowhead=none];\n";
+    let flows: Vec<(usize, usize)> = policy.flows.iter().copied().collect();
+    let steps = steps(counts.roles, &flows);
     let reached: Vec<BTreeSet<usize>> = (0..=counts.roles)
-        .map(|role| reached(policy, role))
+        .map(|role| reached(&steps, role))
         .collect();
     for (role, reached) in reached.iter().enumerate().skip(1) {
         let color = match reached.contains(&role) {
@@ -33,7 +35,7 @@ pub fn text(policy: &Policy) -> String {
     }
     text += &lines("r", counts.roles, &policy.meaning.seniority);
     text += FLOWS;
-    for &(from, to) in policy.flows.iter().filter(|flow| is_direct(policy, **flow)) {
+    for (from, to) in flows.into_iter().filter(|&flow| is_direct(policy, flow)) {
         let color = match reached[to].contains(&from) {
             true => " [color=red]",
             false => "",
@@ -86,21 +88,4 @@ fn juniors(policy: &Policy, role: usize) -> BTreeSet<usize> {
     roles
         .filter(|&junior| junior != role && policy.meaning.seniority.over(role, junior))
         .collect()
-}
-
-/// The roles that flow leads to from a role, by one step or more.
-fn reached(policy: &Policy, from: usize) -> BTreeSet<usize> {
-    let mut found = BTreeSet::new();
-    follow(policy, from, &mut found);
-    found
-}
-
-/// Adds the roles that flow leads to from a role.
-fn follow(policy: &Policy, role: usize, found: &mut BTreeSet<usize>) {
-    let flows = policy.flows.range((role, 0)..=(role, usize::MAX));
-    for &(_, next) in flows {
-        if found.insert(next) {
-            follow(policy, next, found);
-        }
-    }
 }

@@ -3,15 +3,17 @@
 
 use crate::temporary::Temporary;
 use crate::{expected, graph, run, Printed};
-use second_checker::check::{read, Counts, RoleFile, READ, REFUSALS, WRITE};
+use second_checker::check::{read, Counts, RoleFile, REFUSALS};
 use second_checker::differential::Totals;
-use second_checker::generate::{accepted, bent_small, mixed, sparse_flow, write, Size};
+use second_checker::generate::{
+    accepted, bent_small, flow_permissions, flow_ring, mixed, sparse_flow, write, Size,
+};
 use second_checker::line::LINE_LENGTH;
 use second_checker::program::first_difference;
 use second_checker::random::Random;
 use second_checker::tally::Tally;
 use second_checker::{check, Outcome};
-use std::collections::{BTreeMap, BTreeSet};
+use std::collections::BTreeMap;
 use std::ffi::OsString;
 use std::os::unix::ffi::OsStringExt;
 use std::path::Path;
@@ -141,17 +143,14 @@ fn circles(random: &mut Random) -> RoleFile {
             flows.push((random.below(roles), roles + random.below(ring)));
         }
         if ring > 1 {
-            flows.extend((0..ring).map(|step| (roles + step, roles + (step + 1) % ring)));
+            flows.extend(flow_ring(roles, ring));
         }
         roles += ring;
     }
     let names = random.shuffled(roles);
     let cards = flows.len();
-    let mut permissions = BTreeSet::new();
-    for (&(from, to), card) in flows.iter().zip(1..) {
-        permissions.insert((names[from], card, WRITE));
-        permissions.insert((names[to], card, READ));
-    }
+    let mut permissions = flow_permissions(&flows, &names, 1..=cards);
+    permissions.sort_unstable();
     let seniority = match random.below(3) {
         0 => vec![(names[0], names[1])],
         _ => Vec::new(),
@@ -166,7 +165,7 @@ fn circles(random: &mut Random) -> RoleFile {
         seniority,
         clearances: vec![(1, 1)],
         card_labels: (1..=cards).map(|card| (card, 1)).collect(),
-        permissions: permissions.into_iter().collect(),
+        permissions,
         assignments: vec![(1, random.between(1, roles))],
         ..RoleFile::default()
     }

@@ -46,6 +46,29 @@ fn refused(file: &[u8]) -> String {
     String::from_utf8(refusal::text(file, &verdict)).expect("bytes to show")
 }
 
+/// The text of a graph: what labels, roles and flows it has.
+fn drawn(labels: &[&str], roles: &[&str], flows: &[&str]) -> String {
+    let lines = |lines: &[&str]| -> String {
+        let lines = lines.iter().map(|line| format!("    {line};\n"));
+        lines.collect()
+    };
+    let (labels, roles, flows) = (lines(labels), lines(roles), lines(flows));
+    format!(
+        "\
+digraph policy {{
+  rankdir=BT; ranksep=0.8; nodesep=0.15;
+  node [shape=box, fontname=\"sans-serif\", fontsize=10, width=0.35, height=0.25, margin=0.05];
+  edge [arrowsize=0.6];
+  subgraph cluster_labels {{ label=\"labels\"; edge [arrowhead=none];
+{labels}  }}
+  subgraph cluster_roles {{ label=\"roles\"; edge [arrowhead=none];
+{roles}    edge [arrowhead=normal, style=dashed, color=blue, constraint=false];
+{flows}  }}
+}}
+"
+    )
+}
+
 #[test]
 fn lists() {
     for (numbers, text) in [
@@ -83,33 +106,18 @@ no user     takes      none
     );
     assert_eq!(
         graph::text(&policy),
-        "\
-digraph policy {
-  rankdir=BT; ranksep=0.8; nodesep=0.15;
-  node [shape=box, fontname=\"sans-serif\", fontsize=10, width=0.35, height=0.25, margin=0.05];
-  edge [arrowsize=0.6];
-  subgraph cluster_labels { label=\"labels\"; edge [arrowhead=none];
-    l1 [label=\"1\"];
-    l2 [label=\"2\"];
-    l1 -> l2;
-  }
-  subgraph cluster_roles { label=\"roles\"; edge [arrowhead=none];
-    r1 [label=\"1\"];
-    r2 [label=\"2\"];
-    r1 -> r2;
-    edge [arrowhead=normal, style=dashed, color=blue, constraint=false];
-  }
-}
-"
+        drawn(
+            &["l1 [label=\"1\"]", "l2 [label=\"2\"]", "l1 -> l2"],
+            &["r1 [label=\"1\"]", "r2 [label=\"2\"]", "r1 -> r2"],
+            &[],
+        )
     );
 }
 
 #[test]
 fn crossed() {
     let policy = policy(CROSSED);
-    assert_eq!(
-        report::text(&policy, &[2, 1, 2]),
-        "\
+    let user_2 = "\
 user     2  clearance  3
             assigned   none
             inherited  none
@@ -119,7 +127,12 @@ label    1  takes      none
 label    3  takes      none
             reads      none
             writes     none
-
+";
+    assert_eq!(
+        report::text(&policy, &[2, 1, 2]),
+        format!(
+            "\
+{user_2}
 user     1  clearance  1
             assigned   3
             inherited  1-2
@@ -127,52 +140,37 @@ label    1  takes      1-3
             reads      2
             writes     1
 
-user     2  clearance  3
-            assigned   none
-            inherited  none
-label    1  takes      none
-            reads      none
-            writes     none
-label    3  takes      none
-            reads      none
-            writes     none
-
+{user_2}
 no user     takes      4
             reads      1 3
 "
+        )
     );
     // Flows: 1, 2 and 3 to 4, 4 to 2 and 3; those of 2 and 3 are role 1's, and
     // that to 3 is one to role 2.
     assert_eq!(
         graph::text(&policy),
-        "\
-digraph policy {
-  rankdir=BT; ranksep=0.8; nodesep=0.15;
-  node [shape=box, fontname=\"sans-serif\", fontsize=10, width=0.35, height=0.25, margin=0.05];
-  edge [arrowsize=0.6];
-  subgraph cluster_labels { label=\"labels\"; edge [arrowhead=none];
-    l1 [label=\"1\"];
-    l2 [label=\"2\"];
-    l3 [label=\"3\"];
-    l4 [label=\"4\"];
-    l1 -> l2;
-    l1 -> l3;
-    l2 -> l4;
-    l3 -> l4;
-  }
-  subgraph cluster_roles { label=\"roles\"; edge [arrowhead=none];
-    r1 [label=\"1\"];
-    r2 [label=\"2\", color=red];
-    r3 [label=\"3\", color=red];
-    r4 [label=\"4\", color=red];
-    r1 -> r2;
-    r2 -> r3;
-    edge [arrowhead=normal, style=dashed, color=blue, constraint=false];
-    r1 -> r4;
-    r4 -> r2 [color=red];
-  }
-}
-"
+        drawn(
+            &[
+                "l1 [label=\"1\"]",
+                "l2 [label=\"2\"]",
+                "l3 [label=\"3\"]",
+                "l4 [label=\"4\"]",
+                "l1 -> l2",
+                "l1 -> l3",
+                "l2 -> l4",
+                "l3 -> l4"
+            ],
+            &[
+                "r1 [label=\"1\"]",
+                "r2 [label=\"2\", color=red]",
+                "r3 [label=\"3\", color=red]",
+                "r4 [label=\"4\", color=red]",
+                "r1 -> r2",
+                "r2 -> r3"
+            ],
+            &["r1 -> r4", "r4 -> r2 [color=red]"],
+        )
     );
 }
 
@@ -184,22 +182,7 @@ fn only_counts() {
         report::text(&policy, &[]),
         "no user     takes      none\n            reads      none\n"
     );
-    assert_eq!(
-        graph::text(&policy),
-        "\
-digraph policy {
-  rankdir=BT; ranksep=0.8; nodesep=0.15;
-  node [shape=box, fontname=\"sans-serif\", fontsize=10, width=0.35, height=0.25, margin=0.05];
-  edge [arrowsize=0.6];
-  subgraph cluster_labels { label=\"labels\"; edge [arrowhead=none];
-    l1 [label=\"1\"];
-  }
-  subgraph cluster_roles { label=\"roles\"; edge [arrowhead=none];
-    edge [arrowhead=normal, style=dashed, color=blue, constraint=false];
-  }
-}
-"
-    );
+    assert_eq!(graph::text(&policy), drawn(&["l1 [label=\"1\"]"], &[], &[]));
 }
 
 #[test]

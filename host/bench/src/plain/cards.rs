@@ -1,6 +1,6 @@
 //! Reads and writes of a part of a card.
 
-use super::state::{among, place_at, roles_at, roles_of, sound};
+use super::state::{among, roles_at, roles_of, session_at, sound};
 use super::{READERS, WRITERS};
 
 /// The number of a read or a write of n bytes, by the table at `at` of the roles that may.
@@ -14,13 +14,10 @@ fn part_number(
     let Some((state, counts)) = sound(state) else {
         return 21;
     };
-    if !among(64, place) {
-        return 22;
-    }
-    let seat = place_at(place);
-    if state[seat] != 1 {
-        return 24;
-    }
+    let seat = match session_at(state, place) {
+        Ok(seat) => seat,
+        Err(number) => return number,
+    };
     if !among(counts.cards, card) {
         return 25;
     }

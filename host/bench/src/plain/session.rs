@@ -1,7 +1,7 @@
 //! Opening and closing a place, taking and dropping a role.
 
 use super::roleset::{add, remove, ROW};
-use super::state::{among, dominates, place_at, roles_of, sound_mut, State};
+use super::state::{among, dominates, place_at, roles_of, session_at, sound_mut, State};
 use super::{ASSIGNED, CLEARANCES, READ_LEVELS, SENIORS, WRITE_LEVELS};
 
 #[inline(never)]
@@ -34,15 +34,25 @@ pub fn close(state: &mut [u8], place: u64) -> u64 {
     let Some((state, _)) = sound_mut(state) else {
         return 21;
     };
-    if !among(64, place) {
-        return 22;
-    }
-    let at = place_at(place);
-    if state[at] != 1 {
-        return 24;
-    }
+    let at = match session_at(state, place) {
+        Ok(at) => at,
+        Err(number) => return number,
+    };
     state[at..at + 20].fill(0);
     0
+}
+
+/// The state and where the place's bytes start, or the number: 21, 22, 24, 25.
+#[inline(always)]
+fn with_role(state: &mut [u8], place: u64, role: u64) -> Result<(&mut State, usize), u64> {
+    let Some((state, counts)) = sound_mut(state) else {
+        return Err(21);
+    };
+    let at = session_at(state, place)?;
+    if !among(counts.roles, role) {
+        return Err(25);
+    }
+    Ok((state, at))
 }
 
 /// Whether the levels of the role allow it at the label.
@@ -54,19 +64,10 @@ fn fitting(state: &State, label: u64, role: u64) -> bool {
 
 #[inline(never)]
 pub fn take(state: &mut [u8], place: u64, role: u64) -> u64 {
-    let Some((state, counts)) = sound_mut(state) else {
-        return 21;
+    let (state, at) = match with_role(state, place, role) {
+        Ok(found) => found,
+        Err(number) => return number,
     };
-    if !among(64, place) {
-        return 22;
-    }
-    let at = place_at(place);
-    if state[at] != 1 {
-        return 24;
-    }
-    if !among(counts.roles, role) {
-        return 25;
-    }
     let user = u64::from(state[at + 1]) + 1;
     if roles_of(state, ASSIGNED, user) & roles_of(state, SENIORS, role) == 0 {
         return 27;
@@ -80,19 +81,10 @@ pub fn take(state: &mut [u8], place: u64, role: u64) -> u64 {
 
 #[inline(never)]
 pub fn drop(state: &mut [u8], place: u64, role: u64) -> u64 {
-    let Some((state, counts)) = sound_mut(state) else {
-        return 21;
+    let (state, at) = match with_role(state, place, role) {
+        Ok(found) => found,
+        Err(number) => return number,
     };
-    if !among(64, place) {
-        return 22;
-    }
-    let at = place_at(place);
-    if state[at] != 1 {
-        return 24;
-    }
-    if !among(counts.roles, role) {
-        return 25;
-    }
     remove(&mut state[at + 4..at + 4 + ROW], role as usize);
     0
 }

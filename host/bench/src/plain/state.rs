@@ -51,6 +51,19 @@ pub fn place_at(place: u64) -> usize {
     PLACES + 20 * (place as usize - 1)
 }
 
+/// Where the bytes of a place with a session start, or the number: 22, 24.
+#[inline(always)]
+pub fn session_at(state: &State, place: u64) -> Result<usize, u64> {
+    if !among(64, place) {
+        return Err(22);
+    }
+    let at = place_at(place);
+    if state[at] != 1 {
+        return Err(24);
+    }
+    Ok(at)
+}
+
 /// The set of roles at `at`.
 pub fn roles_at(state: &State, at: usize) -> u128 {
     u128::from_le_bytes(taken(&state[at..at + ROW]))

@@ -4,8 +4,8 @@
 
 use super::tracker::{Opened, Tracker};
 use crate::call::{Call, Kind};
-use crate::generate::{bad_span, good_span, number, random_bytes};
-use crate::model::{Mode, Part, Policy, PLACES};
+use crate::generate::{bad_span, good_span, number, place_among, reading, writing};
+use crate::model::{Mode, Policy};
 use second_checker::random::Random;
 use std::collections::{BTreeMap, BTreeSet};
 
@@ -48,7 +48,7 @@ impl Caller<'_> {
         let place = if kind != Kind::Open && !open.is_empty() && random.percent(85) {
             random.pick(&open)
         } else {
-            self.place(random)
+            place_among(random, &self.places)
         };
         self.call(random, tracker, kind, place)
     }
@@ -58,23 +58,15 @@ impl Caller<'_> {
     pub fn other(&self, random: &mut Random, tracker: &Tracker, label: usize) -> Call {
         let mut above = tracker.open_places();
         above.retain(|&place| !tracker.is_under(label, place));
-        let mut place = self.place(random);
+        let mut place = place_among(random, &self.places);
         while tracker.is_under(label, place) {
-            place = self.place(random);
+            place = place_among(random, &self.places);
         }
         if !above.is_empty() && random.percent(85) {
             place = random.pick(&above);
         }
         let kind = session_kind(random);
         self.call(random, tracker, kind, place)
-    }
-
-    fn place(&self, random: &mut Random) -> u64 {
-        if random.percent(90) {
-            random.pick(&self.places)
-        } else {
-            number(random, PLACES)
-        }
     }
 
     fn call(&self, random: &mut Random, tracker: &Tracker, kind: Kind, place: u64) -> Call {
@@ -91,24 +83,12 @@ impl Caller<'_> {
             },
             Kind::Read => {
                 let card = self.card(random, tracker, place, Mode::Read);
-                let (offset, length) = span(random);
-                Call::Read(Part {
-                    place,
-                    card,
-                    offset,
-                    length,
-                })
+                reading(place, card, span(random))
             }
             Kind::Write => {
                 let card = self.card(random, tracker, place, Mode::Write);
-                let (offset, length) = span(random);
-                let bytes = random_bytes(random, length as usize);
-                Call::Write {
-                    place,
-                    card,
-                    offset,
-                    bytes,
-                }
+                let span = span(random);
+                writing(random, place, card, span)
             }
             Kind::Load | Kind::Flows | Kind::Circle | Kind::Can => {
                 unreachable!("stands in no run")

@@ -50,7 +50,7 @@ impl Leak {
 }
 
 /// A copy of the model with one leak.
-pub struct Leaky {
+struct Leaky {
     leak: Leak,
     model: Model,
     /// Roles that the next session at a place begins with.
@@ -64,7 +64,7 @@ impl Monitor for Leaky {
             (Leak::WriteLevel, Call::Load { file }, _) => self.load(file),
             (Leak::WriteLevel, &Call::Take { place, role }, 28) => {
                 self.take(place, role, |policy, role, session| {
-                    policy.read_level_allows(role, session.label)
+                    policy.meaning.read_level_allows(role, session.label)
                 })
             }
             (Leak::Clearance, &Call::Take { place, role }, 28) => {
@@ -89,7 +89,7 @@ impl Monitor for Leaky {
 }
 
 impl Leaky {
-    pub fn new(leak: Leak) -> Leaky {
+    fn new(leak: Leak) -> Leaky {
         Leaky {
             leak,
             model: Model::default(),

@@ -3,7 +3,8 @@
 //! file and its levels come from the second checker; sessions are kept in the
 //! lent state, in a layout of this crate alone.
 
-use second_checker::check::{read, Level, Meaning};
+use second_checker::check::{read, Level, Meaning, RoleFile};
+use second_checker::order::Order;
 use second_checker::{check, Outcome};
 use std::slice;
 
@@ -140,36 +141,45 @@ fn load(file: &[u8], state: &mut [u8]) -> Verdict {
     let Ok(role_file) = read(file) else {
         unreachable!("an accepted file has its form");
     };
-    let meaning = Meaning::of(&role_file);
     let state = &mut state[..STATE_BYTES];
     state.fill(0);
+    put_file(state, &role_file);
+    put_two_bytes(state, CIRCLE, accepted.circle.unwrap_or(0));
+    for &(from, to) in &accepted.flows {
+        mark(state, FLOWS, ROLE_ROW, from, to);
+    }
+    verdict(0, [0, 0])
+}
+
+/// Puts what the file says into a zeroed state.
+fn put_file(state: &mut [u8], role_file: &RoleFile) {
+    let meaning = Meaning::of(role_file);
     let counts = role_file.counts;
     let numbers = [counts.labels, counts.roles, counts.users, counts.cards];
     for (index, number) in numbers.into_iter().enumerate() {
         put_two_bytes(state, COUNTS + 2 * index, number);
     }
-    put_two_bytes(state, CIRCLE, accepted.circle.unwrap_or(0));
     for user in 1..=counts.users {
         state[CLEARANCE + user - 1] = meaning.clearance[user] as u8;
     }
     for card in 1..=counts.cards {
         state[CARD_LABEL + card - 1] = meaning.card_label[card] as u8;
     }
-    for upper in 1..=counts.labels {
-        for lower in 1..=counts.labels {
-            if meaning.dominance.over(upper, lower) {
-                mark(state, DOMINANCE, LABEL_ROW, upper, lower);
-            }
-        }
-    }
+    put_order(
+        state,
+        (DOMINANCE, LABEL_ROW),
+        counts.labels,
+        &meaning.dominance,
+    );
+    put_order(
+        state,
+        (SENIORITY, ROLE_ROW),
+        counts.roles,
+        &meaning.seniority,
+    );
     for role in 1..=counts.roles {
         state[READ_LEVEL + role - 1] = level(meaning.read_level[role]);
         state[WRITE_LEVEL + role - 1] = level(meaning.write_level[role]);
-        for junior in 1..=counts.roles {
-            if meaning.seniority.over(role, junior) {
-                mark(state, SENIORITY, ROLE_ROW, role, junior);
-            }
-        }
         for &card in &meaning.may_read[role] {
             mark(state, MAY_READ, CARD_ROW, role, card);
         }
@@ -180,10 +190,15 @@ fn load(file: &[u8], state: &mut [u8]) -> Verdict {
     for &(user, role) in &role_file.assignments {
         mark(state, ASSIGNED, ROLE_ROW, user, role);
     }
-    for &(from, to) in &accepted.flows {
-        mark(state, FLOWS, ROLE_ROW, from, to);
+}
+
+/// Marks what stands over what.
+fn put_order(state: &mut [u8], (table, row_bytes): (usize, usize), size: usize, order: &Order) {
+    for upper in 1..=size {
+        for lower in (1..=size).filter(|&lower| order.over(upper, lower)) {
+            mark(state, table, row_bytes, upper, lower);
+        }
     }
-    verdict(0, [0, 0])
 }
 
 fn level(level: Level) -> u8 {
@@ -203,7 +218,7 @@ fn verdict(number: usize, place: [usize; 2]) -> Verdict {
 }
 
 // ---------------------------------------------------------------------------
-// The checks, one for each number
+// The checks, by their numbers
 
 /// 21: a short state, or a number outside its limits.
 fn usable(state: &[u8]) -> Result<(), u64> {
@@ -252,12 +267,14 @@ fn place_in_range(place: u64) -> Result<usize, u64> {
     Ok(place as usize)
 }
 
-/// 24
-fn in_session(state: &[u8], place: usize) -> Result<(), u64> {
+/// 21, 22, 24: a place with a session.
+fn in_session(state: &[u8], place: u64) -> Result<usize, u64> {
+    usable(state)?;
+    let place = place_in_range(place)?;
     if session_user(state, place) == 0 {
         return Err(24);
     }
-    Ok(())
+    Ok(place)
 }
 
 /// 25
@@ -366,18 +383,14 @@ fn open(state: &mut [u8], place: u64, user: u64, label: u64) -> Result<(), u64> 
 }
 
 fn close(state: &mut [u8], place: u64) -> Result<(), u64> {
-    usable(state)?;
-    let place = place_in_range(place)?;
-    in_session(state, place)?;
+    let place = in_session(state, place)?;
     let at = session_at(place);
     state[at..at + SESSION].fill(0);
     Ok(())
 }
 
 fn take(state: &mut [u8], place: u64, role: u64) -> Result<(), u64> {
-    usable(state)?;
-    let place = place_in_range(place)?;
-    in_session(state, place)?;
+    let place = in_session(state, place)?;
     let role = in_range(role, roles(state))?;
     membership(state, session_user(state, place), role)?;
     levels_allow(state, role, session_label(state, place))?;
@@ -386,9 +399,7 @@ fn take(state: &mut [u8], place: u64, role: u64) -> Result<(), u64> {
 }
 
 fn drop_role(state: &mut [u8], place: u64, role: u64) -> Result<(), u64> {
-    usable(state)?;
-    let place = place_in_range(place)?;
-    in_session(state, place)?;
+    let place = in_session(state, place)?;
     let role = in_range(role, roles(state))?;
     unmark(state, session_roles(place), ROLE_ROW, 1, role);
     Ok(())
@@ -403,9 +414,7 @@ fn reach(
     span: (u64, u64),
     permissions: usize,
 ) -> Result<usize, u64> {
-    usable(state)?;
-    let place = place_in_range(place)?;
-    in_session(state, place)?;
+    let place = in_session(state, place)?;
     let card = in_range(card, cards(state))?;
     given(state, place, card, permissions)?;
     within_card(span.0, span.1)?;
