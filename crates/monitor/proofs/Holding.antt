@@ -31,6 +31,10 @@ module _ (xs : List ℕ) (at r : ℕ) (fits : at + 16 ≤ length xs) (w : Among 
   small : k < 8
   small = omega arith
 
+  -- one role more
+  pub more-placed : Placed at (added xs at r) xs (set xs i (bitOr (getD xs i 0) (2 ^ k)))
+  more-placed = rw (shifted k small) at (added-placed xs at r fits w)
+
   -- without the role, which the row does not hold
   none-less : member xs at r ≡ false → (q : ℕ) → member xs at q ≡ removed xs at r q
   none-less h q = elim (ℕ-discrete q r) [
@@ -41,7 +45,7 @@ module _ (xs : List ℕ) (at r : ℕ) (fits : at + 16 ≤ length xs) (w : Among 
   abbrev less : Bool → List ℕ
   less held = cond held (set xs i (bitXor (getD xs i 0) (2 ^ k))) xs
 
-  less-placed : Placed at (removed xs at r) xs (less (member xs at r))
+  pub less-placed : Placed at (removed xs at r) xs (less (member xs at r))
   less-placed = by (member xs at r) refl
     where
       by : (b : Bool) → member xs at r ≡ b → Placed at (removed xs at r) xs (less b)
@@ -49,7 +53,7 @@ module _ (xs : List ℕ) (at r : ℕ) (fits : at + 16 ≤ length xs) (w : Among 
       by false h = unwritten (λ l. none-less h)
 
   -- one byte at most is written
-  length-less : (b : Bool) → length (less b) ≡ length xs
+  pub length-less : (b : Bool) → length (less b) ≡ length xs
   length-less b = either (λ (ys : List ℕ). length ys ≡ length xs) b _ xs (length-set xs i _) refl
 
   module _ (xs-bytes : (j : ℕ) → getD xs j 0 < 256) where
@@ -67,7 +71,7 @@ module _ (xs : List ℕ) (at r : ℕ) (fits : at + 16 ≤ length xs) (w : Among 
     module _ (ys : List ℕ) (long : length ys ≡ length xs) (ys-bytes : (j : ℕ) → getD ys j 0 < 256) where
       pub added-is : Placed at (added xs at r) xs ys → ys ≡ set xs i (bitOr (getD xs i 0) (2 ^ k))
       added-is p =
-          placed-once at (added xs at r) xs ys _ p (rw (shifted k small) at (added-placed xs at r fits w)) long (length-set xs i _) ys-bytes
+          placed-once at (added xs at r) xs ys _ p more-placed long (length-set xs i _) ys-bytes
           (byte-set (bitOr (getD xs i 0) (2 ^ k)) (or-lt 8 _ _ (xs-bytes i) (shifted-byte k small)))
 
       pub removed-is : Placed at (removed xs at r) xs ys → ys ≡ less (member xs at r)

@@ -21,7 +21,7 @@ use Rattle.monitor.specs.Calls.{written, opened, closed, taken, dropped}
 use Rattle.monitor.specs.Places.{put}
 use Rattle.monitor.specs.Rules.{Session, Sessions, noSessions, sessionOf, holding, without}
 use Rattle.monitor.proofs.Frames.{length-written, written-in, written-out}
-use Rattle.monitor.proofs.Holding.{added-placed, removed-placed, length-less}
+use Rattle.monitor.proofs.Holding.{more-placed, less-placed, length-less}
 
 pub record SessionAt (xs : List ℕ) (p : ℕ) (s : Session) : Type 0 where
   pub used : getD xs (placeAt p) 0 ≡ 1
@@ -142,23 +142,23 @@ module _ (xs : List ℕ) (p : ℕ) (long : 65536 ≤ length xs) (w : Among 64 p)
   module _ (r : ℕ) (v : Among 128 r) where
     pub taken-touched : Touched p xs (taken xs p r)
     unfolding taken
-    taken-touched = row-touched (added xs (heldAt p) r) (taken xs p r) (length-set xs _ _) (added-placed xs (heldAt p) r (omega arith) v)
+    taken-touched = row-touched (added xs (heldAt p) r) (taken xs p r) (length-set xs _ _) (more-placed xs (heldAt p) r (omega arith) v)
 
     pub taken-place : (s : Session) → SessionAt xs p s → PlaceIs (taken xs p r) p (some (holding r s))
     unfolding taken
     taken-place s a =
-        row-place (added xs (heldAt p) r) (taken xs p r) (length-set xs _ _) (added-placed xs (heldAt p) r (omega arith) v) s a (holding r s .held)
+        row-place (added xs (heldAt p) r) (taken xs p r) (length-set xs _ _) (more-placed xs (heldAt p) r (omega arith) v) s a (holding r s .held)
         (λ q. rw (among-iff 128 r .1 v, a .held q))
 
     pub dropped-touched : Touched p xs (dropped xs p r)
     unfolding dropped
     dropped-touched =
         row-touched (removed xs (heldAt p) r) (dropped xs p r)
-        (length-less xs (heldAt p) r (omega arith) v (member xs (heldAt p) r)) (removed-placed xs (heldAt p) r (omega arith) v)
+        (length-less xs (heldAt p) r (omega arith) v (member xs (heldAt p) r)) (less-placed xs (heldAt p) r (omega arith) v)
 
     pub dropped-place : (s : Session) → SessionAt xs p s → PlaceIs (dropped xs p r) p (some (without r s))
     unfolding dropped
     dropped-place s a =
         row-place (removed xs (heldAt p) r) (dropped xs p r)
-        (length-less xs (heldAt p) r (omega arith) v (member xs (heldAt p) r)) (removed-placed xs (heldAt p) r (omega arith) v) s a (without r s .held)
+        (length-less xs (heldAt p) r (omega arith) v (member xs (heldAt p) r)) (less-placed xs (heldAt p) r (omega arith) v) s a (without r s .held)
         (λ q. rw (a .held q))

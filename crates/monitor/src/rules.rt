@@ -28,27 +28,17 @@ pub fn entitled(s: &[u8], user: u64, role: u64) -> bool
     roleset::meet(s, assigned as usize, seniors as usize)
 }
 
-// Whether label a dominates label b, one of which is a level: a free level, 0, always passes.
-fn passes(s: &[u8], level: u64, a: u64, b: u64) -> bool
-    ensures { λ r. ⌜ r ≡ tables.passesIn (now (s .entry)) level a b ⌝ }
-{
-    if level == 0 {
-        return true;
-    }
-    tables::dominates(s, a, b)
-}
-
 // Whether the levels of the role allow it at the label.
 pub fn fitting(s: &[u8], label: u64, role: u64) -> bool
     requires { ⌜ Among 128 role ⌝ }
     ensures { λ r. ⌜ r ≡ session.fitting (now (s .entry)) label role ⌝ }
 {
     let reads = state::byte_of(s, 1808, role);
-    if !passes(s, reads, label, reads) {
+    if !tables::passes(s, reads, label, reads) {
         return false;
     }
     let writes = state::byte_of(s, 1936, role);
-    passes(s, writes, writes, label)
+    tables::passes(s, writes, writes, label)
 }
 
 // The same two of the session at the place.

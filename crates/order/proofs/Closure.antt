@@ -8,9 +8,9 @@ use native.Mathlib.Omega.{arith}
 use native.Mathlib.Numerals.{add-one}
 use lib.Dec.{eqb}
 use borrow.Author.Tests.{eq-eqb, eqb-true}
-use Rattle.search.specs.Search.{Among, Lowest}
+use Rattle.search.specs.Search.{Among}
 use Rattle.search.proofs.Truth.{or-iff, and-iff, untrue, both}
-use Rattle.search.proofs.Found.{last-or, first-none, first-lowest, first-agree}
+use Rattle.search.proofs.Found.{last-or, first-none, first-agree}
 use Rattle.order.specs.Table.{Rows}
 use Rattle.order.specs.Bound.{converse}
 use Rattle.order.specs.Closure.{Relation, via, path, closure, circle, Reach, here, step, OnCircle, PartialOrder, Irreflexive, round}
@@ -111,6 +111,9 @@ module _ (e : Relation) where
     pub circle-finds : (a : ℕ) → Among n a → (path n e a a ≡ true) ↔ OnCircle n e a
     circle-finds a w = path-iff a a w
 
+    pub circle-misses : (a : ℕ) → Among n a → (path n e a a ≡ false) ↔ (OnCircle n e a → ⊥)
+    circle-misses a w = (λ q c. both (circle-finds a w .1 c) q, λ h. untrue (path n e a a) (λ p. h (circle-finds a w .0 p)))
+
     pub closure-reflexive : (a : ℕ) → Among n a → closure n e a a ≡ true
     closure-reflexive a w = closure-iff a a w .1 here
 
@@ -149,10 +152,6 @@ module _ (e : Relation) where
             let (b, v, s, r) = path-iff a a w .0 p in
             let q : a ≡ b = o .antisymmetric a b w v (closure-step a b v s) (closure-iff b a w .1 r) in
             both (rw (← q) at s) (i a w))
-
-    -- the lowest on a circle
-    pub circle-lowest : (a : ℕ) → 1 ≤ a → (circle n e ≡ a) ↔ Lowest n (λ a. path n e a a) a
-    circle-lowest a l = first-lowest (λ a. path n e a a) n a l
 
 -- a path in the relation turned round is one the other way
 pub via-converse : (e : Relation) (k a b : ℕ) → via (converse e) k a b ≡ via e k b a

@@ -23,7 +23,7 @@ use Rattle.rolefile.proofs.Sections.{part, Section, told}
 use Rattle.rolefile.proofs.Within.{scan-within}
 use Rattle.policy.specs.Policy.{Level, Free, Label, Undefined}
 use Rattle.policy.specs.Policy.{dominates, mayAt, level, rLevel, wLevel, passes, isDefined, levelNumber}
-use Rattle.policy.specs.Tables.{dominanceAt, clearancesAt, rLevelsAt, wLevelsAt, byteOf, marked, assignByTables}
+use Rattle.policy.specs.Tables.{dominanceAt, clearancesAt, rLevelsAt, wLevelsAt, byteOf, marked, assignByTables, passesIn}
 use Rattle.policy.specs.Image.{Labelled, Dominating, Levelled}
 use Rattle.policy.specs.Verdict.{assignVerdict, assignmentVerdict}
 use Rattle.policy.proofs.Readying.{one-within, two-within, limits-a}
@@ -99,23 +99,36 @@ module _ (f ys : List ℕ) (counts : GoodCounts (header f)) (between : Between (
           let j : Among 32 b = omega arith in
           rw (among-iff 32 a .1 i, among-iff 32 b .1 j, marks-byte a b i j, le-leb a (labels f) (v .1)) h
 
+  -- a role's levels by the bytes: whether the w-level is defined, and both at label l
+  defined-test : (r : ℕ) → not (eqb (levelNumber (wLevel f r)) 99) ≡ isDefined (wLevel f r)
+  unfolding wLevel
+  defined-test r = defined-number (labels f) (converse (dominates f)) (mayAt f 2 r) (counts .labels .1)
+
+  module _ (l r : ℕ) where
+    pub reads-test : passesIn ys (levelNumber (rLevel f r)) l (levelNumber (rLevel f r)) ≡ passes (dominates f l) (rLevel f r)
+    unfolding rLevel
+    reads-test =
+        passes-number (labels f) (dominates f) (mayAt f 1 r) (counts .labels .1) (marked ys l) (dominates f l)
+        (and-false (among 32 l)) (λ a i. marked-is l a (inr i))
+
+    pub writes-test : passesIn ys (levelNumber (wLevel f r)) (levelNumber (wLevel f r)) l ≡ passes (λ a. dominates f a l) (wLevel f r)
+    unfolding wLevel
+    writes-test =
+        passes-number (labels f) (converse (dominates f)) (mayAt f 2 r) (counts .labels .1) (λ a. marked ys a l) (λ a. dominates f a l)
+        refl (λ a i. marked-is a l (inl i))
+
   module _ (labelled : Labelled f ys) (levelled : Levelled f ys) where
     pub tables-verdict : (u r : ℕ) → Among 256 u → Among 128 r → assignByTables ys u r ≡ assignVerdict f u r
-    unfolding assignByTables assignVerdict rLevel wLevel
+    unfolding assignByTables assignVerdict
     tables-verdict u r v w =
         rw (
           labelled .users u v,
           levelled .reads r w,
           levelled .writes r w,
-          defined-number (labels f) (converse (dominates f)) (mayAt f 2 r) (counts .labels .1),
-          passes-number (labels f) (dominates f) (mayAt f 1 r) (counts .labels .1) (marked ys c) (dominates f c)
-              (and-false (among 32 c)) (λ l i. marked-is c l (inr i)),
-          passes-number (labels f) (converse (dominates f)) (mayAt f 2 r) (counts .labels .1) (λ l. marked ys l c) (λ l. dominates f l c)
-              refl (λ l i. marked-is l c (inl i)),
+          defined-test r,
+          reads-test (clearance f u) r,
+          writes-test (clearance f u) r,
         )
-      where
-        c : ℕ
-        c = clearance f u
 
 -- ---- the assignments of a file, by the section of its A lines
 

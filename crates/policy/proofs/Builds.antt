@@ -128,8 +128,7 @@ module _ (f : List ℕ) (xs s₁ s₂ s₃ s₄ : List ℕ) (zeros : Zeros 0 655
 
     pub third-zeros : Zeros 4112 8208 s₃
     third-zeros i m n =
-        granting .rest i (λ k. omega arith) (λ k. omega arith) (λ k. omega arith)
-        ∙ ranking .rest i (λ k. omega arith) ∙ noting .rest i (λ k. omega arith) ∙ zeros i (omega arith) (omega arith)
+        granting .rest i (λ k. omega arith) (λ k. omega arith) (λ k. omega arith) ∙ still-zero i (λ k. omega arith) (λ k. omega arith) (omega arith)
 
     module _ (finishing : Finishing f s₃ s₄) where
       stays : (a b : ℕ) → 8 ≤ a → (b ≤ 4112) → Same a b s₃ s₄
@@ -150,9 +149,7 @@ module _ (f : List ℕ) (xs s₁ s₂ s₃ s₄ : List ℕ) (zeros : Zeros 0 655
             let (a, b, c) = out in
             finishing .rest i a (λ n. b (omega arith))
             ∙ granting .rest i (λ n. let far = b n in omega arith) (λ n. let far = b (omega arith) in omega arith) c
-            ∙ ranking .rest i (λ n. let far = b (omega arith) in omega arith)
-            ∙ noting .rest i (λ n. let far = b (omega arith) in omega arith)
-            ∙ zeros i (omega arith) l;
+            ∙ still-zero i (λ n. let far = b (omega arith) in omega arith) (λ n. let far = b (omega arith) in omega arith) l;
       }
 
 -- a refusal: nobody reads the bytes

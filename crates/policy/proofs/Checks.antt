@@ -4,14 +4,14 @@ use Prim.Native.Nat.{ℕ, suc, _<_}
 use mathlib.Core.Path.{_≡_, refl, _∙_}
 use mathlib.Core.Logic.{inl, inr, ⊎-elim}
 use mathlib.Core.List.{List}
-use mathlib.Core.Bool.{Bool, true, false, cond}
+use mathlib.Core.Bool.{Bool}
 use native.Mathlib.Omega.{arith}
 use lib.Dec.{eqb}
 use borrow.Author.Tests.{eqb-true, eq-eqb}
-use Rattle.search.proofs.Truth.{untrue, both}
+use Rattle.search.proofs.Truth.{either}
 use Rattle.order.specs.Closure.{Relation, path, closure, circle, PartialOrder}
 use Rattle.order.specs.Bound.{converse, lowestWithoutBound, partnerWithoutBound, AllJoined, FirstPair}
-use Rattle.order.proofs.Closure.{circle-finds, circle-none}
+use Rattle.order.proofs.Closure.{circle-finds, circle-misses, circle-none}
 use Rattle.order.proofs.Bound.{lowest-without-none, lowest-without-first}
 use Rattle.rolefile.specs.declared.Verdict.{Verdict}
 use Rattle.rolefile.specs.Line.{A, lineAt}
@@ -23,7 +23,7 @@ use Rattle.rolefile.proofs.Decides.{cond-decides, fine-decides, test-decides, u
 use Rattle.policy.specs.Policy.{dominates, mayAt, rLevel, wLevel, passes, isDefined}
 use Rattle.policy.specs.Verdict.{assignVerdict, assignmentVerdict}
 use Rattle.policy.specs.Accepted.{ReadsUnder, WritesOver, NoWriteLevel, WithinLevels, GoodOrder, GoodAssignment, LowestOnCircle, AssignRefused, noLevel, readsMore, writesLess}
-use Rattle.policy.proofs.Levels.{converse-order, defined-iff, without-bound, passing-bounded, passes-iff}
+use Rattle.policy.proofs.Levels.{defined-iff, without-bound, passing-bounded, reads-under-iff, writes-over-iff}
 
 -- ---- 11 and 13
 
@@ -37,11 +37,7 @@ circle-decides n e number =
       λ z. let (o, i) = circle-none e n .0 z in record { order = o; strict = i },
       λ g. circle-none e n .1 (g .order, g .strict),
     )
-    (circle-finds e n)
-    (λ a w. (
-      λ q c. both (circle-finds e n a w .1 c) q,
-      λ h. untrue (path n e a a) (λ p. h (circle-finds e n a w .0 p)),
-    ))
+    (circle-finds e n) (circle-misses e n)
     (λ a. refusal (suc number) a 0) (λ a. omega arith)
 
 -- ---- 12
@@ -103,8 +99,8 @@ module _ (f : List ℕ) (o : PartialOrder (labels f) (dominates f)) where
   assign-decides u r =
       decides-as
       (unless-decides (defined-iff (labels f) (converse (dominates f)) (mayAt f 2 r)) (refusal 14 u r) (omega arith) (λ d.
-      unless-decides (passes-iff (labels f) (dominates f) (mayAt f 1 r) o (λ l. dominates f (clearance f u) l)) (refusal 15 u r) (omega arith) (λ p.
-      test-decides (passes-iff (labels f) (converse (dominates f)) (mayAt f 2 r) (converse-order o) writes) (refusal 16 u r) (omega arith)))) (
+      unless-decides (reads-under-iff f o (clearance f u) r) (refusal 15 u r) (omega arith) (λ p.
+      test-decides (writes-over-iff f o (clearance f u) r) (refusal 16 u r) (omega arith)))) (
         λ (d, (p, q)). record { reads = p; writes = q },
         λ a. (passing-bounded (labels f) (converse (dominates f)) (mayAt f 2 r) writes (a .writes), (a .reads, a .writes)),
       )
@@ -138,17 +134,11 @@ module _ (f : List ℕ) (o : PartialOrder (labels f) (dominates f)) where
 -- whatever dominance is, the number 0 stands with no place
 pub assignment-clean : (f : List ℕ) (i : ℕ) → Clean (assignmentVerdict f i)
 unfolding assignmentVerdict assignVerdict
-assignment-clean f i = go (eqb (lineAt f i .letter) A)
-  where
-    u : ℕ
-    u = lineAt f i .a
-
-    r : ℕ
-    r = lineAt f i .b
-
-    go : (b : Bool) → Clean (cond b (assignVerdict f u r) fine)
-    go true =
-        unless-clean (isDefined (wLevel f r)) (refusal 14 u r) (omega arith)
-        (unless-clean (passes (λ l. dominates f (clearance f u) l) (rLevel f r)) (refusal 15 u r) (omega arith)
-        (unless-clean (passes (λ l. dominates f l (clearance f u)) (wLevel f r)) (refusal 16 u r) (omega arith) (λ e. refl)))
-    go false = λ e. refl
+assignment-clean f i =
+    let u = lineAt f i .a in
+    let r = lineAt f i .b in
+    either Clean (eqb (lineAt f i .letter) A) (assignVerdict f u r) fine
+    (unless-clean (isDefined (wLevel f r)) (refusal 14 u r) (omega arith)
+    (unless-clean (passes (λ l. dominates f (clearance f u) l) (rLevel f r)) (refusal 15 u r) (omega arith)
+    (unless-clean (passes (λ l. dominates f l (clearance f u)) (wLevel f r)) (refusal 16 u r) (omega arith) (λ e. refl))))
+    (λ e. refl)

@@ -16,7 +16,7 @@ use Rattle.policy.specs.Stages.{Ready, Zeros, Counting, Finishing}
 use Rattle.policy.proofs.Readying.{good-of, section-a}
 use Rattle.policy.proofs.Ranks.{pairs-say}
 
--- two words one after the other
+-- a word apart from the bytes that have changed
 pub word-stays : (a b at : ℕ) (xs ys : List ℕ) → Kept a b xs ys → (a ≤ at + 1 → b ≤ at) → word ys at ≡ word xs at
 word-stays a b at xs ys kept out = rw (kept at (λ l. out (omega arith)), kept (at + 1) (λ l. let far = out l in omega arith))
 

@@ -2,7 +2,7 @@
 -- and the bounds of the labels gathered are its levels. Assumes nothing.
 use Prim.Native.Nat.{ℕ, _+_, _*_, _-_, _≤_, _<_}
 use mathlib.Core.Path.{_≡_, refl, sym, ap, _∙_}
-use mathlib.Core.Logic.{inr, ⊎-elim}
+use mathlib.Core.Logic.{⊎-elim}
 use mathlib.Core.List.{List}
 use mathlib.Core.Bool.{Bool, true, false, _&&_, cond, and-assoc, and-comm}
 use native.Mathlib.Omega.{arith}
@@ -14,7 +14,7 @@ use Rattle.search.specs.Search.{Among, among, some}
 use Rattle.search.proofs.Truth.{and-iff, among-iff, untrue, same}
 use Rattle.search.proofs.Found.{some-of, some-iff, some-none, some-agree}
 use Rattle.roleset.specs.Row.{member, Kept}
-use Rattle.roleset.proofs.Rows.{zero-row, row-kept}
+use Rattle.roleset.proofs.Rows.{zero-row}
 use Rattle.order.specs.Closure.{Relation}
 use Rattle.order.specs.Bound.{converse}
 use Rattle.order.specs.Table.{mark}
@@ -35,6 +35,7 @@ use Rattle.policy.specs.Image.{Labelled, Seniors, Permitting}
 use Rattle.policy.specs.Stages.{Ready, Zeros, Closed, Granting}
 use Rattle.policy.proofs.Readying.{good-of, counts-of, section-p, one-within, limits-p}
 use Rattle.policy.proofs.Inside.{Between, closure-between, above-between}
+use Rattle.policy.proofs.Builds.{seniors-stay, permitting-stays}
 use Rattle.policy.proofs.Gathering.{level-empty, level-same-set}
 
 -- ---- permissions
@@ -162,12 +163,6 @@ module _ (f : List ℕ) (counts : GoodCounts (header f)) (between : Between (rol
 
 -- ---- the whole stage, from x₀: the table of dominance, the lines' permissions, the levels of reading and those of writing
 
-permitting-kept : (f : List ℕ) (a b : ℕ) (xs ys : List ℕ) → b ≤ readersAt → Kept a b xs ys → Permitting f xs → Permitting f ys
-permitting-kept f a b xs ys l kept p = record {
-  readers = λ o r v w. row-kept xs ys kept (rowOf readersAt o) r (inr (omega arith)) ∙ p .readers o r v w;
-  writers = λ o r v w. row-kept xs ys kept (rowOf writersAt o) r (inr (omega arith)) ∙ p .writers o r v w;
-}
-
 module _ (f : List ℕ) (q : Parts) (h : Line) (t up : List (List Bool)) (x₀ x₁ x₂ x₃ x₄ reading writing : List ℕ) (ready : Ready f q h)
     (labelled : Labelled f x₀) (seniors : Seniors f x₀) (closed : Closed f t) (no-level : Zeros 1808 2064 x₀) (no-role : Zeros 12304 28688 x₀)
     (table : (a b : ℕ) → Among 32 a → Among 32 b → getD x₁ (dominanceAt + (32 * (a - 1) + (b - 1))) 0 ≡ cond (mark t a b) 1 0)
@@ -198,12 +193,12 @@ module _ (f : List ℕ) (q : Parts) (h : Line) (t up : List (List Bool)) (x₀ x
   permitting₂ : Permitting f x₂
   permitting₂ =
       permitted f x₁ good (counts .roles)
-      (λ r s v w. row-kept x₀ x₁ kept (rowOf seniorsAt r) s (inr (omega arith)) ∙ seniors r s v w)
+      (seniors-stay f x₀ x₁ (λ i l m. kept i (λ n. omega arith)) seniors)
       (section-p f q (ready .lines) (ready .laid)) x₂ grants
       (λ i l m. kept i (λ n. omega arith) ∙ no-role i l m)
 
   permitting₃ : Permitting f x₃
-  permitting₃ = permitting-kept f 1808 1936 x₂ x₃ (omega arith) kept₃ permitting₂
+  permitting₃ = permitting-stays f x₂ x₃ (λ i l m. kept₃ i (λ n. omega arith)) permitting₂
 
   labels₂ : CardLabels f x₂
   labels₂ o v =
@@ -249,7 +244,7 @@ module _ (f : List ℕ) (q : Parts) (h : Line) (t up : List (List Bool)) (x₀ x
         kept-since₁ (dominanceAt + (32 * (a - 1) + (b - 1))) (λ m. omega arith) (λ m. omega arith)
         ∙ table a b v w
         ∙ ap (λ m. cond m 1 0) (closed a b v w);
-    permitting = permitting-kept f 1936 2064 x₃ x₄ (omega arith) kept₄ permitting₃;
+    permitting = permitting-stays f x₃ x₄ (λ i l m. kept₄ i (λ n. omega arith)) permitting₃;
     levelled = record { reads = λ r w. kept₄ (rLevelsAt + (r - 1)) (λ m. omega arith) ∙ read₃ r w; writes = written₄ };
     rest = λ i out l m. kept-since₁ i l m ∙ kept i out;
   }

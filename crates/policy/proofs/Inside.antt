@@ -5,7 +5,6 @@ use mathlib.Core.Logic.{_⊎_, inl, inr, ⊎-elim}
 use mathlib.Core.List.{List}
 use mathlib.Core.Bool.{Bool, true, false, _&&_, cond}
 use native.Mathlib.Omega.{arith}
-use native.Mathlib.Decide.{ℕ-discrete}
 use lib.Dec.{eqb}
 use borrow.Author.Tests.{eqb-true}
 use Rattle.search.specs.Search.{Among}
@@ -15,8 +14,8 @@ use Rattle.order.specs.Closure.{Relation, via, path, closure}
 use Rattle.rolefile.specs.Line.{H, D, S, O, A, lineAt, lines}
 use Rattle.rolefile.specs.Form.{header, firstLimit, secondLimit, about}
 use Rattle.rolefile.specs.Said.{labels, roles, users, is, says, over, above, assigned, last, labelBy, cardLabel}
-use Rattle.rolefile.specs.WellFormed.{GoodNumbers, One, GoodLines}
-use Rattle.policy.proofs.Readying.{limits-d, limits-s, limits-o, limits-a}
+use Rattle.rolefile.specs.WellFormed.{One, GoodLines}
+use Rattle.policy.proofs.Readying.{numbers-known, limits-d, limits-s, limits-o, limits-a}
 
 -- a relation between the things 1 to n alone
 abbrev pub Between : ℕ → Relation → Type 0
@@ -50,13 +49,6 @@ last-of (suc n) p v Q h i w e = by (p (suc n)) refl (λ u. last-of n p v Q (λ j
     by false k earlier = earlier (⊎-elim (λ same. absurd (both e (rw same k))) (λ u. u) (last-or n i w))
 
 module _ (f : List ℕ) (good : GoodLines f) where
-  -- a line of a letter after H is not the first
-  numbers-known : (k : ℕ) → H < k → (i : ℕ) → Among (lines f) i → lineAt f i .letter ≡ k → GoodNumbers (header f) (lineAt f i)
-  numbers-known k after i w e = elim (ℕ-discrete i 1) [
-    | yes one ↦ let h = good i w .head one .letter in let l = rw one at e in absurd (omega arith)
-    | no more ↦ good i w .body more .numbers
-  ]
-
   said-known : (k x y z : ℕ) → H < k → says f k x y z ≡ true → Among (firstLimit (header f) k) x × Among (secondLimit (header f) k) y
   unfolding says
   said-known k x y z after h =
@@ -65,7 +57,7 @@ module _ (f : List ℕ) (good : GoodLines f) where
       let (a, r) = and-iff (eqb (lineAt f i .a) x) (eqb (lineAt f i .b) y && eqb (lineAt f i .c) z) .0 q in
       let (b, c) = and-iff (eqb (lineAt f i .b) y) (eqb (lineAt f i .c) z) .0 r in
       let letter = eqb-true (lineAt f i .letter) k l in
-      let g = numbers-known k after i w letter in
+      let g = numbers-known f good k after i w letter in
       (rw (letter, eqb-true (lineAt f i .a) x a) at (g .one), rw (letter, eqb-true (lineAt f i .b) y b) at (g .two))
 
   pub over-between : Between (labels f) (over f)
@@ -82,7 +74,7 @@ module _ (f : List ℕ) (good : GoodLines f) where
   unfolding labelBy
   label-known k x after one = last-of (lines f) (about f k x) (λ i. lineAt f i .b) (Among (secondLimit (header f) k))
       (λ i w e. let l = eqb-true (lineAt f i .letter) k (and-iff (eqb (lineAt f i .letter) k) (eqb (lineAt f i .a) x) .0 e .0) in
-      rw l at (numbers-known k after i w l .two))
+      rw l at (numbers-known f good k after i w l .two))
       (one .line) (one .inside) (one .tells)
 
   pub card-label-known : (o : ℕ) → One f O o → Among (labels f) (cardLabel f o)

@@ -3,6 +3,7 @@
 use Prim.Native.Nat.{ℕ, zero, suc, _≤_}
 use mathlib.Core.Path.{_≡_, refl}
 use mathlib.Core.Logic.{_↔_, inl, inr, ⊎-elim}
+use mathlib.Core.List.{List}
 use mathlib.Core.Bool.{Bool, true, false, cond, false≢true, true≢false}
 use native.Mathlib.Omega.{arith}
 use Rattle.search.specs.Search.{some}
@@ -11,9 +12,10 @@ use Rattle.search.proofs.Found.{some-iff}
 use Rattle.order.specs.Closure.{Relation, PartialOrder}
 use Rattle.order.specs.Bound.{lub, converse, IsLub}
 use Rattle.order.proofs.Bound.{lub-none, lub-is, lub-iff}
+use Rattle.rolefile.specs.Said.{labels}
 use Rattle.policy.specs.Policy.{Level, Free, Label, Undefined}
-use Rattle.policy.specs.Policy.{levelAt, level, passes, isDefined}
-use Rattle.policy.specs.Accepted.{Some, UndefinedLevel, Passing}
+use Rattle.policy.specs.Policy.{dominates, mayAt, levelAt, level, rLevel, wLevel, passes, isDefined}
+use Rattle.policy.specs.Accepted.{Some, UndefinedLevel, Passing, ReadsUnder, WritesOver}
 
 pub converse-order : {n : ℕ} {ge : Relation} → PartialOrder n ge → PartialOrder n (converse ge)
 converse-order o = record {
@@ -87,3 +89,13 @@ module _ (n : ℕ) (ge : Relation) (s : ℕ → Bool) where
         go Free t e = inl t
         go (Label c) (h, b) e = inr (c, h, b, e)
         go Undefined t e = absurd (false≢true e)
+
+-- a role's level limits at label l, by its levels
+module _ (f : List ℕ) (o : PartialOrder (labels f) (dominates f)) (l r : ℕ) where
+  pub reads-under-iff : (passes (dominates f l) (rLevel f r) ≡ true) ↔ ReadsUnder f l r
+  unfolding rLevel
+  reads-under-iff = passes-iff (labels f) (dominates f) (mayAt f 1 r) o (dominates f l)
+
+  pub writes-over-iff : (passes (λ a. dominates f a l) (wLevel f r) ≡ true) ↔ WritesOver f l r
+  unfolding wLevel
+  writes-over-iff = passes-iff (labels f) (converse (dominates f)) (mayAt f 2 r) (converse-order o) (λ a. dominates f a l)

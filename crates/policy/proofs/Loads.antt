@@ -36,17 +36,18 @@ load-short f xs v l e = record {
     short : refusal 7 0 0 ≡ loadVerdict (length xs) f
     short = unfold loadVerdict in rw (lt-leb stateSize (length xs) l)
 
-long : (f xs : List ℕ) → 65536 ≤ length xs → verdict f ≡ loadVerdict (length xs) f
+-- a state that is long enough gets the file's verdict
+pub long-verdict : (f xs : List ℕ) → 65536 ≤ length xs → verdict f ≡ loadVerdict (length xs) f
 unfolding loadVerdict
-long f xs l = rw (le-leb stateSize (length xs) l)
+long-verdict f xs l = rw (le-leb stateSize (length xs) l)
 
 pub load-refused : (f xs ys : List ℕ) (v : Verdict) → 65536 ≤ length xs → Built f v ys → (v .number ≡ 0 → ⊥) → Loaded f v xs xs
-load-refused f xs ys v l b h = record { answer = b .answer ∙ long f xs l; refused = λ h. refl; done = λ z. absurd (h z); rest = λ i m. refl; long = refl }
+load-refused f xs ys v l b h = record { answer = b .answer ∙ long-verdict f xs l; refused = λ h. refl; done = λ z. absurd (h z); rest = λ i m. refl; long = refl }
 
 pub load-done : (f xs ys zs : List ℕ) (v : Verdict) → 65536 ≤ length xs → Built f v ys → v .number ≡ 0 → Copied 65536 ys xs zs → length zs ≡ length xs
     → Loaded f v xs zs
 load-done f xs ys zs v l b z c same = record {
-  answer = b .answer ∙ long f xs l;
+  answer = b .answer ∙ long-verdict f xs l;
   refused = λ h. absurd (h z);
   done = λ e. image-copied f xs ys zs c (b .done z);
   rest = λ i m. c .rest i m;

@@ -11,12 +11,13 @@ use lib.Dec.{eqb}
 use lib.ListN.{length, getD, set, replicate, getD-replicate}
 use lib.Seq.{getD-set-same, getD-set-other}
 use borrow.Author.Tests.{eq-eqb, ne-eqb}
-use Rattle.search.specs.Search.{Among, some}
-use Rattle.search.proofs.Found.{last-or, some-more}
+use Rattle.search.specs.Search.{Among}
+use Rattle.search.proofs.Found.{last-or}
 use Rattle.roleset.specs.Row.{Kept}
 use Rattle.order.specs.Table.{marks, mark}
 use Rattle.rolefile.specs.Section.{one, two}
 use Rattle.policy.specs.Tables.{dominanceAt, pairs}
+use Rattle.policy.proofs.Relating.{pairs-more, pairs-none}
 
 -- the table r is t with a mark for a over b
 abbrev pub WithPair : ℕ → ℕ → List (List Bool) → List (List Bool) → Type 0
@@ -42,15 +43,12 @@ abbrev pub Marking : List ℕ → ℕ → List (List Bool) → Type 0
 Marking p i t = (a b : ℕ) → Among 32 a → Among 32 b → mark t a b ≡ pairs p i a b
 
 pub marks-none : (p : List ℕ) → Marking p 0 (replicate 32 (replicate 32 false))
-unfolding pairs some
 marks-none p a b w v =
-    rw (getD-replicate 32 (a - 1) (replicate 32 false) [] (omega arith)) (getD-replicate 32 (b - 1) false false (omega arith))
+    rw (getD-replicate 32 (a - 1) (replicate 32 false) [] (omega arith), pairs-none p a b) (getD-replicate 32 (b - 1) false false (omega arith))
 
 pub marks-more : (p : List ℕ) (i : ℕ) (t r : List (List Bool)) → Marking p i t → WithPair (one p (i + 1)) (two p (i + 1)) t r
     → Marking p (i + 1) r
-unfolding pairs
-marks-more p i t r m n a b w v =
-    n a b w v ∙ rw (m a b w v) (sym (some-more (λ j. eqb (one p j) a && eqb (two p j) b) i))
+marks-more p i t r m n a b w v = n a b w v ∙ rw (m a b w v) (pairs-more p i _ _ a b refl refl)
 
 -- i rows of the table t stand where dominance does
 pub record Put (i : ℕ) (t : List (List Bool)) (xs ys : List ℕ) : Type 0 where

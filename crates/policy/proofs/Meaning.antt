@@ -9,11 +9,10 @@ use lib.Dec.{eqb}
 use lib.ListN.{length}
 use borrow.Author.Tests.{eq-eqb}
 use Rattle.search.specs.Search.{Among}
-use Rattle.search.proofs.Truth.{untrue, both}
-use Rattle.search.proofs.Found.{some-agree, first-none}
+use Rattle.search.proofs.Found.{some-agree, first-none, first-lowest-of}
 use Rattle.roleset.specs.Row.{member}
 use Rattle.order.specs.Closure.{path, OnCircle}
-use Rattle.order.proofs.Closure.{circle-finds, circle-lowest, circle-agree}
+use Rattle.order.proofs.Closure.{circle-finds, circle-misses, circle-agree}
 use Rattle.rolefile.specs.Form.{header}
 use Rattle.rolefile.specs.Said.{labels, roles, cards}
 use Rattle.rolefile.specs.WellFormed.{GoodCounts, WellFormed}
@@ -78,26 +77,13 @@ module _ (f : List ℕ) where
 
   pub flow-circle-iff : (a : ℕ) → 1 ≤ a → (flowCircle f ≡ a) ↔ LowestOnCircle (roles f) (flows f) a
   unfolding flowCircle
-  flow-circle-iff a l = (
-    λ e.
-        let low = circle-lowest (flows f) (roles f) a l .0 e in
-        record {
-          inside = low .inside;
-          holds = circle-finds (flows f) (roles f) a (low .inside) .0 (low .holds);
-          lower = λ b w k on. both (circle-finds (flows f) (roles f) b w .1 on) (low .lower b w k);
-        },
-    λ low.
-        circle-lowest (flows f) (roles f) a l .1 (record {
-          inside = low .inside;
-          holds = circle-finds (flows f) (roles f) a (low .inside) .1 (low .holds);
-          lower = λ b w k. untrue (path (roles f) (flows f) b b) (λ e. low .lower b w k (circle-finds (flows f) (roles f) b w .0 e));
-        }),
-  )
+  flow-circle-iff =
+      first-lowest-of (λ a. path (roles f) (flows f) a a) (roles f) (circle-finds (flows f) (roles f)) (circle-misses (flows f) (roles f))
 
   pub no-circle-iff : (flowCircle f ≡ 0) ↔ ((a : ℕ) → Among (roles f) a → OnCircle (roles f) (flows f) a → ⊥)
   unfolding flowCircle
   no-circle-iff =
       let found = first-none (λ a. path (roles f) (flows f) a a) (roles f) in (
-        λ e a w on. both (circle-finds (flows f) (roles f) a w .1 on) (found .0 e a w),
-        λ h. found .1 (λ a w. untrue (path (roles f) (flows f) a a) (λ e. h a w (circle-finds (flows f) (roles f) a w .0 e))),
+        λ e a w. circle-misses (flows f) (roles f) a w .0 (found .0 e a w),
+        λ h. found .1 (λ a w. circle-misses (flows f) (roles f) a w .1 (h a w)),
       )

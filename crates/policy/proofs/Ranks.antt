@@ -30,7 +30,7 @@ use Rattle.policy.specs.Image.{Seniors}
 use Rattle.policy.specs.Verdict.{roleVerdict}
 use Rattle.policy.specs.Stages.{Ready, Zeros, Ranking}
 use Rattle.policy.specs.declared.build.Parts.{Parts}
-use Rattle.policy.proofs.Readying.{good-of, counts-of, section-s}
+use Rattle.policy.proofs.Readying.{good-of, counts-of, head-roles, section-s}
 use Rattle.policy.proofs.Inside.{above-between}
 
 -- what two fields of a letter's section say
@@ -105,7 +105,7 @@ module _ (f : List ℕ) (q : Parts) (h : Line) (ready : Ready f q h) (xs ys zs p
   few = counts-of f (ready .lines) .roles
 
   count : min (h .b) 128 ≡ roles f
-  count = let e : h .b ≡ roles f = ap (λ (l : Line). l .b) (ready .head) in let l = few in omega arith
+  count = head-roles f q h ready
 
   good : GoodLines f
   good = good-of f (ready .lines)

@@ -1,13 +1,15 @@
 -- A file whose lines have nothing to refuse, laid out by letter: its lines are good, its counts within their limits, the lines of each letter are a
 -- section of it, and their numbers are within the counts. Assumes nothing.
-use Prim.Native.Nat.{ℕ, _+_, _≤_, _<_}
-use mathlib.Core.Path.{_≡_, refl}
+use Prim.Native.Nat.{ℕ, _+_, _≤_, _<_, min}
+use mathlib.Core.Path.{_≡_, refl, ap}
 use mathlib.Core.List.{List}
 use native.Mathlib.Omega.{arith}
+use native.Mathlib.Decide.{ℕ-discrete}
 use Rattle.search.specs.Search.{Among}
 use Rattle.rolefile.specs.declared.Line.{Line}
 use Rattle.rolefile.specs.Line.{H, D, S, U, O, P, A, lineAt, lines}
 use Rattle.rolefile.specs.Form.{fine, refusal, unless, sized, header, firstLimit, secondLimit, scan, lineVerdict, linesVerdict}
+use Rattle.rolefile.specs.Said.{labels, roles}
 use Rattle.rolefile.specs.Section.{one, two}
 use Rattle.rolefile.specs.WellFormed.{Sized, GoodCounts, GoodNumbers, GoodLines}
 use Rattle.rolefile.specs.Decimal.{letterByte}
@@ -80,17 +82,28 @@ module _ (f : List ℕ) (q : Parts) (e : linesVerdict f .number ≡ 0) (laid : L
   pub section-a : Section f A (q .a .start) (q .a .count)
   section-a = section-of f good 7 (q .a .start) (q .a .count) 65 at-a (bytes .5) (omega arith) (laid .a)
 
-pub head-counts : (f : List ℕ) (q : Parts) (h : Line) → Ready f q h → GoodCounts h
-head-counts f q h ready = rw (ready .head) (counts-of f (ready .lines))
+-- the counts in line 1
+module _ (f : List ℕ) (q : Parts) (h : Line) (ready : Ready f q h) where
+  pub head-counts : GoodCounts h
+  head-counts = rw (ready .head) (counts-of f (ready .lines))
 
--- a section of a letter after H: its numbers are within the counts
+  pub head-labels : min (h .a) 32 ≡ labels f
+  head-labels = let few = head-counts .labels in omega (arith, ap (λ (l : Line). l .a) (ready .head))
+
+  pub head-roles : min (h .b) 128 ≡ roles f
+  head-roles = let few = head-counts .roles in omega (arith, ap (λ (l : Line). l .b) (ready .head))
+
+-- a line of a letter after H is not the first, so its numbers are within the counts
+pub numbers-known : (f : List ℕ) → GoodLines f → (k : ℕ) → H < k → (i : ℕ) → Among (lines f) i → lineAt f i .letter ≡ k → GoodNumbers (header f) (lineAt f i)
+numbers-known f good k after i w e = elim (ℕ-discrete i 1) [
+  | yes one ↦ let h = good i w .head one .letter in let l = rw one at e in absurd (omega arith)
+  | no more ↦ good i w .body more .numbers
+]
+
+-- so in a section
 module _ (f : List ℕ) (good : GoodLines f) {k j m : ℕ} (s : Section f k j m) (after : H < k) where
   numbers : (i : ℕ) → Among m i → GoodNumbers (header f) (lineAt f (j + i))
-  numbers i w =
-      let fits = s .fits in
-      let l = s .inside i w in
-      good (j + i) (omega arith) .body (λ first. let top : lineAt f 1 .letter ≡ k = rw first at l in
-      let h = good 1 (omega arith) .head refl .letter in omega arith) .numbers
+  numbers i w = let fits = s .fits in numbers-known f good k after (j + i) (omega arith) (s .inside i w)
 
   pub one-within : (i : ℕ) → Among m i → Among (firstLimit (header f) k) (one (part f j) i)
   one-within i w = rw (told f good s .one i w) (rw (s .inside i w) at (numbers i w .one))

@@ -23,12 +23,10 @@ fn assign(s: &[u8], u: usize, r: usize) -> Verdict
     if writes == 99 {
         return check::refused(14, u as u64, r as u64);
     }
-    let under = tables::dominates(s, clearance, reads);
-    if !((reads == 0) | under) {
+    if !tables::passes(s, reads, clearance, reads) {
         return check::refused(15, u as u64, r as u64);
     }
-    let over = tables::dominates(s, writes, clearance);
-    if !((writes == 0) | over) {
+    if !tables::passes(s, writes, writes, clearance) {
         return check::refused(16, u as u64, r as u64);
     }
     check::nothing()

@@ -3,7 +3,7 @@
 ghost use mathlib.Core.Path.{_≡_};
 ghost use Prim.Native.Nat.{_<_};
 ghost use lib.ListN.{getD};
-ghost use Rattle.policy.specs.Tables.{word, marked};
+ghost use Rattle.policy.specs.Tables.{word, marked, passesIn};
 
 // The byte at i.
 pub fn byte(s: &[u8], i: u64) -> u8
@@ -32,4 +32,14 @@ pub fn dominates(s: &[u8], a: u64, b: u64) -> bool
         return false;
     }
     byte(s, 16 + (32 * (a - 1) + (b - 1))) == 1
+}
+
+// Whether label a dominates label b, one of which is a level: a free level, 0, always passes.
+pub fn passes(s: &[u8], level: u64, a: u64, b: u64) -> bool
+    ensures { λ r. ⌜ r ≡ passesIn (now (s .entry)) level a b ⌝ }
+{
+    if level == 0 {
+        return true;
+    }
+    dominates(s, a, b)
 }

@@ -1,8 +1,8 @@
 -- How long a report can be. Assumes nothing.
 use Prim.Native.Nat.{ℕ, _*_, _≤_, _<_}
 use mathlib.Core.Path.{_≡_}
-use mathlib.Core.List.{List}
-use mathlib.Core.Bool.{Bool}
+use mathlib.Core.List.{List, []}
+use mathlib.Core.Bool.{Bool, cond}
 use native.Mathlib.Omega.{arith}
 use lib.Dec.{leb, eqb}
 use lib.ListN.{length, length-append}
@@ -77,10 +77,11 @@ module _ (f : List ℕ) where
   unfolding report
   report-length =
       let v = verdict-written f in
+      let rest : length (cond (eqb (verdict f .number) 0) (fileLines f) []) ≤ 363286 =
+      where-most _ (fileLines f) (λ e. file-lines-length f (accepted-iff f .0 (eqb-true (verdict f .number) 0 e) .ordered .form)) in
       rw length-append
       (omega (
         arith,
         line-length 86 3 (verdict f .number) (verdict f .first) (verdict f .second) (v .number) (v .first) (v .second),
-        where-most (eqb (verdict f .number) 0) (fileLines f) {363286} (λ e.
-            file-lines-length f (accepted-iff f .0 (eqb-true (verdict f .number) 0 e) .ordered .form)),
+        rest,
       ))

@@ -5,11 +5,11 @@ use mathlib.Core.List.{List, _++_, append-nil}
 use native.Mathlib.Omega.{arith}
 use lib.ListN.{length, take}
 use lib.Seq.{length-take-le}
-use borrow.Author.Tests.{le-leb, eq-eqb, ne-eqb}
+use borrow.Author.Tests.{eq-eqb, ne-eqb}
 use Rattle.rolefile.specs.declared.Verdict.{Verdict}
 use Rattle.policy.specs.Verdict.{verdict}
-use Rattle.policy.specs.Tables.{stateSize}
-use Rattle.policy.specs.Image.{loadVerdict, Loaded}
+use Rattle.policy.specs.Image.{Loaded}
+use Rattle.policy.proofs.Loads.{long-verdict}
 use Rattle.policy.proofs.Outcomes.{accepted-iff}
 use Rattle.io.specs.Counts.{Counts}
 use Rattle.text.specs.Text.{Puts}
@@ -21,7 +21,7 @@ use Rattle.rolecheck.proofs.Fits.{report-length}
 
 module _ (f : List ℕ) {v : Verdict} {xs ys : List ℕ} (load : Loaded f v xs ys) (long : 65536 ≤ length xs) where
   judged : v ≡ verdict f
-  judged = load .answer ∙ (unfold loadVerdict in rw (le-leb stateSize (length xs) long))
+  judged = load .answer ∙ sym (long-verdict f xs long)
 
   pub load-written : Written v
   load-written = rw judged (verdict-written f)

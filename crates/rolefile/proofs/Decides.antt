@@ -7,7 +7,7 @@ use mathlib.Core.Bool.{Bool, true, false, cond, false≢true}
 use native.Mathlib.Omega.{arith}
 use borrow.Author.Tests.{eqb-true, eq-eqb}
 use Rattle.search.specs.Search.{Among, first, LowestOf}
-use Rattle.search.proofs.Found.{last-or, first-lowest}
+use Rattle.search.proofs.Found.{last-or, first-lowest-of}
 use Rattle.rolefile.specs.declared.Verdict.{Verdict}
 use Rattle.rolefile.specs.Form.{fine, unless, _then_, scan, found}
 use Rattle.rolefile.proofs.Verdicts.{Refuses, Clean, then-next, then-stop, unless-then}
@@ -120,20 +120,10 @@ module _ (n : ℕ) (p : ℕ → Bool) {G : Type 0} {P N : ℕ → Type 0} (none 
   search-decides has hasNot make h =
       decides-as (found-decides (first n p) (make (first n p)) (h (first n p))) none
       (λ x. (
-        λ (z, e).
-            let low = first-lowest p n (first n p) (omega arith) .0 refl in (
-              first n p,
-              record {
-                inside = low .inside;
-                holds = has (first n p) (low .inside) .0 (low .holds);
-                lower = λ b w l. hasNot b w .0 (low .lower b w l);
-              },
-              e,
-            ),
+        λ (z, e). (first n p, first-lowest-of p n has hasNot (first n p) (omega arith) .0 refl, e),
         λ (a, low, e).
-            let w = low .inside in
-            let i = first-lowest p n a (w .0) .1 (record { inside = w; holds = has a w .1 (low .holds); lower = λ b v l. hasNot b v .1 (low .lower b v l) }) in
-            (λ z. omega arith, e ∙ ap make (sym i)),
+            let i = first-lowest-of p n has hasNot a (low .inside .0) .1 low in
+            (λ z. let w = low .inside in omega arith, e ∙ ap make (sym i)),
       ))
 
 module _ {v : ℕ → Verdict} {G : ℕ → Type 0} {R : ℕ → Verdict → Type 0} (d : (k : ℕ) → Decides (v k) (G k) (R k)) where

@@ -10,7 +10,7 @@ use native.Mathlib.Numerals.{add-one}
 use native.Mathlib.Decide.{decLt}
 use lib.Dec.{leb}
 use borrow.Author.Tests.{leb-true, le-leb, lt-leb}
-use Rattle.search.specs.Search.{some, every, orElse, first, implies, Among, Lowest}
+use Rattle.search.specs.Search.{some, every, orElse, first, implies, Among, Lowest, LowestOf}
 use Rattle.search.proofs.Truth.{or-iff, and-iff, implies-iff, untrue, both, same}
 
 -- one of the things 1 to n + 1 is the last or one of the others
@@ -97,6 +97,18 @@ module _ (p : ℕ → Bool) where
   pub first-lowest : (n a : ℕ) → 1 ≤ a → (first n p ≡ a) ↔ Lowest n p a
   first-lowest n zero l = absurd (omega arith)
   first-lowest n (suc a) l = (λ e. rw e at (first-finds n), λ low. sym (finds-first n (suc a) low))
+
+  -- the lowest thing with P, where the others have N
+  pub first-lowest-of : {P N : ℕ → Type 0} (n : ℕ) → ((a : ℕ) → Among n a → (p a ≡ true) ↔ P a) → ((a : ℕ) → Among n a → (p a ≡ false) ↔ N a)
+      → (a : ℕ) → 1 ≤ a → (first n p ≡ a) ↔ LowestOf n P N a
+  first-lowest-of n has hasNot a l = (
+    λ e.
+        let low = first-lowest n a l .0 e in
+        record { inside = low .inside; holds = has a (low .inside) .0 (low .holds); lower = λ b w k. hasNot b w .0 (low .lower b w k) },
+    λ low.
+        first-lowest n a l .1
+        (record { inside = low .inside; holds = has a (low .inside) .1 (low .holds); lower = λ b w k. hasNot b w .1 (low .lower b w k) }),
+  )
 
   pub first-within : (n : ℕ) → first n p ≤ n
   first-within n = go (first n p) (first-finds n)

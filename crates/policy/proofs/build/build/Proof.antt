@@ -1,18 +1,17 @@
 -- Stage after stage: a stage that refuses decides the file, and where none does the tables are the file's.
 use Prim.Native.Nat.{min}
-use mathlib.Core.Path.{_≡_, sym, ap, _∙_}
+use mathlib.Core.Path.{_≡_, sym, _∙_}
 use native.Mathlib.Omega.{arith}
 use borrow.Author.Needs.{needs}
 use denote.Ref.{now}
 use lib.ListN.{length}
-use Rattle.rolefile.specs.declared.Line.{Line}
 use Rattle.rolefile.specs.Line.{lines}
 use Rattle.rolefile.specs.Form.{linesVerdict, unlabelledVerdict}
 use Rattle.rolefile.proofs.Verdicts.{scan-clean}
 use Rattle.policy.proofs.Checks.{assignment-clean}
 use Rattle.policy.specs.Verdict.{labelVerdict, roleVerdict, assignmentVerdict, verdict}
 use Rattle.policy.specs.Stages.{Ready, Closed}
-use Rattle.policy.proofs.Readying.{counts-of}
+use Rattle.policy.proofs.Readying.{counts-of, head-labels}
 use Rattle.policy.proofs.Dominance.{closed-of, order-verdict-is}
 use Rattle.policy.proofs.Builds.{refused-lines, refused-labels, refused-order, refused-roles, the-last, level-zeros, row-zeros, second-labelled, third-labelled, third-zeros, image, built-refused}
 use Rattle.policy.proofs.build.build.Statement.{statement}
@@ -30,10 +29,7 @@ labels-pass : (c : tie.Else2) → unlabelledVerdict (now (c .before .before .bef
 labels-pass c = rw (c .before .before .before .before .note-labels .ensures .answer) at (c .if2 .left)
 
 count : (c : tie.After-lay-out) → min (c .before .first-line .result .a) 32 ≡ Rattle.rolefile.specs.Said.labels (now (c .before .before .before .before .before .before .before .args .f))
-count c =
-    let r = ready c in
-    let few = counts-of _ (r .lines) .labels in
-    omega (arith, ap (λ (l : Line). l .a) (r .head))
+count c = head-labels _ _ _ (ready c)
 
 closed : (c : tie.After-reflected) → Closed (now (c .before .before .before .before .before .before .before .before .before .before .before .before .before .before .before .args .f)) (c .reflected .result)
 closed c = closed-of _ (c .before .dominance .result) (c .reflected .result) (c .before .dominance .ensures) (rw (count (c .before .before .before .before .before .before .before .before)) at (c .reflected .ensures))

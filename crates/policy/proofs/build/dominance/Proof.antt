@@ -1,11 +1,8 @@
 -- The lines of the letter D are marked, and the marks closed.
-use Prim.Native.Nat.{min}
-use mathlib.Core.Path.{_≡_, ap}
-use native.Mathlib.Omega.{arith}
 use borrow.Author.Needs.{needs}
 use denote.Ref.{now}
 use Rattle.rolefile.specs.Said.{labels}
-use Rattle.policy.proofs.Readying.{good-of, counts-of, section-d}
+use Rattle.policy.proofs.Readying.{good-of, counts-of, section-d, head-labels}
 use Rattle.policy.proofs.Dominance.{paths-of}
 use Rattle.policy.proofs.build.dominance.Statement.{statement}
 use Rattle.policy.proofs.build.dominance.Tie as tie
@@ -19,11 +16,10 @@ returns c =
     let f = now (start .args .f) in
     let r = start .pre in
     let few = counts-of f (r .lines) .labels in
-    let all : min (start .args .h .a) 32 ≡ labels f = omega (arith, ap (λ l. l .a) (r .head)) in
     let marks = c .before .table-of in
     paths-of f (good-of f (r .lines)) (few .1) (section-d f (start .args .q) (r .lines) (r .laid)) (marks .result) (c .paths .result)
     (rw (c .before .before .part .ensures) at (marks .ensures))
-    (rw all at (c .paths .ensures))
+    (rw (head-labels f (start .args .q) (start .args .h) r) at (c .paths .ensures))
 
 pub dominance-spec : {M : Type 1} → statement M
 dominance-spec = tie.close (tie.spec (λ c κs. search needs) table-of-requires (λ c κs. search needs) returns)

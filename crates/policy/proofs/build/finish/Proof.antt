@@ -1,7 +1,7 @@
 -- The A lines fill the rows, and the counts are put.
 use borrow.Author.Needs.{needs}
 use denote.Ref.{now}
-use Rattle.policy.proofs.Readying.{counts-of}
+use Rattle.policy.proofs.Readying.{head-counts}
 use Rattle.policy.proofs.Finishes.{finished}
 use Rattle.policy.proofs.build.finish.Statement.{statement}
 use Rattle.policy.proofs.build.finish.Tie as tie
@@ -12,7 +12,7 @@ relate-lines-requires c κs = (search needs, search needs, rw (c .before .part .
 put-counts-requires : tie.Need-put-counts-requires
 put-counts-requires c κs =
     let ready = c .before .before .before .before .before .before .before .before .before .pre .0 in
-    (search needs, rw (ready .head) (counts-of _ (ready .lines)))
+    (search needs, head-counts _ _ _ ready)
 
 returns : tie.Need-returns
 returns c =

@@ -1,8 +1,8 @@
 -- A level of 0 passes; for any other the marks decide.
 use borrow.Author.Needs.{needs}
 use borrow.Author.Tests.{ne-eqb}
-use Rattle.monitor.proofs.rules.passes.Statement.{statement}
-use Rattle.monitor.proofs.rules.passes.Tie as tie
+use Rattle.policy.proofs.tables.passes.Statement.{statement}
+use Rattle.policy.proofs.tables.passes.Tie as tie
 
 returns : tie.Need-returns
 returns c = rw (c .if1 .taken)
