@@ -1,5 +1,5 @@
 -- 14 to 16 by the tables: a verdict with no number has no place, and the tables' verdict is the file's where the tables are. Assumes nothing.
-use Prim.Native.Nat.{ℕ, _+_, _*_, _-_, _≤_}
+use Prim.Native.Nat.{ℕ, _≤_}
 use mathlib.Core.Path.{_≡_, refl, sym, _∙_}
 use mathlib.Core.Logic.{_⊎_, inl, inr, ⊎-elim}
 use mathlib.Core.Bool.{Bool, true, false, not, _&&_, _||_, cond, and-false}
@@ -23,7 +23,7 @@ use Rattle.rolefile.proofs.Sections.{part, Section, told}
 use Rattle.rolefile.proofs.Within.{scan-within}
 use Rattle.policy.specs.Policy.{Level, Free, Label, Undefined}
 use Rattle.policy.specs.Policy.{dominates, mayAt, level, rLevel, wLevel, passes, isDefined, levelNumber}
-use Rattle.policy.specs.Tables.{dominanceAt, clearancesAt, rLevelsAt, wLevelsAt, byteOf, marked, assignByTables, passesIn}
+use Rattle.policy.specs.Tables.{clearancesAt, rLevelsAt, wLevelsAt, byteOf, marked, assignByTables, passesIn, markAt}
 use Rattle.policy.specs.Image.{Labelled, Dominating, Levelled}
 use Rattle.policy.specs.Verdict.{assignVerdict, assignmentVerdict}
 use Rattle.policy.proofs.Readying.{one-within, two-within, limits-a}
@@ -64,7 +64,7 @@ module _ (n : ℕ) (ge : Relation) (s : ℕ → Bool) (few : n ≤ 32) where
 
 module _ (f ys : List ℕ) (counts : GoodCounts (header f)) (between : Between (labels f) (over f)) (dominating : Dominating f ys) where
   abbrev byte : ℕ → ℕ → ℕ
-  byte a b = getD ys (dominanceAt + (32 * (a - 1) + (b - 1))) 0
+  byte a b = getD ys (markAt a b) 0
 
   marks-byte : (a b : ℕ) → Among 32 a → Among 32 b → eqb (byte a b) 1 ≡ (leb a (labels f) && dominates f a b)
   marks-byte a b v w = rw (dominating a b v w) (go (leb a (labels f) && dominates f a b))

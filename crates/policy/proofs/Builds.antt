@@ -1,5 +1,5 @@
 -- The stages of a load put together: the verdict is the first refusal of the stages, and each table stays as its stage left it. Assumes nothing.
-use Prim.Native.Nat.{ℕ, _+_, _*_, _-_, _≤_, _<_}
+use Prim.Native.Nat.{ℕ, _+_, _-_, _≤_, _<_}
 use mathlib.Core.Path.{_≡_, sym, _∙_}
 use mathlib.Core.List.{List}
 use native.Mathlib.Omega.{arith}
@@ -12,7 +12,7 @@ use Rattle.rolefile.specs.Form.{_then_, scan, linesVerdict, unlabelledVerdict, 
 use Rattle.rolefile.specs.Said.{labels, roles}
 use Rattle.rolefile.proofs.Verdicts.{Refuses, then-next, then-stop, then-joined}
 use Rattle.policy.specs.Verdict.{labelVerdict, roleVerdict, assignmentVerdict, policyVerdict, verdict}
-use Rattle.policy.specs.Tables.{dominanceAt, clearancesAt, cardLabelsAt, rLevelsAt, wLevelsAt, seniorsAt, assignedAt, readersAt, writersAt, word, rowOf}
+use Rattle.policy.specs.Tables.{clearancesAt, cardLabelsAt, rLevelsAt, wLevelsAt, seniorsAt, assignedAt, readersAt, writersAt, word, rowOf, markAt}
 use Rattle.policy.specs.Image.{Labelled, Dominating, Seniors, Permitting, Levelled, Describes, Image}
 use Rattle.policy.specs.Stages.{Zeros, Noting, Ranking, Granting, Finishing, Built}
 
@@ -69,7 +69,7 @@ module _ (f xs ys : List ℕ) where
   }
 
   pub dominating-stays : Same 16 1040 xs ys → Dominating f xs → Dominating f ys
-  dominating-stays s t a b v w = s (dominanceAt + (32 * (a - 1) + (b - 1))) (omega arith) (omega arith) ∙ t a b v w
+  dominating-stays s t a b v w = s (markAt a b) (omega arith) (omega arith) ∙ t a b v w
 
   pub seniors-stay : Same 2064 4112 xs ys → Seniors f xs → Seniors f ys
   seniors-stay s t q r v w = row-stays 2064 4112 (rowOf seniorsAt q) s (omega arith) (omega arith) r ∙ t q r v w

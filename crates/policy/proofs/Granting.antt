@@ -1,6 +1,6 @@
 -- Dominance, permissions and levels as the tables hold them are those of the file: what the P lines grant by the seniors' rows is what a role may do,
 -- and the bounds of the labels gathered are its levels. Assumes nothing.
-use Prim.Native.Nat.{ℕ, _+_, _*_, _-_, _≤_, _<_}
+use Prim.Native.Nat.{ℕ, _+_, _-_, _≤_, _<_}
 use mathlib.Core.Path.{_≡_, refl, sym, ap, _∙_}
 use mathlib.Core.Logic.{⊎-elim}
 use mathlib.Core.List.{List}
@@ -29,9 +29,9 @@ use Rattle.rolefile.specs.WellFormed.{GoodCounts, GoodLines}
 use Rattle.rolefile.proofs.Sections.{part, Section, says-three}
 use Rattle.policy.specs.declared.build.Parts.{Parts}
 use Rattle.policy.specs.Policy.{dominates, senior, may, mayAt, level, rLevel, wLevel, levelNumber}
-use Rattle.policy.specs.Tables.{dominanceAt, cardLabelsAt, rLevelsAt, wLevelsAt, seniorsAt, readersAt, writersAt, byteOf, rowOf}
+use Rattle.policy.specs.Tables.{cardLabelsAt, rLevelsAt, wLevelsAt, seniorsAt, readersAt, writersAt, byteOf, rowOf, markAt}
 use Rattle.policy.specs.Tables.{grantedByLines, gathered, Bytes, GrantedRows}
-use Rattle.policy.specs.Image.{Labelled, Seniors, Permitting}
+use Rattle.policy.specs.Image.{Labelled, Seniors, Permitting, Allows}
 use Rattle.policy.specs.Stages.{Ready, Zeros, Closed, Granting}
 use Rattle.policy.proofs.Readying.{good-of, counts-of, section-p, one-within, limits-p}
 use Rattle.policy.proofs.Inside.{Between, closure-between, above-between}
@@ -66,10 +66,6 @@ by-line n m x t u inside = same (some m line) (some n thing) (λ h. to (some-iff
         let (i, v, e) = some-iff (names q) m .0 b in
         let (c, d) = and-iff (eqb (x i) q) (u i) .0 e in
         some-of line m i v (and-iff (u i) (t (x i)) .1 (d, rw (eqb-true (x i) q c) a))
-
--- the table at `at` has the roles that may do d
-abbrev pub Allows : List ℕ → ℕ → ℕ → List ℕ → Type 0
-Allows f d at xs = (o r : ℕ) → Among 512 o → Among 128 r → member xs (rowOf at o) r ≡ may f d r o
 
 module _ (f xs : List ℕ) (good : GoodLines f) (few : roles f ≤ 128) (seniors : Seniors f xs) {j m : ℕ} (s : Section f P j m) where
   role-within : (i : ℕ) → Among m i → Among (roles f) (one (part f j) i)
@@ -165,7 +161,7 @@ module _ (f : List ℕ) (counts : GoodCounts (header f)) (between : Between (rol
 
 module _ (f : List ℕ) (q : Parts) (h : Line) (t up : List (List Bool)) (x₀ x₁ x₂ x₃ x₄ reading writing : List ℕ) (ready : Ready f q h)
     (labelled : Labelled f x₀) (seniors : Seniors f x₀) (closed : Closed f t) (no-level : Zeros 1808 2064 x₀) (no-role : Zeros 12304 28688 x₀)
-    (table : (a b : ℕ) → Among 32 a → Among 32 b → getD x₁ (dominanceAt + (32 * (a - 1) + (b - 1))) 0 ≡ cond (mark t a b) 1 0)
+    (table : (a b : ℕ) → Among 32 a → Among 32 b → getD x₁ (markAt a b) 0 ≡ cond (mark t a b) 1 0)
     (kept : Kept 16 1040 x₀ x₁)
     (grants : GrantedRows (grantedByLines x₁ (part f (q .p .start)) (q .p .count)) x₁ x₂)
     (turns : Agree 32 32 (mark up) (converse (mark t)))
@@ -241,7 +237,7 @@ module _ (f : List ℕ) (q : Parts) (h : Line) (t up : List (List Bool)) (x₀ x
   pub granting : Granting f x₀ x₄
   granting = record {
     dominating = λ a b v w.
-        kept-since₁ (dominanceAt + (32 * (a - 1) + (b - 1))) (λ m. omega arith) (λ m. omega arith)
+        kept-since₁ (markAt a b) (λ m. omega arith) (λ m. omega arith)
         ∙ table a b v w
         ∙ ap (λ m. cond m 1 0) (closed a b v w);
     permitting = permitting-stays f x₃ x₄ (λ i l m. kept₄ i (λ n. omega arith)) permitting₃;

@@ -16,7 +16,7 @@ use Rattle.search.proofs.Found.{last-or}
 use Rattle.roleset.specs.Row.{Kept}
 use Rattle.order.specs.Table.{marks, mark}
 use Rattle.rolefile.specs.Section.{one, two}
-use Rattle.policy.specs.Tables.{dominanceAt, pairs}
+use Rattle.policy.specs.Tables.{dominanceAt, pairs, markAt}
 use Rattle.policy.proofs.Relating.{pairs-more, pairs-none}
 
 -- the table r is t with a mark for a over b
@@ -52,7 +52,7 @@ marks-more p i t r m n a b w v = n a b w v ∙ rw (m a b w v) (pairs-more p i _ 
 
 -- i rows of the table t stand where dominance does
 pub record Put (i : ℕ) (t : List (List Bool)) (xs ys : List ℕ) : Type 0 where
-  pub rows : (a b : ℕ) → Among i a → Among 32 b → getD ys (dominanceAt + (32 * (a - 1) + (b - 1))) 0 ≡ cond (mark t a b) 1 0
+  pub rows : (a b : ℕ) → Among i a → Among 32 b → getD ys (markAt a b) 0 ≡ cond (mark t a b) 1 0
   pub rest : Kept dominanceAt (dominanceAt + 32 * i) xs ys
 
 module _ (t : List (List Bool)) (xs : List ℕ) where
@@ -69,7 +69,7 @@ module _ (t : List (List Bool)) (xs : List ℕ) where
         let q : a - 1 ≡ i = omega arith in
         let s : dominanceAt + (32 * i + (b - 1)) ≡ dominanceAt + 32 * i + (b - 1) = omega arith in
         rw (q, s) (row b v))
-        (λ u. kept (dominanceAt + (32 * (a - 1) + (b - 1))) (λ m. omega arith) ∙ p .rows a b u v)
+        (λ u. kept (markAt a b) (λ m. omega arith) ∙ p .rows a b u v)
         (last-or i a (rw add-one at w));
     rest = λ k o. kept k (λ m. omega (arith, o (omega arith))) ∙ p .rest k (λ m. omega (arith, o m));
   }

@@ -12,14 +12,15 @@ use Rattle.roleset.specs.Row.{member}
 use Rattle.roleset.proofs.Bits.{same-bits}
 use Rattle.roleset.proofs.Rows.{bit-member}
 use Rattle.rolefile.specs.declared.Verdict.{Verdict}
-use Rattle.policy.specs.Tables.{dominanceAt, clearancesAt, cardLabelsAt, rLevelsAt, wLevelsAt, seniorsAt, assignedAt, readersAt, writersAt}
+use Rattle.policy.specs.Tables.{dominanceAt, clearancesAt, cardLabelsAt, rLevelsAt, wLevelsAt, seniorsAt, assignedAt, readersAt, writersAt, markAt}
 use Rattle.policy.specs.Tables.{stateSize, word, byteOf, rowOf}
 use Rattle.policy.specs.Image.{Unused, Image, Loaded}
+use Rattle.policy.proofs.Builds.{Same}
 
 module _ (ys zs : List ℕ) (ys-bytes : (i : ℕ) → getD ys i 0 < 256) (zs-bytes : (i : ℕ) → getD zs i 0 < 256) where
   -- the bytes from a up to b are the same
   record Settled (a b : ℕ) : Type 0 where
-    byte : (i : ℕ) → a ≤ i → i < b → getD ys i 0 ≡ getD zs i 0
+    byte : Same a b zs ys
 
   infixr 20 _and_
   _and_ : {a b c : ℕ} → Settled a b → Settled b c → Settled a c
@@ -79,7 +80,7 @@ module _ (ys zs : List ℕ) (ys-bytes : (i : ℕ) → getD ys i 0 < 256) (zs-byt
           let b = (i - dominanceAt) % 32 + 1 in
           let v : Among 32 a = omega arith in
           let w : Among 32 b = omega arith in
-          moved i (dominanceAt + (32 * (a - 1) + (b - 1))) (omega arith) (p .tables .dominating a b v w ∙ sym (q .tables .dominating a b v w));
+          moved i (markAt a b) (omega arith) (p .tables .dominating a b v w ∙ sym (q .tables .dominating a b v w));
     }
 
     state-settled : Settled 0 stateSize

@@ -1,5 +1,5 @@
 -- What a state holds after a load of the file f: each table says what the file says, and every other byte of the state is 0. Assumes nothing.
-use Prim.Native.Nat.{ℕ, _+_, _*_, _-_, _≤_, _<_}
+use Prim.Native.Nat.{ℕ, _≤_, _<_}
 use mathlib.Core.Path.{_≡_}
 use mathlib.Core.List.{List}
 use mathlib.Core.Bool.{_&&_, cond}
@@ -11,7 +11,7 @@ use Rattle.rolefile.specs.declared.Verdict.{Verdict}
 use Rattle.rolefile.specs.Form.{fine, refusal, unless, _then_}
 use Rattle.rolefile.specs.Said.{labels, roles, users, cards, clearance, cardLabel, assigned}
 use Rattle.policy.specs.Policy.{dominates, senior, may, rLevel, wLevel, levelNumber}
-use Rattle.policy.specs.Tables.{dominanceAt, clearancesAt, cardLabelsAt, rLevelsAt, wLevelsAt, seniorsAt, assignedAt, readersAt, writersAt, stateSize, word, byteOf, rowOf}
+use Rattle.policy.specs.Tables.{clearancesAt, cardLabelsAt, rLevelsAt, wLevelsAt, seniorsAt, assignedAt, readersAt, writersAt, stateSize, word, byteOf, rowOf, markAt}
 use Rattle.policy.specs.Verdict.{verdict}
 
 pub record Counts (a b c d : ℕ) (ys : List ℕ) : Type 0 where
@@ -30,16 +30,19 @@ pub record Labelled (f ys : List ℕ) : Type 0 where
 
 abbrev pub Dominating : List ℕ → List ℕ → Type 0
 Dominating f ys = (a b : ℕ) → Among 32 a → Among 32 b
-    → getD ys (dominanceAt + (32 * (a - 1) + (b - 1))) 0 ≡ cond (leb a (labels f) && dominates f a b) 1 0
+    → getD ys (markAt a b) 0 ≡ cond (leb a (labels f) && dominates f a b) 1 0
 
 -- the row of a role holds its seniors, itself included
 abbrev pub Seniors : List ℕ → List ℕ → Type 0
 Seniors f ys = (q r : ℕ) → Among 128 q → Among 128 r → member ys (rowOf seniorsAt q) r ≡ (leb q (roles f) && senior f r q)
 
--- the row of a card holds the roles that may read it, and write it
+-- the row of a card, in the table at `at`, holds the roles that may read it (d = 1) or write it (d = 2)
+abbrev pub Allows : List ℕ → ℕ → ℕ → List ℕ → Type 0
+Allows f d at ys = (o r : ℕ) → Among 512 o → Among 128 r → member ys (rowOf at o) r ≡ may f d r o
+
 pub record Permitting (f ys : List ℕ) : Type 0 where
-  pub readers : (o r : ℕ) → Among 512 o → Among 128 r → member ys (rowOf readersAt o) r ≡ may f 1 r o
-  pub writers : (o r : ℕ) → Among 512 o → Among 128 r → member ys (rowOf writersAt o) r ≡ may f 2 r o
+  pub readers : Allows f 1 readersAt ys
+  pub writers : Allows f 2 writersAt ys
 
 -- a role's two bytes are its r-level and its w-level, as `levelNumber`
 pub record Levelled (f ys : List ℕ) : Type 0 where

@@ -59,9 +59,13 @@ byteOf xs at x = getD xs (at + (x - 1)) 0
 abbrev pub rowOf : ℕ → ℕ → ℕ
 rowOf at x = at + 16 * (x - 1)
 
+-- where the mark of label a over label b stands
+abbrev pub markAt : ℕ → ℕ → ℕ
+markAt a b = dominanceAt + (32 * (a - 1) + (b - 1))
+
 -- the marks of dominance
 abbrev pub marked : List ℕ → Relation
-marked xs a b = among 32 a && (among 32 b && eqb (getD xs (dominanceAt + (32 * (a - 1) + (b - 1))) 0) 1)
+marked xs a b = among 32 a && (among 32 b && eqb (getD xs (markAt a b) 0) 1)
 
 -- ---- what the first m lines of a part put into them
 
@@ -91,9 +95,13 @@ gathered xs at n l r = some n (λ o. eqb (byteOf xs cardLabelsAt o) l && member 
 
 -- ---- records of what the functions over the tables leave
 
--- a table of role sets: each row x holds what it held, and the roles r of which `said x r`
+-- the rows of a table of role sets: each row x holds what it held, and the roles r of which `said x r`
+abbrev pub Joins : ℕ → ℕ → Relation → List ℕ → List ℕ → Type 0
+Joins at size said xs ys = (x r : ℕ) → Among size x → Among 128 r → member ys (rowOf at x) r ≡ (member xs (rowOf at x) r || said x r)
+
+-- so a table, and nothing else has changed
 pub record Related (at size : ℕ) (said : Relation) (xs ys : List ℕ) : Type 0 where
-  pub rows : (x r : ℕ) → Among size x → Among 128 r → member ys (rowOf at x) r ≡ (member xs (rowOf at x) r || said x r)
+  pub rows : Joins at size said xs ys
   pub rest : Kept at (at + 16 * size) xs ys
 
 -- a table of bytes: thing x's is now v x
@@ -103,8 +111,8 @@ pub record Bytes (at size : ℕ) (v : ℕ → ℕ) (xs ys : List ℕ) : Type 0 w
 
 -- the readers' and the writers' rows with what `said` gives for mode 1 and mode 2
 pub record GrantedRows (said : ℕ → ℕ → ℕ → Bool) (xs ys : List ℕ) : Type 0 where
-  pub readers : (o r : ℕ) → Among 512 o → Among 128 r → member ys (rowOf readersAt o) r ≡ (member xs (rowOf readersAt o) r || said 1 o r)
-  pub writers : (o r : ℕ) → Among 512 o → Among 128 r → member ys (rowOf writersAt o) r ≡ (member xs (rowOf writersAt o) r || said 2 o r)
+  pub readers : Joins readersAt 512 (said 1) xs ys
+  pub writers : Joins writersAt 512 (said 2) xs ys
   pub rest : Kept readersAt 28688 xs ys
 
 -- ---- role flow by the rows of the first n cards
@@ -125,11 +133,12 @@ isState xs = leb stateSize (length xs)
 
 -- ---- what a list of bytes tells of its roles; what is too short for a state has none
 
-abbrev pub roleCount : List ℕ → ℕ
-roleCount xs = cond (isState xs) (rolesUpTo xs) 0
+-- the count at `at`, `most` where it is higher
+abbrev pub countIn : List ℕ → ℕ → ℕ → ℕ
+countIn xs at most = cond (isState xs) (min (word xs at) most) 0
 
-abbrev pub cardCount : List ℕ → ℕ
-cardCount xs = cond (isState xs) (cardsUpTo xs) 0
+abbrev pub roleCount : List ℕ → ℕ
+roleCount xs = countIn xs 2 128
 
 -- the role's byte of the table of levels at `at`
 abbrev pub levelIn : List ℕ → ℕ → ℕ → ℕ

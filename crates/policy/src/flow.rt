@@ -10,26 +10,23 @@ ghost use lib.ListN.{length};
 ghost use Rattle.search.specs.Search.{some, Among};
 ghost use Rattle.roleset.specs.Row.{member};
 ghost use Rattle.order.specs.Table.{related, Tabled};
-ghost use Rattle.policy.specs.Tables.{rowOf, rLevelsAt, wLevelsAt, readersAt, writersAt, roleCount, cardCount, levelIn, flowsIn, circleIn};
+ghost use Rattle.policy.specs.Tables.{rowOf, rLevelsAt, wLevelsAt, readersAt, writersAt, countIn, roleCount, levelIn, flowsIn, circleIn};
+
+// The count at `at` in the state, `most` where it is higher.
+fn count(s: &[u8], at: u16, most: usize) -> usize
+    ensures { λ r. ⌜ r ≡ countIn (now (s .entry)) at most ⌝ }
+{
+    if s.len() < 65536 {
+        return 0;
+    }
+    order::marks::lesser(tables::word(s, at) as usize, most)
+}
 
 // How many roles the state holds.
 pub fn roles(s: &[u8]) -> usize
     ensures { λ r. ⌜ r ≡ roleCount (now (s .entry)) ⌝ }
 {
-    if s.len() < 65536 {
-        return 0;
-    }
-    order::marks::lesser(tables::word(s, 2) as usize, 128)
-}
-
-// How many cards the state holds.
-fn cards(s: &[u8]) -> usize
-    ensures { λ r. ⌜ r ≡ cardCount (now (s .entry)) ⌝ }
-{
-    if s.len() < 65536 {
-        return 0;
-    }
-    order::marks::lesser(tables::word(s, 6) as usize, 512)
+    count(s, 2, 128)
 }
 
 // The role's byte of the table of levels at `at`.
@@ -78,7 +75,7 @@ pub fn flows(s: &[u8], from: usize, to: usize) -> bool
     if from == to {
         return false;
     }
-    let n = cards(s);
+    let n = count(s, 6, 512);
     let mut o = 0;
     while o < n {
         if flows_by_card(s, o, from, to) {
@@ -140,7 +137,7 @@ pub fn table(s: &[u8]) -> [u8; 2048]
     if s.len() < 65536 {
         return [0u8; 2048];
     }
-    let mut t = flow_table(s, cards(s));
+    let mut t = flow_table(s, count(s, 6, 512));
     remove_itself(&mut t);
     t
 }

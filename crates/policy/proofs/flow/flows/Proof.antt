@@ -36,7 +36,7 @@ returns-2 c =
 loop-holds : tie.Need-loop-holds Inv-loop μ-loop
 loop-holds c =
     let a = c .before .before .before .before .args in
-    (of-state (now (a .s)) (search needs) (c .cards .ensures), search needs, some-yet _)
+    (of-state (now (a .s)) (search needs) (c .count .ensures), search needs, some-yet _)
 
 returns-3 : tie.Need-returns-3 Inv-loop μ-loop
 returns-3 c =

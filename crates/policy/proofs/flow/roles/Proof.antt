@@ -1,16 +1,7 @@
--- None of a slice that is too short, and else the lesser of the number that the state holds and the limit.
+-- By the count at its place.
 use borrow.Author.Needs.{needs}
-use denote.Ref.{now}
-use Rattle.policy.proofs.Flowing.{no-state, a-state, refused, answered}
 use Rattle.policy.proofs.flow.roles.Statement.{statement}
 use Rattle.policy.proofs.flow.roles.Tie as tie
 
-returns : tie.Need-returns
-returns c = refused _ (no-state (now (c .before .before .args .s)) (search needs))
-
-returns-2 : tie.Need-returns-2
-returns-2 c =
-    answered (a-state (now (c .before .before .before .before .args .s)) (search needs)) (rw (c .before .word .ensures .0) at (c .lesser .ensures))
-
 pub roles-spec : {M : Type 1} → statement M
-roles-spec = tie.close (tie.spec returns (λ c κs. search needs) (λ c κs. search needs) returns-2)
+roles-spec = tie.close (tie.spec (λ c κs. search needs) (λ c. c .count .ensures))

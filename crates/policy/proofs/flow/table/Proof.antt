@@ -13,8 +13,8 @@ use Rattle.policy.proofs.flow.table.Tie as tie
 returns : tie.Need-returns
 returns c r q u v = rw (no-state (now (c .before .before .args .s)) (search needs)) (zero-rows 2048 (0 + 16 * (r - 1)) q (omega arith))
 
-cards-are : (c : tie.After-cards) → c .cards .result ≡ cardsUpTo (now (c .before .before .before .args .s))
-cards-are c = of-state (now (c .before .before .before .args .s)) (search needs) (c .cards .ensures)
+cards-are : (c : tie.After-count) → c .count .result ≡ cardsUpTo (now (c .before .before .before .args .s))
+cards-are c = of-state (now (c .before .before .before .args .s)) (search needs) (c .count .ensures)
 
 flow-table-requires : tie.Need-flow-table-requires
 flow-table-requires c κs = (search needs, omega (arith, cards-are c))

@@ -2,8 +2,8 @@
 use borrow.Author.Needs.{needs}
 use denote.Ref.{now}
 use Rattle.policy.proofs.Flowing.{no-state, a-state, refused, answered}
-use Rattle.policy.proofs.flow.cards.Statement.{statement}
-use Rattle.policy.proofs.flow.cards.Tie as tie
+use Rattle.policy.proofs.flow.count.Statement.{statement}
+use Rattle.policy.proofs.flow.count.Tie as tie
 
 returns : tie.Need-returns
 returns c = refused _ (no-state (now (c .before .before .args .s)) (search needs))
@@ -12,5 +12,5 @@ returns-2 : tie.Need-returns-2
 returns-2 c =
     answered (a-state (now (c .before .before .before .before .args .s)) (search needs)) (rw (c .before .word .ensures .0) at (c .lesser .ensures))
 
-pub cards-spec : {M : Type 1} → statement M
-cards-spec = tie.close (tie.spec returns (λ c κs. search needs) (λ c κs. search needs) returns-2)
+pub count-spec : {M : Type 1} → statement M
+count-spec = tie.close (tie.spec returns (λ c κs. search needs) (λ c κs. search needs) returns-2)
