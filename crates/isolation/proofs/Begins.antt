@@ -7,18 +7,18 @@ use native.Mathlib.Omega.{arith}
 use native.Mathlib.Decide.{ℕ-discrete, decLt}
 use lib.Bits.{bitOr}
 use lib.Dec.{leb, eqb}
-use lib.ListN.{length, getD}
+use lib.ListN.{length, getD, replicate, List·getD-eq-default}
 use borrow.Author.Tests.{le-leb, lt-leb, eq-eqb, ne-eqb}
 use Rattle.search.specs.Search.{Among}
-use Rattle.search.proofs.Truth.{among-iff}
+use Rattle.search.proofs.Truth.{among-iff, either}
 use Rattle.roleset.specs.Row.{bit, member}
 use Rattle.roleset.proofs.Bits.{bit-zero, bit-on}
 use Rattle.rolefile.specs.Form.{fine}
 use Rattle.rolefile.specs.Said.{labels, roles, users, cards, clearance, cardLabel, assigned}
 use Rattle.policy.specs.Policy.{dominates, senior, may, rLevel, wLevel, levelNumber}
-use Rattle.policy.specs.Tables.{dominanceAt, clearancesAt, cardLabelsAt, rLevelsAt, wLevelsAt, seniorsAt, assignedAt, readersAt, writersAt, stateSize, rowOf}
+use Rattle.policy.specs.Tables.{dominanceAt, clearancesAt, cardLabelsAt, rLevelsAt, wLevelsAt, seniorsAt, assignedAt, readersAt, writersAt, rowOf}
 use Rattle.policy.specs.Accepted.{Accepted}
-use Rattle.policy.specs.Image.{Describes, Image, loadVerdict}
+use Rattle.policy.specs.Image.{Unused, Describes, Image, loadVerdict}
 use Rattle.policy.proofs.Outcomes.{accepted-fine}
 use Rattle.isolation.specs.TwoRuns.{Start}
 
@@ -49,27 +49,23 @@ module _ (s : ℕ → Bool) where
   high-bit : (n : ℕ) → n ≤ 8 → (j : ℕ) → n ≤ j → bit (packed n s) j ≡ false
   unfolding packed
   high-bit zero m j l = bit-zero j
-  high-bit (suc n) m j l = by (s n) (high-bit n (omega arith) j (omega arith))
-    where
-      by : (b : Bool) → bit (packed n s) j ≡ false → bit (cond b (bitOr (packed n s) (1 * 2 ^ n % 256)) (packed n s)) j ≡ false
-      by true e = bit-on (packed n s) n (omega arith) j ∙ rw (ne-eqb j n (λ i. omega arith)) e
-      by false e = e
+  high-bit (suc n) m j l =
+      let e = high-bit n (omega arith) j (omega arith) in
+      either (λ x. bit x j ≡ false) (s n) _ _ (bit-on (packed n s) n (omega arith) j ∙ rw (ne-eqb j n (λ i. omega arith)) e) e
 
   low-bit : (n : ℕ) → n ≤ 8 → (j : ℕ) → j < n → bit (packed n s) j ≡ s j
   unfolding packed
   low-bit zero m j l = absurd (omega arith)
   low-bit (suc n) m j l = elim (ℕ-discrete j n) [
     | yes e ↦ rw e (last (s n) refl)
-    | no e ↦ other (s n) e (low-bit n (omega arith) j (omega arith))
+    | no e ↦
+        let h = low-bit n (omega arith) j (omega arith) in
+        either (λ x. bit x j ≡ s j) (s n) _ _ (bit-on (packed n s) n (omega arith) j ∙ rw (ne-eqb j n e) h) h
   ]
     where
       last : (b : Bool) → s n ≡ b → bit (cond b (bitOr (packed n s) (1 * 2 ^ n % 256)) (packed n s)) n ≡ s n
       last true e = bit-on (packed n s) n (omega arith) n ∙ rw (eq-eqb n n refl) (sym e)
       last false e = high-bit n (omega arith) n (omega arith) ∙ sym e
-
-      other : (b : Bool) → (j ≡ n → ⊥) → bit (packed n s) j ≡ s j → bit (cond b (bitOr (packed n s) (1 * 2 ^ n % 256)) (packed n s)) j ≡ s j
-      other true e h = bit-on (packed n s) n (omega arith) j ∙ rw (ne-eqb j n e) h
-      other false e h = h
 
 -- ---- bytes by tables: size bytes from `at` on are g's, the others are the rest's
 
@@ -180,7 +176,7 @@ module _ (f : List ℕ) where
         ∙ table-before wLevelsAt 128 _ from-seniors i (omega arith) ∙ table-before seniorsAt 2048 _ from-assigned i (omega arith)
         ∙ table-before assignedAt 4096 _ from-readers i (omega arith) ∙ none-before (omega arith)
 
-    unused : (8 ≤ i) × (16 ≤ i → 8208 ≤ i) × (12304 ≤ i → 28688 ≤ i) → byte i ≡ 0
+    unused : Unused i → byte i ≡ 0
     unused (a, b, c) = elim (decLt i 16) [
       | yes l ↦ past-counts a ∙ none-at-all l
       | no l ↦ elim (decLt i 12304) [
@@ -277,28 +273,17 @@ module _ (f : List ℕ) where
 pub start : (f : List ℕ) → Accepted f → Start f
 start f accepted = record {
   before = zeros;
-  enough = rw zeros-length (omega arith);
+  enough = omega arith;
   verdict = fine;
   state = state f;
   load = record {
-    answer = answered;
+    answer = unfold loadVerdict in rw (accepted-fine f .1 accepted);
     refused = λ h. absurd (h refl);
     done = λ e. image f;
-    rest = λ i l. past (state f) i (rw (length-state f) l) ∙ sym (past zeros i (rw zeros-length l));
-    long = length-state f ∙ sym zeros-length;
+    rest = λ i l. List·getD-eq-default (state f) 0 {n = i} (rw (length-state f) l) ∙ sym (List·getD-eq-default zeros 0 l);
+    long = length-state f;
   };
 }
   where
     zeros : List ℕ
-    zeros = listed 65536 (λ i. 0)
-
-    zeros-length : length zeros ≡ 65536
-    zeros-length = length-listed 65536 (λ i. 0)
-
-    answered : fine ≡ loadVerdict (length zeros) f
-    answered = unfold loadVerdict in rw (le-leb stateSize (length zeros) (rw zeros-length (omega arith)), accepted-fine f .1 accepted)
-
-    past : (xs : List ℕ) (i : ℕ) → length xs ≤ i → getD xs i 0 ≡ 0
-    past [] i l = refl
-    past (x ∷ xs) zero l = absurd (omega arith)
-    past (x ∷ xs) (suc i) l = past xs i (omega arith)
+    zeros = replicate 65536 0

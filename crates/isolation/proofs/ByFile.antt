@@ -8,7 +8,7 @@ use Rattle.monitor.specs.Calls.{ifDone, written, partAt}
 use Rattle.monitor.specs.Runs.{Call, opens, closes, takes, drops, reads, writes, Memory, number, part, storeAfter, after}
 use Rattle.monitor.specs.Rules.{Sessions, partRule, rule, next}
 use Rattle.monitor.proofs.Demand2.{Runs, runs-next, runs-number}
-use Rattle.isolation.specs.TwoRuns.{answer, Open, track, shared, keep, Shown, shown}
+use Rattle.isolation.specs.TwoRuns.{Open, track, shared, keep, Shown, shown}
 
 unfoldable pub partBy : List ℕ → ℕ → Sessions → List ℕ → Call → List ℕ
 partBy f size s store (opens p u l) = []

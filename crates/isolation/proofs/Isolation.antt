@@ -1,5 +1,5 @@
 -- Demand 3: a run is like the run of its own shared calls, by induction along the list; so two runs with the same shared calls are alike. Assumes nothing.
-use Prim.Native.Nat.{ℕ, zero, suc, _+_, _*_, _-_}
+use Prim.Native.Nat.{ℕ, _+_, _*_, _-_}
 use mathlib.Core.Path.{_≡_, refl, sym, _∙_}
 use mathlib.Core.List.{List, [], _∷_}
 use mathlib.Core.Bool.{Bool, true, false, true≢false}
@@ -8,16 +8,17 @@ use native.Mathlib.Decide.{decLt}
 use lib.ListN.{length, take, drop}
 use Rattle.search.specs.Search.{Among}
 use Rattle.search.proofs.Truth.{both}
-use Rattle.rolefile.specs.Said.{labels, cards}
+use Rattle.rolefile.specs.Said.{labels}
 use Rattle.rolefile.specs.WellFormed.{WellFormed}
 use Rattle.policy.specs.Accepted.{Accepted}
 use Rattle.policy.specs.Tables.{writersAt}
-use Rattle.monitor.specs.Calls.{ifDone, written, partAt, readNumber, writeNumber}
+use Rattle.monitor.specs.Calls.{written, partAt, readNumber, writeNumber}
 use Rattle.monitor.specs.Runs.{Call, opens, closes, takes, drops, reads, writes, Memory, number, part, storeAfter, after, run}
 use Rattle.monitor.specs.Rules.{Sessions, noSessions, rule, next}
 use Rattle.monitor.proofs.Answers.{part-fits}
 use Rattle.monitor.proofs.Frames.{written-out}
-use Rattle.monitor.proofs.Orderly.{part-done}
+use Rattle.monitor.proofs.Wrote.{inside}
+use Rattle.monitor.proofs.Orderly.{part-done, both-ways, either-way}
 use Rattle.monitor.proofs.Demand2.{Runs, runs-next, runs-number, loaded-runs}
 use Rattle.isolation.specs.TwoRuns.{answer, Open, noneOpen, track, under, shared, sharedCalls, Shown, shown, SameCards, Alike, Isolated}
 use Rattle.isolation.proofs.Tracking.{Fits, none-fits, placeOf, next-other, fits-track}
@@ -28,7 +29,7 @@ module _ (f : List ℕ) (accepted : Accepted f) (L : ℕ) (label : Among (labels
   form = accepted .ordered .form
 
   -- two runs at one moment, alike as far as L can tell
-  pub record Pair (t : Open) (s₁ s₂ : Sessions) (m₁ m₂ : Memory) : Type 0 where
+  record Pair (t : Open) (s₁ s₂ : Sessions) (m₁ m₂ : Memory) : Type 0 where
     pub runs₁ : Runs f s₁ size m₁
     pub runs₂ : Runs f s₂ size m₂
     pub fits₁ : Fits t s₁
@@ -46,24 +47,23 @@ module _ (f : List ℕ) (accepted : Accepted f) (L : ℕ) (label : Among (labels
         ∙ sym (runs-number f form s₂ size m₂ (pair .runs₂) c)
 
     read-bytes : (p o k n : ℕ) → c ≡ reads p o k n → part m₁ (reads p o k n) ≡ part m₂ (reads p o k n)
-    unfolding number part ifDone rule shared
-    read-bytes p o k n e = rw (rw e at numbers) (by (readNumber (m₂ .state) (m₂ .store) p o k n) refl)
-      where
-        by : (x : ℕ) → readNumber (m₂ .state) (m₂ .store) p o k n ≡ x
-            → ifDone x (take n (drop (partAt o k) (m₁ .store))) [] ≡ ifDone x (take n (drop (partAt o k) (m₂ .store))) []
-        by zero z =
-            let y = sym (runs-number f form s₂ size m₂ (pair .runs₂) (reads p o k n)) ∙ z in
-            let u = part-done f 1 s₂ size p o k n y in
-            let d = read-under f accepted L label t s₂ (pair .runs₂ .known) (pair .fits₂) size p o k n y (rw e at h) in
-            let same₁ = pair .runs₁ .stored in
-            let same₂ = pair .runs₂ .stored in
-            bytes-same (m₁ .store) (m₂ .store) (partAt o k) n
-            (omega (arith, u .card, u .inCard, u .inStore)) (omega (arith, u .card, u .inCard, u .inStore))
-            (λ i l.
-            let w = u .inCard in
-            let j : partAt o k + i ≡ 64 * (o - 1) + (k + i) = omega arith in
-            rw j (pair .cards o (k + i) (u .card) d (omega arith)))
-        by (suc x) z = refl
+    unfolding number part rule shared
+    read-bytes p o k n e =
+        rw (rw e at numbers)
+        (both-ways (λ a b. a ≡ b) (readNumber (m₂ .state) (m₂ .store) p o k n) (take n (drop (partAt o k) (m₁ .store))) [] (take n (drop (partAt o k) (m₂ .store))) []
+        (λ z.
+        let y = sym (runs-number f form s₂ size m₂ (pair .runs₂) (reads p o k n)) ∙ z in
+        let u = part-done f 1 s₂ size p o k n y in
+        let d = read-under f accepted L label t s₂ (pair .runs₂ .known) (pair .fits₂) size p o k n y (rw e at h) in
+        let same₁ = pair .runs₁ .stored in
+        let same₂ = pair .runs₂ .stored in
+        bytes-same (m₁ .store) (m₂ .store) (partAt o k) n
+        (omega (arith, u .card, u .inCard, u .inStore)) (omega (arith, u .card, u .inCard, u .inStore))
+        (λ i l.
+        let w = u .inCard in
+        let j : partAt o k + i ≡ 64 * (o - 1) + (k + i) = omega arith in
+        rw j (pair .cards o (k + i) (u .card) d (omega arith))))
+        refl)
 
     parts : part m₁ c ≡ part m₂ c
     unfolding part
@@ -107,29 +107,28 @@ module _ (f : List ℕ) (accepted : Accepted f) (L : ℕ) (label : Among (labels
     other-sessions c h q k = next-other f s c q (λ e. both k (rw e at h))
 
     other-cards : (c : Call) → under f L (t (placeOf c)) ≡ false → SameCards f L (storeAfter m c) (m .store)
-    unfolding storeAfter number ifDone rule
+    unfolding storeAfter number rule
     other-cards (opens p u l) h = λ o i w d l. refl
     other-cards (closes p) h = λ o i w d l. refl
     other-cards (takes p r) h = λ o i w d l. refl
     other-cards (drops p r) h = λ o i w d l. refl
     other-cards (reads p o k n) h = λ o i w d l. refl
-    other-cards (writes p o k bytes) h = by (writeNumber (m .state) (m .store) p o k bytes) refl
-      where
-        by : (n : ℕ) → writeNumber (m .state) (m .store) p o k bytes ≡ n → SameCards f L (ifDone n (written (m .store) (partAt o k) bytes) (m .store)) (m .store)
-        by zero z =
-            let y = sym (runs-number f form s size m runs (writes p o k bytes)) ∙ z in
-            let high = write-over f accepted L label t s (runs .known) fits size p o k (length bytes) y h in
-            let x = part-fits writersAt (m .state) (length (m .store)) p o k (length bytes) z in
-            λ d i w low l.
-            written-out (m .store) (partAt o k) bytes (omega (arith, x .card, x .inCard, x .inStore)) (64 * (d - 1) + i)
-            (λ a. elim (decLt d o) [
-              | yes j ↦ absurd (omega (arith, x .card))
-              | no j ↦ elim (decLt o d) [
-                | yes g ↦ omega (arith, x .card, x .inCard)
-                | no g ↦ let e : d ≡ o = omega arith in absurd (both low (rw e high))
-              ]
-            ])
-        by (suc n) z = λ o i w d l. refl
+    other-cards (writes p o k bytes) h =
+        either-way (λ st. SameCards f L st (m .store)) (writeNumber (m .state) (m .store) p o k bytes) (written (m .store) (partAt o k) bytes) (m .store)
+        (λ z.
+        let y = sym (runs-number f form s size m runs (writes p o k bytes)) ∙ z in
+        let high = write-over f accepted L label t s (runs .known) fits size p o k (length bytes) y h in
+        let x = part-fits writersAt (m .state) (length (m .store)) p o k (length bytes) z in
+        λ d i w low l.
+        written-out (m .store) (partAt o k) bytes (inside (m .state) (m .store) p o k bytes z) (64 * (d - 1) + i)
+        (λ a. elim (decLt d o) [
+          | yes j ↦ absurd (omega (arith, x .card))
+          | no j ↦ elim (decLt o d) [
+            | yes g ↦ omega (arith, x .card, x .inCard)
+            | no g ↦ let e : d ≡ o = omega arith in absurd (both low (rw e high))
+          ]
+        ]))
+        (λ o i w d l. refl)
 
   other-pair : (t : Open) (s₁ s₂ : Sessions) (m₁ m₂ : Memory) → Pair t s₁ s₂ m₁ m₂ → (c : Call) → shared f L t c ≡ false
       → Pair t (next f s₁ c) s₂ (after m₁ c) m₂
@@ -161,7 +160,7 @@ module _ (f : List ℕ) (accepted : Accepted f) (L : ℕ) (label : Among (labels
       let (same, high) = other-call t s₁ m₁ (pair .runs₁) (pair .fits₁) c h in
       rw (h, same) (rest t (next f s₁ c) s₂ (after m₁ c) m₂ (other-pair t s₁ s₂ m₁ m₂ pair c h))
 
-  pub like-shared : (cs : List Call) (t : Open) (s₁ s₂ : Sessions) (m₁ m₂ : Memory) → Pair t s₁ s₂ m₁ m₂ → Like t m₁ m₂ cs (sharedCalls f L t cs)
+  like-shared : (cs : List Call) (t : Open) (s₁ s₂ : Sessions) (m₁ m₂ : Memory) → Pair t s₁ s₂ m₁ m₂ → Like t m₁ m₂ cs (sharedCalls f L t cs)
   unfolding shown sharedCalls run
   like-shared [] t s₁ s₂ m₁ m₂ pair = (tt, pair .cards)
   like-shared (c ∷ cs) t s₁ s₂ m₁ m₂ pair = turn (shared f L t c) t s₁ s₂ m₁ m₂ c cs refl pair (like-shared cs)

@@ -13,11 +13,11 @@ use Rattle.search.proofs.Found.{some-of}
 use Rattle.order.specs.Closure.{Relation, PartialOrder}
 use Rattle.order.specs.Bound.{converse}
 use Rattle.rolefile.specs.Said.{labels, cards, cardLabel}
-use Rattle.policy.specs.Policy.{dominates, may, mayAt, rLevel, wLevel, passes}
+use Rattle.policy.specs.Policy.{dominates, may, mayAt}
 use Rattle.policy.specs.Accepted.{Accepted, Passing}
-use Rattle.policy.proofs.Levels.{converse-order, passes-iff}
 use Rattle.policy.proofs.Inside.{card-label-known}
 use Rattle.monitor.specs.Rules.{fittingByFile}
+use Rattle.monitor.proofs.Grants.{fitting-by-file-iff}
 
 -- a level that passes bounds each label of its set
 passing-bound : (n : ℕ) (ge : Relation) (s p : ℕ → Bool) → Passing n ge s p → (x : ℕ) → Among n x → s x ≡ true → (c : ℕ) × Among n c × (ge c x ≡ true) × (p c ≡ true)
@@ -38,22 +38,16 @@ module _ (f : List ℕ) (accepted : Accepted f) where
       (and-iff (may f m r o) (eqb (cardLabel f o) (cardLabel f o)) .1 (h, eq-eqb (cardLabel f o) (cardLabel f o) refl))
 
   module _ (l r o : ℕ) (label : Among (labels f) l) (card : Among (cards f) o) (suited : fittingByFile f l r ≡ true) where
-    both : (passes (dominates f l) (rLevel f r) ≡ true) × (passes (λ a. dominates f a l) (wLevel f r) ≡ true)
-    unfolding fittingByFile
-    both = and-iff (passes (dominates f l) (rLevel f r)) (passes (λ a. dominates f a l) (wLevel f r)) .0 suited
-
     pub reads-below : may f 1 r o ≡ true → dominates f l (cardLabel f o) ≡ true
-    unfolding rLevel
     reads-below h =
-        let passing = passes-iff (labels f) (dominates f) (mayAt f 1 r) order (dominates f l) .0 (both .0) in
-        let (c, w, over, q) = passing-bound (labels f) (dominates f) (mayAt f 1 r) (dominates f l) passing (cardLabel f o) (label-of-card o card) (may-at 1 r o card h) in
+        let reads = fitting-by-file-iff f order l r .0 suited .0 in
+        let (c, w, over, q) = passing-bound (labels f) (dominates f) (mayAt f 1 r) (dominates f l) reads (cardLabel f o) (label-of-card o card) (may-at 1 r o card h) in
         order .transitive l c (cardLabel f o) label w (label-of-card o card) q over
 
     pub writes-above : may f 2 r o ≡ true → dominates f (cardLabel f o) l ≡ true
-    unfolding wLevel
     writes-above h =
-        let passing = passes-iff (labels f) (converse (dominates f)) (mayAt f 2 r) (converse-order order) (λ a. dominates f a l) .0 (both .1) in
+        let writes = fitting-by-file-iff f order l r .0 suited .1 in
         let (c, w, over, q) =
-        passing-bound (labels f) (converse (dominates f)) (mayAt f 2 r) (λ a. dominates f a l) passing (cardLabel f o) (label-of-card o card) (may-at 2 r o card h)
+        passing-bound (labels f) (converse (dominates f)) (mayAt f 2 r) (λ a. dominates f a l) writes (cardLabel f o) (label-of-card o card) (may-at 2 r o card h)
         in
         order .transitive (cardLabel f o) c l (label-of-card o card) w label over q

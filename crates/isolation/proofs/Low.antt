@@ -14,19 +14,18 @@ use Rattle.search.proofs.Truth.{and-iff, untrue, both}
 use Rattle.search.proofs.Found.{some-iff}
 use Rattle.rolefile.specs.Said.{labels, roles, cards, cardLabel}
 use Rattle.policy.specs.Policy.{dominates, may}
-use Rattle.policy.specs.Tables.{writersAt}
 use Rattle.policy.specs.Accepted.{Accepted}
 use Rattle.monitor.specs.Calls.{ifDone, written, partAt, writeNumber}
 use Rattle.monitor.specs.Runs.{Call, opens, closes, takes, drops, reads, writes, Memory, number, storeAfter}
 use Rattle.monitor.specs.Places.{isFree, put}
 use Rattle.monitor.specs.Rules.{Session, Sessions, sessionRule, fittingByFile, givesByFile, openRule, closeRule, takeRule, dropRule, partRule, rule, sessionOf, holding, without, next}
-use Rattle.monitor.proofs.Answers.{part-fits}
 use Rattle.monitor.proofs.Frames.{written-in, written-out}
-use Rattle.monitor.proofs.Orderly.{Admitted, Orderly, part-done}
+use Rattle.monitor.proofs.Wrote.{inside}
+use Rattle.monitor.proofs.Orderly.{Orderly, admitted, part-done, both-ways}
 use Rattle.monitor.proofs.Places.{put-at}
 use Rattle.isolation.specs.TwoRuns.{Open, grants, track, under, shared, SameCards}
 use Rattle.isolation.proofs.Levels.{label-of-card, reads-below, writes-above}
-use Rattle.isolation.proofs.Tracking.{labelOf, Fits, label-free, placeOf, next-other, track-other, grants-iff}
+use Rattle.isolation.proofs.Tracking.{labelOf, Fits, free, placeOf, next-other, track-other, grants-iff}
 
 -- ---- numbers
 
@@ -40,7 +39,7 @@ SameSessions f L t s₁ s₂ = (p : ℕ) → under f L (t p) ≡ true → s₁ p
 
 module _ (f : List ℕ) (L : ℕ) (t : Open) (s₁ s₂ : Sessions) (fits₁ : Fits t s₁) (fits₂ : Fits t s₂) (same : SameSessions f L t s₁ s₂) where
   free-same : (p : ℕ) → isFree (s₁ p) ≡ isFree (s₂ p)
-  free-same p = sym (label-free (s₁ p)) ∙ ap isFree (sym (fits₁ p) ∙ fits₂ p) ∙ label-free (s₂ p)
+  free-same p = sym (free t s₁ fits₁ p) ∙ free t s₂ fits₂ p
 
   pub same-number : (size : ℕ) (c : Call) → shared f L t c ≡ true → rule f size s₁ c ≡ rule f size s₂ c
   unfolding rule shared openRule closeRule takeRule dropRule partRule
@@ -56,9 +55,8 @@ module _ (f : List ℕ) (L : ℕ) (t : Open) (s₁ s₂ : Sessions) (fits₁ : F
   -- a change at the call's place
   changed-here : (p n : ℕ) (change : Session → Session) → s₁ p ≡ s₂ p
       → ifDone n (put s₁ p (Option·map change (s₁ p))) s₁ p ≡ ifDone n (put s₂ p (Option·map change (s₂ p))) s₂ p
-  unfolding ifDone
-  changed-here p zero change e = put-at s₁ p _ p refl ∙ ap (Option·map change) e ∙ sym (put-at s₂ p _ p refl)
-  changed-here p (suc n) change e = e
+  changed-here p n change e =
+      both-ways (λ a b. a p ≡ b p) n (put s₁ p _) s₁ (put s₂ p _) s₂ (λ z. put-at s₁ p _ p refl ∙ ap (Option·map change) e ∙ sym (put-at s₂ p _ p refl)) e
 
   here : Orderly f s₁ → (c : Call) → shared f L t c ≡ true → under f L (track f t c (placeOf c)) ≡ true → next f s₁ c (placeOf c) ≡ next f s₂ c (placeOf c)
   unfolding shared track next ifDone rule
@@ -102,23 +100,20 @@ module _ (s t bytes : List ℕ) (at : ℕ) (fits-s : at + length bytes ≤ lengt
 -- the same call with the same number
 pub cards-after : (f : List ℕ) (L : ℕ) (m₁ m₂ : Memory) (c : Call) → number m₁ c ≡ number m₂ c → SameCards f L (m₁ .store) (m₂ .store)
     → SameCards f L (storeAfter m₁ c) (storeAfter m₂ c)
-unfolding number storeAfter ifDone
+unfolding number storeAfter
 cards-after f L m₁ m₂ (opens p u l) e h = h
 cards-after f L m₁ m₂ (closes p) e h = h
 cards-after f L m₁ m₂ (takes p r) e h = h
 cards-after f L m₁ m₂ (drops p r) e h = h
 cards-after f L m₁ m₂ (reads p o k n) e h = h
-cards-after f L m₁ m₂ (writes p o k bytes) e h = rw e (by (writeNumber (m₂ .state) (m₂ .store) p o k bytes) refl)
-  where
-    by : (n : ℕ) → writeNumber (m₂ .state) (m₂ .store) p o k bytes ≡ n
-        → SameCards f L (ifDone n (written (m₁ .store) (partAt o k) bytes) (m₁ .store)) (ifDone n (written (m₂ .store) (partAt o k) bytes) (m₂ .store))
-    by zero z =
-        let x = part-fits writersAt (m₁ .state) (length (m₁ .store)) p o k (length bytes) (e ∙ z) in
-        let y = part-fits writersAt (m₂ .state) (length (m₂ .store)) p o k (length bytes) z in
-        λ d i w u l.
-        written-same (m₁ .store) (m₂ .store) bytes (partAt o k) (omega (arith, x .card, x .inCard, x .inStore)) (omega (arith, y .card, y .inCard, y .inStore))
-        (64 * (d - 1) + i) (h d i w u l)
-    by (suc n) z = h
+cards-after f L m₁ m₂ (writes p o k bytes) e h =
+    let at = partAt o k in
+    rw e
+    (both-ways (SameCards f L) (writeNumber (m₂ .state) (m₂ .store) p o k bytes) (written (m₁ .store) at bytes) (m₁ .store) (written (m₂ .store) at bytes) (m₂ .store)
+    (λ z d i w u l.
+    written-same (m₁ .store) (m₂ .store) bytes at (inside (m₁ .state) (m₁ .store) p o k bytes (e ∙ z)) (inside (m₂ .state) (m₂ .store) p o k bytes z)
+    (64 * (d - 1) + i) (h d i w u l))
+    h)
 
 -- ---- what a read hands back, and what another call writes
 
@@ -135,7 +130,7 @@ bytes-same a b at n fits-a fits-b h = ext-getD 0 (take n (drop at a)) (take n (d
 
 module _ (f : List ℕ) (accepted : Accepted f) (L : ℕ) (label : Among (labels f) L) (t : Open) (s : Sessions) (known : Orderly f s) (fits : Fits t s) where
   -- a use of card o at place p, by a role that fits the session's label there
-  pub record Use (mode p o : ℕ) : Type 0 where
+  record Use (mode p o : ℕ) : Type 0 where
     pub card : Among (cards f) o
     pub level : ℕ
     pub inside : Among (labels f) level
@@ -147,7 +142,7 @@ module _ (f : List ℕ) (accepted : Accepted f) (L : ℕ) (label : Among (labels
   use-of mode size p o k n z =
       let u = part-done f mode s size p o k n z in
       let x = u .session in
-      let adm : Admitted f p x = rw (u .found) at (known p) in
+      let adm = admitted f s known p x (u .found) in
       let (r, w, e) = some-iff (λ r. x .held r && may f mode r o) (roles f) .0 (u .used) in
       let (holds, gives) = and-iff (x .held r) (may f mode r o) .0 e in
       record { card = u .card; level = x .label; inside = adm .label; tracked = fits p ∙ ap labelOf (u .found); role = (r, gives, adm .roles r holds .1) }

@@ -3,22 +3,19 @@ use Prim.Native.Nat.{ℕ, zero, suc}
 use mathlib.Core.Path.{_≡_, refl, sym, ap, _∙_}
 use mathlib.Core.Logic.{_↔_}
 use mathlib.Core.List.{List}
-use mathlib.Core.Bool.{Bool, true, false, _&&_, cond}
+use mathlib.Core.Bool.{true, _&&_, cond}
 use mathlib.Core.Option.{Option, none, some, Option·map}
 use native.Mathlib.Omega.{arith}
-use native.Mathlib.Decide.{ℕ-discrete}
-use borrow.Author.Tests.{eq-eqb, ne-eqb}
 use Rattle.search.specs.Search.{among}
-use Rattle.search.proofs.Truth.{and-iff, among-iff, untrue}
+use Rattle.search.proofs.Truth.{and-iff, among-iff, untrue, either}
 use Rattle.rolefile.specs.Said.{labels, users, clearance}
 use Rattle.policy.specs.Policy.{dominates}
 use Rattle.monitor.specs.Calls.{unless, ifDone}
 use Rattle.monitor.specs.Runs.{Call, opens, closes, takes, drops, reads, writes}
 use Rattle.monitor.specs.Places.{isFree, put}
 use Rattle.monitor.specs.Rules.{Session, Sessions, noSessions, openRule, closeRule, takeRule, dropRule, sessionOf, holding, without, next}
-use Rattle.monitor.proofs.Orderly.{Orderly, opening, either-way}
-use Rattle.monitor.proofs.Places.{put-other}
-use Rattle.monitor.proofs.History.{close-done}
+use Rattle.monitor.proofs.Orderly.{Orderly, opening, session-granted, either-way}
+use Rattle.monitor.proofs.Places.{put-everywhere, put-at, put-other}
 use Rattle.isolation.specs.TwoRuns.{Open, noneOpen, grants, track}
 
 abbrev pub labelOf : Option Session → Option ℕ
@@ -30,9 +27,13 @@ Fits t s = (p : ℕ) → t p ≡ labelOf (s p)
 pub none-fits : Fits noneOpen noSessions
 none-fits p = refl
 
-pub label-free : (o : Option Session) → isFree (labelOf o) ≡ isFree o
+label-free : (o : Option Session) → isFree (labelOf o) ≡ isFree o
 label-free none = refl
 label-free (some s) = refl
+
+-- the tracker has a place free exactly where no session sits
+pub free : (t : Open) (s : Sessions) → Fits t s → (p : ℕ) → isFree (t p) ≡ isFree (s p)
+free t s fits p = ap isFree (fits p) ∙ label-free (s p)
 
 -- the place of a call
 abbrev pub placeOf : Call → ℕ
@@ -59,11 +60,7 @@ next-other f s (writes p o k bytes) q n = refl
 module _ (f : List ℕ) (t : Open) where
   pub track-other : (c : Call) (q : ℕ) → (placeOf c ≡ q → ⊥) → track f t c q ≡ t q
   unfolding track
-  track-other (opens p u l) q n = by (grants f t p u l)
-    where
-      by : (b : Bool) → cond b (put t p (some l)) t q ≡ t q
-      by true = put-other t p (some l) q n
-      by false = refl
+  track-other (opens p u l) q n = either (λ x. x q ≡ t q) (grants f t p u l) (put t p (some l)) t (put-other t p (some l) q n) refl
   track-other (closes p) q n = put-other t p _ q n
   track-other (takes p r) q n = refl
   track-other (drops p r) q n = refl
@@ -73,9 +70,6 @@ module _ (f : List ℕ) (t : Open) where
 -- ---- the tracker goes along with the sessions
 
 module _ (f : List ℕ) (t : Open) (s : Sessions) (known : Orderly f s) (fits : Fits t s) where
-  free : (p : ℕ) → isFree (t p) ≡ isFree (s p)
-  free p = ap isFree (fits p) ∙ label-free (s p)
-
   -- the openings that the tracker grants are those that are done
   pub grants-iff : (p u l : ℕ) → (grants f t p u l ≡ true) ↔ (openRule f s p u l ≡ 0)
   unfolding grants openRule unless
@@ -85,17 +79,15 @@ module _ (f : List ℕ) (t : Open) (s : Sessions) (known : Orderly f s) (fits : 
         let (c, d) = and-iff (isFree (t p)) (among (users f) u && (among (labels f) l && dominates f (clearance f u) l)) .0 b in
         let (e, g) = and-iff (among (users f) u) (among (labels f) l && dominates f (clearance f u) l) .0 d in
         let (i, j) = and-iff (among (labels f) l) (dominates f (clearance f u) l) .0 g in
-        rw (a, sym (free p) ∙ c, e, i, j),
+        rw (a, sym (free t s fits p) ∙ c, e, i, j),
     λ z.
         let o = opening f s p u l z in
-        rw (among-iff 64 p .1 (o .place), free p ∙ o .free, among-iff (users f) u .1 (o .user), among-iff (labels f) l .1 (o .label), o .cleared),
+        rw (among-iff 64 p .1 (o .place), free t s fits p ∙ o .free, among-iff (users f) u .1 (o .user), among-iff (labels f) l .1 (o .label), o .cleared),
   )
 
   put-fits : (p : ℕ) (v : Option Session) → Fits (put t p (labelOf v)) (put s p v)
-  put-fits p v q = elim (ℕ-discrete q p) [
-    | yes e ↦ rw (eq-eqb q p e)
-    | no n ↦ rw (ne-eqb q p n) (fits q)
-  ]
+  put-fits p v =
+      put-everywhere (λ q x. put t p (labelOf v) q ≡ labelOf x) s p v (put-at t p (labelOf v) p refl) (λ q n. put-other t p (labelOf v) q (λ e. n (sym e)) ∙ fits q)
 
   same-label : (change : Session → Session) → ((x : Session) → change x .label ≡ x .label) → (o : Option Session) → labelOf (Option·map change o) ≡ labelOf o
   same-label change h none = refl
@@ -103,18 +95,17 @@ module _ (f : List ℕ) (t : Open) (s : Sessions) (known : Orderly f s) (fits : 
 
   -- a change at a place that leaves its label
   change-fits : (p : ℕ) (change : Session → Session) → ((x : Session) → change x .label ≡ x .label) → Fits t (put s p (Option·map change (s p)))
-  change-fits p change h q = elim (ℕ-discrete q p) [
-    | yes e ↦ rw (eq-eqb q p e) (fits q ∙ ap (λ (i : ℕ). labelOf (s i)) e ∙ sym (same-label change h (s p)))
-    | no n ↦ rw (ne-eqb q p n) (fits q)
-  ]
+  change-fits p change h =
+      put-everywhere (λ q x. t q ≡ labelOf x) s p (Option·map change (s p)) (fits p ∙ sym (same-label change h (s p))) (λ q n. fits q)
 
   -- a closing that is refused is of a place that has no session
   refused-free : (p : ℕ) → (closeRule s p ≡ 0 → ⊥) → s p ≡ none
+  unfolding closeRule
   refused-free p h = by (s p) refl
     where
       by : (o : Option Session) → s p ≡ o → o ≡ none
       by none e = refl
-      by (some x) e = absurd (h (close-done f s known p x e))
+      by (some x) e = absurd (h (session-granted f s known p x e (λ x. 0) refl))
 
   pub fits-track : (c : Call) → Fits (track f t c) (next f s c)
   unfolding track next ifDone
@@ -127,10 +118,7 @@ module _ (f : List ℕ) (t : Open) (s : Sessions) (known : Orderly f s) (fits : 
     where
       by : (n : ℕ) → closeRule s p ≡ n → Fits (put t p none) (ifDone n (put s p none) s)
       by zero e = put-fits p none
-      by (suc n) e = λ q. elim (ℕ-discrete q p) [
-        | yes i ↦ rw (eq-eqb q p i) (ap labelOf (sym (refused-free p (λ z. omega arith)) ∙ ap s (sym i)))
-        | no n ↦ rw (ne-eqb q p n) (fits q)
-      ]
+      by (suc n) e = put-everywhere (λ q x. x ≡ labelOf (s q)) t p none (ap labelOf (sym (refused-free p (λ z. omega arith)))) (λ q n. fits q)
   fits-track (takes p r) =
       either-way (Fits t) (takeRule f s p r) (put s p (Option·map (holding r) (s p))) s (λ z. change-fits p (holding r) (λ x. refl)) fits
   fits-track (drops p r) =

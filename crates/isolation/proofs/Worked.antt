@@ -1,7 +1,7 @@
 -- The two runs of `Worked`, computed: they fall under demand 3 for label 2, which is shown the same in both; label 4 is not. Assumes nothing.
 use Prim.Native.Nat.{ℕ, _+_, _*_, _-_}
 use mathlib.Core.Path.{_≡_, refl, sym, ap, _∙_}
-use mathlib.Core.List.{List, [], map}
+use mathlib.Core.List.{List, map}
 use mathlib.Core.Bool.{false}
 use native.Mathlib.Omega.{arith}
 use native.Mathlib.Decide.{ℕ-discrete}
@@ -25,7 +25,7 @@ use Rattle.monitor.specs.Rules.{noSessions, entitledByFile, fittingByFile, give
 use Rattle.monitor.specs.Cases.{line, bytes}
 use Rattle.monitor.proofs.Demand2.{loaded-runs}
 use Rattle.isolation.specs.TwoRuns.{Answer, noneOpen, grants, track, shared, sharedCalls, shown, SameCards, Start}
-use Rattle.isolation.specs.Worked.{file, firstStore, secondStore, firstRun, secondRun, low, highFirst, highSecond}
+use Rattle.isolation.specs.Worked.{file, firstStore, secondStore, firstRun, secondRun, done, low, highFirst, highSecond}
 use Rattle.isolation.proofs.Begins.{start}
 use Rattle.isolation.proofs.ByFile.{partBy, storeBy, shownBy, shown-by}
 
@@ -100,7 +100,7 @@ pub record Separated (a b : Start file) : Type 0 where
 
 -- the first byte that the seventh call shown handed back
 abbrev seventh : List Answer → ℕ
-seventh xs = getD (getD xs 6 (record { number = 0; bytes = [] }) .bytes) 0 0
+seventh xs = getD (getD xs 6 done .bytes) 0 0
 
 pub separated : (a b : Start file) → Separated a b
 unfolding highFirst highSecond

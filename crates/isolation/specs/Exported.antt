@@ -3,13 +3,9 @@
 use Prim.Native.Nat.{ℕ}
 use mathlib.Core.Path.{_≡_}
 use mathlib.Core.List.{List, [], _∷_}
-use lib.ListN.{length}
-use Rattle.search.specs.Search.{Among}
-use Rattle.rolefile.specs.Said.{labels}
-use Rattle.policy.specs.Accepted.{Accepted}
 use Rattle.monitor.specs.Calls.{Opens, Closes, Takes, Drops, readNumber, readBytes, Writes}
 use Rattle.monitor.specs.Runs.{Call, opens, closes, takes, drops, reads, writes, Memory}
-use Rattle.isolation.specs.TwoRuns.{Answer, Open, noneOpen, track, shared, keep, sharedCalls, Shown, SameCards, Alike, Start}
+use Rattle.isolation.specs.TwoRuns.{Answer, Open, noneOpen, track, shared, keep, Shown, SameCards, Alike, OfTwoRuns}
 
 -- the call c, made on the memory m, answered a and left n
 abbrev pub Made : Memory → Call → Answer → Memory → Type 0
@@ -29,9 +25,6 @@ Makes f L t m (c ∷ cs) xs e =
 
 abbrev pub IsolatedExports : List ℕ → Type 0
 IsolatedExports f =
-    Accepted f → (a b : Start f) (L : ℕ) → Among (labels f) L
-    → (s₁ s₂ : List ℕ) → length s₁ ≡ length s₂ → SameCards f L s₁ s₂
-    → (cs₁ cs₂ : List Call) → sharedCalls f L noneOpen cs₁ ≡ sharedCalls f L noneOpen cs₂
-    → (xs₁ xs₂ : List Shown) (e₁ e₂ : Memory)
-    → Makes f L noneOpen (record { state = a .state; store = s₁ }) cs₁ xs₁ e₁ → Makes f L noneOpen (record { state = b .state; store = s₂ }) cs₂ xs₂ e₂
-    → Alike f L xs₁ xs₂ × SameCards f L (e₁ .store) (e₂ .store)
+    OfTwoRuns f (λ L m₁ m₂ cs₁ cs₂.
+    (xs₁ xs₂ : List Shown) (e₁ e₂ : Memory) → Makes f L noneOpen m₁ cs₁ xs₁ e₁ → Makes f L noneOpen m₂ cs₂ xs₂ e₂
+    → Alike f L xs₁ xs₂ × SameCards f L (e₁ .store) (e₂ .store))

@@ -107,9 +107,13 @@ pub record Claim (f : List ℕ) (L : ℕ) (m₁ m₂ : Memory) (cs₁ cs₂ : Li
   pub answers : Alike f L (shown f L noneOpen m₁ cs₁) (shown f L noneOpen m₂ cs₂)
   pub cards : SameCards f L (run m₁ cs₁ .store) (run m₂ cs₂ .store)
 
-abbrev pub Isolated : List ℕ → Type 0
-Isolated f =
+-- what is claimed of the label, the memories and the calls holds of every two runs of the file that fall under demand 3
+abbrev pub OfTwoRuns : (f : List ℕ) → (ℕ → Memory → Memory → List Call → List Call → Type 0) → Type 0
+OfTwoRuns f Claimed =
     Accepted f → (a b : Start f) (L : ℕ) → Among (labels f) L
     → (s₁ s₂ : List ℕ) → length s₁ ≡ length s₂ → SameCards f L s₁ s₂
     → (cs₁ cs₂ : List Call) → sharedCalls f L noneOpen cs₁ ≡ sharedCalls f L noneOpen cs₂
-    → Claim f L (record { state = a .state; store = s₁ }) (record { state = b .state; store = s₂ }) cs₁ cs₂
+    → Claimed L (record { state = a .state; store = s₁ }) (record { state = b .state; store = s₂ }) cs₁ cs₂
+
+abbrev pub Isolated : List ℕ → Type 0
+Isolated f = OfTwoRuns f (Claim f)

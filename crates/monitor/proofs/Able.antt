@@ -28,7 +28,7 @@ use Rattle.monitor.specs.Runs.{Call, opens, takes, Memory, after, run}
 use Rattle.monitor.specs.Rules.{Session, Sessions, noSessions, entitledByFile, fittingByFile, givesByFile, openRule, takeRule, partRule, rule, sessionOf, holding, next, sessions}
 use Rattle.monitor.specs.Rights.{canNumber, tableOf, roleCould, could, Cans, canRule, couldByFile, useOf, Granting}
 use Rattle.monitor.proofs.Answers.{unless-done}
-use Rattle.monitor.proofs.Orderly.{Orderly, opening, taking, part-done}
+use Rattle.monitor.proofs.Orderly.{Orderly, opening, taking, part-done, both-ways}
 use Rattle.monitor.proofs.Stands.{Stands}
 use Rattle.monitor.proofs.InFile.{test-same, test-passed, sound-file, cleared-file, entitled-file, fitting-file}
 use Rattle.monitor.proofs.Places.{put-at}
@@ -141,7 +141,7 @@ module _ (f : List ℕ) (size p u l : ℕ) (place : Among 64 p) (enough : 64 * c
       (r, w, and-iff (holding r (sessionOf u l) .held r) (may f m r o) .1 (or-iff false (eqb r r) .1 (inr (eq-eqb r r refl)), h))
 
   -- the three calls let through, by the rules
-  pub record Let (o m r : ℕ) : Type 0 where
+  record Let (o m r : ℕ) : Type 0 where
     pub opened : openRule f noSessions p u l ≡ 0
     pub taken : takeRule f one p r ≡ 0
     pub used : partRule f m (two r) size p o 0 0 ≡ 0
@@ -234,10 +234,15 @@ module _ (f : List ℕ) (accepted : Accepted f) (xs ys : List ℕ) (v : Verdict)
   end = run (record { state = ys; store = store }) cs .state
 
   pub can-file : (u l o m n figure : ℕ) → Cans end u l o m n figure → (n ≡ canRule f u l o m) × (figure ≡ ifDone n (cond (couldByFile f u l o m) 1 0) 0)
-  unfolding ifDone
   can-file u l o m n figure h =
-      let e = h .number ∙ number-by f good t (ran .known) end (ran .stands) u l o m in
-      (e, h .answer ∙ rw (← (h .number)) (by n e))
+      let e = h .number ∙ number-by f good t (ran .known) end (ran .stands) u l o m in (
+        e,
+        h .answer
+            ∙ rw (← (h .number))
+            (both-ways (λ x y. x ≡ y) n _ 0 _ 0
+            (λ z. let a = can-done f u l o m (sym e ∙ z) in rw (could-by f good t (ran .known) end (ran .stands) u l o m (a .user) (a .label) (a .card) (a .mode)))
+            refl),
+      )
     where
       good : WellFormed f
       good = accepted .ordered .form
@@ -247,9 +252,3 @@ module _ (f : List ℕ) (accepted : Accepted f) (xs ys : List ℕ) (v : Verdict)
 
       ran : Runs f (sessions f noSessions cs) (length store) (run (record { state = ys; store = store }) cs)
       ran = left-runs f accepted xs ys v long load store cs
-
-      by : (n : ℕ) → n ≡ canRule f u l o m → _≡_ {A = ℕ} (ifDone n (cond (could end u l o (tableOf m)) 1 0) 0) (ifDone n (cond (couldByFile f u l o m) 1 0) 0)
-      by zero e =
-          let a = can-done f u l o m (sym e) in
-          ap (λ (b : Bool). cond {A = ℕ} b 1 0) (could-by f good t (ran .known) end (ran .stands) u l o m (a .user) (a .label) (a .card) (a .mode))
-      by (suc n) e = refl

@@ -4,14 +4,14 @@ use mathlib.Core.Path.{_≡_, refl, sym, _∙_}
 use mathlib.Core.List.{List}
 use mathlib.Core.Bool.{Bool, true, false, not}
 use native.Mathlib.Omega.{arith}
-use borrow.Author.Tests.{leb-true, le-leb}
+use borrow.Author.Tests.{leb-true}
+use lib.Dec.{eqb}
 use lib.ListN.{length}
 use Rattle.search.specs.Search.{among, Among}
-use Rattle.search.proofs.Truth.{and-iff, among-iff, passed, failed, one-of}
-use Rattle.policy.specs.Tables.{isState}
+use Rattle.search.proofs.Truth.{and-iff, among-iff, passed, failed, one-of, either}
 use Rattle.monitor.specs.Session.{sound, labelsIn, rolesIn, usersIn, cardsIn, inUse}
-use Rattle.monitor.specs.Rights.{canNumber}
-use Rattle.monitor.specs.Calls.{unless, ifDone, atSession, openNumber, closeNumber, takeNumber, dropNumber, partNumber, flowsNumber, circleNumber}
+use Rattle.monitor.specs.Rights.{canNumber, tableOf}
+use Rattle.monitor.specs.Calls.{unless, ifDone, atSession, openNumber, closeNumber, takeNumber, dropNumber, partNumber}
 
 -- ---- a row of tests whose answers r are those of calls: a call's `ensures` is r ≡ t
 module _ (t : Bool) (n rest : ℕ) {r : Bool} (e : r ≡ t) where
@@ -104,12 +104,12 @@ open-room xs p u l h =
     (record { long = s .long; place = among-iff 64 p .0 (b .0) }, omega arith, omega arith)
 
 -- a call at a session: what it asks first has passed, and so has the rest
-pub record AtSession (xs : List ℕ) (p rest : ℕ) : Type 0 where
+record AtSession (xs : List ℕ) (p rest : ℕ) : Type 0 where
   pub sound : Sound xs
   pub place : Among 64 p
   pub done : rest ≡ 0
 
-pub at-session-done : (xs : List ℕ) (p rest : ℕ) → atSession xs p rest ≡ 0 → AtSession xs p rest
+at-session-done : (xs : List ℕ) (p rest : ℕ) → atSession xs p rest ≡ 0 → AtSession xs p rest
 at-session-done xs p rest h =
     let a = unless-done (sound xs) 21 _ (omega arith) h in
     let b = unless-done (among 64 p) 22 _ (omega arith) (a .1) in
@@ -195,12 +195,12 @@ part-fits at xs size p o k n h =
     record { card = omega arith; inCard = leb-true (k + n) 64 (c .0); inStore = omega arith }
 
 -- what a question that is done tells of the state and of its numbers
-pub record Asked (xs : List ℕ) (u l o m : ℕ) : Type 0 where
+pub record Asked (xs : List ℕ) (u o : ℕ) : Type 0 where
   pub sound : Sound xs
   pub user : Among 256 u
   pub card : Among 512 o
 
-pub can-room : (xs : List ℕ) (u l o m : ℕ) → canNumber xs u l o m ≡ 0 → Asked xs u l o m
+pub can-room : (xs : List ℕ) (u l o m : ℕ) → canNumber xs u l o m ≡ 0 → Asked xs u o
 unfolding canNumber
 can-room xs u l o m h =
     let a = unless-done _ _ _ (omega arith) h in
@@ -211,3 +211,7 @@ can-room xs u l o m h =
     let v = among-iff (usersIn xs) u .0 (b .0) in
     let w = among-iff (cardsIn xs) o .0 (d .0) in
     record { sound = s; user = omega (arith, s .users); card = omega (arith, s .cards) }
+
+-- no mode's table starts later than the writers'
+pub table-low : (m : ℕ) → tableOf m ≤ 20496
+table-low m = either (λ at. at ≤ 20496) (eqb m 1) _ _ (omega arith) (omega arith)

@@ -1,19 +1,19 @@
 -- Demand 2's session half: on every state that a load of an accepted file and any calls left, each call is answered as the file and the calls so far say. Each call keeps
 -- the state standing for the sessions, and a load's image stands for none. Assumes nothing.
-use Prim.Native.Nat.{ℕ, zero, suc, _≤_}
+use Prim.Native.Nat.{ℕ, _≤_}
 use mathlib.Core.Path.{_≡_, refl, sym, ap, _∙_}
 use mathlib.Core.List.{List, [], _∷_}
-use mathlib.Core.Bool.{Bool, true, false, cond}
+use mathlib.Core.Bool.{Bool, cond}
 use mathlib.Core.Option.{Option, none, some, Option·map}
 use native.Mathlib.Omega.{arith}
 use lib.ListN.{length}
 use borrow.Author.Tests.{le-leb}
 use Rattle.search.specs.Search.{among, Among}
-use Rattle.search.proofs.Truth.{among-iff}
+use Rattle.search.proofs.Truth.{among-iff, either}
 use Rattle.rolefile.specs.declared.Verdict.{Verdict}
 use Rattle.rolefile.specs.Said.{roles}
 use Rattle.rolefile.specs.WellFormed.{WellFormed}
-use Rattle.policy.specs.Tables.{readersAt, writersAt, stateSize, flowsIn}
+use Rattle.policy.specs.Tables.{readersAt, writersAt, stateSize}
 use Rattle.policy.specs.Accepted.{Accepted}
 use Rattle.policy.specs.Flow.{flows, flowCircle}
 use Rattle.policy.specs.Image.{loadVerdict, Loaded}
@@ -24,17 +24,12 @@ use Rattle.monitor.specs.Calls.{flowsNumber, circleNumber, Flows, Circle
 use Rattle.monitor.specs.Runs.{Call, opens, closes, takes, drops, reads, writes, Memory, number, stateAfter, storeAfter, after, run}
 use Rattle.monitor.specs.Places.{put}
 use Rattle.monitor.specs.Rules.{Session, Sessions, noSessions, sessionRule, atSessionByFile, openRule, closeRule, takeRule, dropRule, partRule, rule, sessionOf, holding, without, next, sessions}
-use Rattle.monitor.proofs.Answers.{part-fits, unless-done}
+use Rattle.monitor.proofs.Answers.{unless-done}
 use Rattle.monitor.proofs.Frames.{length-written}
-use Rattle.monitor.proofs.Orderly.{Orderly, no-sessions-orderly, opening, session-done, taking, either-way, orderly-next, dropping}
+use Rattle.monitor.proofs.Wrote.{inside}
+use Rattle.monitor.proofs.Orderly.{Orderly, no-sessions-orderly, opening, session-done, taking, both-ways, either-way, orderly-next, dropping}
 use Rattle.monitor.proofs.Stands.{SessionAt, Stands, image-stands, stands-put, opened-touched, opened-place, closed-touched, closed-place, taken-touched, taken-place, dropped-touched, dropped-place}
 use Rattle.monitor.proofs.InFile.{test-passed, sound-file, open-file, close-file, take-file, drop-file, part-file}
-
--- two outcomes of one number
-both-ways : {A B : Type 0} (P : A → B → Type 0) (n : ℕ) (a c : A) (b d : B) → (n ≡ 0 → P a b) → P c d → P (ifDone n a c) (ifDone n b d)
-unfolding ifDone
-both-ways P zero a c b d h k = h refl
-both-ways P (suc n) a c b d h k = k
 
 -- a write keeps the store's length
 pub store-length : (m : Memory) (c : Call) → length (storeAfter m c) ≡ length (m .store)
@@ -46,16 +41,13 @@ store-length m (drops p r) = refl
 store-length m (reads p o k n) = refl
 store-length m (writes p o k bytes) =
     either-way (λ st. length st ≡ length (m .store)) (writeNumber (m .state) (m .store) p o k bytes) (written (m .store) (partAt o k) bytes) (m .store)
-    (λ h.
-    let fit = part-fits writersAt (m .state) (length (m .store)) p o k (length bytes) h in
-    length-written (m .store) (partAt o k) bytes (omega (arith, fit .card, fit .inCard, fit .inStore)))
-    refl
+    (λ h. length-written (m .store) (partAt o k) bytes (inside (m .state) (m .store) p o k bytes h)) refl
 
 module _ (f : List ℕ) (form : WellFormed f) (t : Sessions) (known : Orderly f t) (m : Memory) (stands : Stands f t (m .state)) where
   abbrev xs : List ℕ
   xs = m .state
 
-  pub number-file : (c : Call) → number m c ≡ rule f (length (m .store)) t c
+  number-file : (c : Call) → number m c ≡ rule f (length (m .store)) t c
   unfolding number rule
   number-file (opens p u l) = open-file f form t known xs stands p u l
   number-file (closes p) = close-file f form t known xs stands p
@@ -69,7 +61,7 @@ module _ (f : List ℕ) (form : WellFormed f) (t : Sessions) (known : Orderly f 
   session-there : (p : ℕ) (s : Session) → Among 64 p → t p ≡ some s → SessionAt xs p s
   session-there p s w e = rw e at (stands .places p w)
 
-  pub stands-after : (c : Call) → Stands f (next f t c) (stateAfter m c)
+  stands-after : (c : Call) → Stands f (next f t c) (stateAfter m c)
   unfolding stateAfter next closeRule takeRule dropRule
   stands-after (opens p u l) =
       rw (open-file f form t known xs stands p u l)
@@ -134,14 +126,9 @@ runs-after f form (c ∷ cs) t size m r = runs-after f form cs (next f t c) size
 
 -- ---- 21 is none of the rules' numbers
 
-module _ (b : Bool) (n rest : ℕ) where
-  other-than-21 : (n ≡ 21 → ⊥) → (rest ≡ 21 → ⊥) → unless b n rest ≡ 21 → ⊥
-  unfolding unless
-  other-than-21 h k = by b
-    where
-      by : (b : Bool) → cond b rest n ≡ 21 → ⊥
-      by true = k
-      by false = h
+other-than-21 : (b : Bool) (n rest : ℕ) → (n ≡ 21 → ⊥) → (rest ≡ 21 → ⊥) → unless b n rest ≡ 21 → ⊥
+unfolding unless
+other-than-21 b n rest h k = either (λ x. x ≡ 21 → ⊥) b rest n k h
 
 session-not-21 : (t : Sessions) (p : ℕ) (rule : Session → ℕ) → ((s : Session) → rule s ≡ 21 → ⊥) → atSessionByFile t p rule ≡ 21 → ⊥
 session-not-21 t p rule h = other-than-21 (among 64 p) 22 (sessionRule (t p) rule) (λ e. omega arith) (by (t p))
@@ -156,7 +143,7 @@ part-not-21 f m size t p o k n =
     session-not-21 t p _ (λ s. other-than-21 _ 25 _ (λ e. omega arith)
     (other-than-21 _ 29 _ (λ e. omega arith) (other-than-21 _ 30 _ (λ e. omega arith) (other-than-21 _ 31 _ (λ e. omega arith) (λ e. omega arith)))))
 
-pub rule-not-21 : (f : List ℕ) (size : ℕ) (t : Sessions) (c : Call) → rule f size t c ≡ 21 → ⊥
+rule-not-21 : (f : List ℕ) (size : ℕ) (t : Sessions) (c : Call) → rule f size t c ≡ 21 → ⊥
 unfolding rule openRule closeRule takeRule dropRule partRule
 rule-not-21 f size t (opens p u l) =
     other-than-21 _ 22 _ (λ e. omega arith) (other-than-21 _ 23 _ (λ e. omega arith) (other-than-21 _ 25 _ (λ e. omega arith)
@@ -222,24 +209,25 @@ module _ (f : List ℕ) (accepted : Accepted f) (xs ys : List ℕ) (v : Verdict)
     -- the flow report
     pub flows-answers : (q r n figure : ℕ) → Flows (left .state) q r n figure
         → (n ≡ unless (among (roles f) q) 25 (unless (among (roles f) r) 25 0)) × (figure ≡ ifDone n (cond (flows f q r) 1 0) 0)
-    unfolding flowsNumber ifDone
+    unfolding flowsNumber
     flows-answers q r n figure h =
         let w = left-runs in
         let tables = w .stands .tables in
         let e : n ≡ unless (among (roles f) q) 25 (unless (among (roles f) r) 25 0) =
-        h .number ∙ test-passed 21 (sound-file f form (sessions f noSessions cs) (w .known) (left .state) (w .stands)) ∙ rw (tables .counted .roles) in
-        (e, h .answer ∙ rw (← (h .number)) (by n e))
-      where
-        by : (n : ℕ) → n ≡ unless (among (roles f) q) 25 (unless (among (roles f) r) 25 0)
-            → _≡_ {A = ℕ} (ifDone n (cond (flowsIn (left .state) q r) 1 0) 0) (ifDone n (cond (flows f q r) 1 0) 0)
-        by zero e =
-            let (v, rest) = unless-done (among (roles f) q) 25 _ (omega arith) (sym e) in
-            let (w, end) = unless-done (among (roles f) r) 25 0 (omega arith) rest in
-            let i = among-iff (roles f) q .0 v in
-            let j = among-iff (roles f) r .0 w in
-            let few = counts-known f form .roles in
-            ap (λ (b : Bool). cond {A = ℕ} b 1 0) (flow-file f form (left .state) (left-runs .stands .tables) (left-runs .stands .long) q r (omega arith) (omega arith))
-        by (suc n) e = refl
+        h .number ∙ test-passed 21 (sound-file f form (sessions f noSessions cs) (w .known) (left .state) (w .stands)) ∙ rw (tables .counted .roles) in (
+          e,
+          h .answer
+              ∙ rw (← (h .number))
+              (both-ways (λ x y. x ≡ y) n _ 0 _ 0
+              (λ z.
+              let (u, rest) = unless-done (among (roles f) q) 25 _ (omega arith) (sym e ∙ z) in
+              let (v, end) = unless-done (among (roles f) r) 25 0 (omega arith) rest in
+              let i = among-iff (roles f) q .0 u in
+              let j = among-iff (roles f) r .0 v in
+              let few = counts-known f form .roles in
+              rw (flow-file f form (left .state) tables (w .stands .long) q r (omega arith) (omega arith)))
+              refl),
+        )
 
     pub circle-answers : (n figure : ℕ) → Circles (left .state) n figure → (n ≡ 0) × (figure ≡ flowCircle f)
     unfolding circleNumber ifDone

@@ -3,12 +3,11 @@ use Prim.Native.Nat.{ℕ, _+_, _*_, _≤_}
 use mathlib.Core.Path.{_≡_, refl, sym, _∙_}
 use mathlib.Core.Logic.{_↔_}
 use mathlib.Core.List.{List}
-use mathlib.Core.Bool.{Bool, true, false, _&&_, false≢true}
+use mathlib.Core.Bool.{Bool, true, _&&_, false≢true}
 use mathlib.Core.Option.{Option, none, some}
-use lib.Dec.{leb}
 use lib.ListN.{length}
 use borrow.Author.Tests.{le-leb}
-use Rattle.search.specs.Search.{among, Among}
+use Rattle.search.specs.Search.{Among}
 use Rattle.search.proofs.Truth.{and-iff, among-iff}
 use Rattle.search.proofs.Found.{some-iff}
 use Rattle.order.specs.Closure.{PartialOrder}
@@ -16,17 +15,27 @@ use Rattle.order.specs.Bound.{converse}
 use Rattle.rolefile.specs.declared.Verdict.{Verdict}
 use Rattle.rolefile.specs.Said.{labels, roles, users, cards, assigned}
 use Rattle.policy.specs.Policy.{dominates, senior, may, mayAt, rLevel, wLevel, passes}
-use Rattle.policy.specs.Accepted.{ReadsUnder, WritesOver, Accepted, Passing}
+use Rattle.policy.specs.Accepted.{ReadsUnder, WritesOver, Accepted}
 use Rattle.policy.specs.Image.{Loaded}
 use Rattle.policy.proofs.Levels.{converse-order, passes-iff}
 use Rattle.monitor.specs.Calls.{unless}
 use Rattle.monitor.specs.Runs.{Call, opens, closes, takes, drops, reads, writes, number, run}
 use Rattle.monitor.specs.Places.{isFree}
-use Rattle.monitor.specs.Rules.{Session, Sessions, noSessions, atSessionByFile, entitledByFile, fittingByFile, givesByFile, openRule, closeRule, takeRule, dropRule, partRule, rule, sessions}
+use Rattle.monitor.specs.Rules.{Session, Sessions, noSessions, entitledByFile, fittingByFile, givesByFile, openRule, closeRule, takeRule, dropRule, partRule, rule, sessions}
 use Rattle.monitor.specs.Granted.{OpenFor, Holds, MayOpen, OpenPlace, MayTake, MayDrop, MayUse, Granted}
-use Rattle.monitor.proofs.Orderly.{Admitted, Orderly, no-sessions-orderly, opening, session-done, taking, dropping, part-done}
+use Rattle.monitor.proofs.Orderly.{Orderly, no-sessions-orderly, opening, session-done, admitted, session-granted, taking, dropping, part-done}
 use Rattle.monitor.proofs.History.{orderly-sessions, session-with, Opened, open-for-iff, holds-iff}
 use Rattle.monitor.proofs.Demand2.{answers}
+
+-- a role fits a label exactly where it reads under the label and writes over it
+pub fitting-by-file-iff : (f : List ℕ) → PartialOrder (labels f) (dominates f) → (l r : ℕ) → (fittingByFile f l r ≡ true) ↔ (ReadsUnder f l r × WritesOver f l r)
+unfolding fittingByFile rLevel wLevel
+fitting-by-file-iff f order l r =
+    let reads = passes-iff (labels f) (dominates f) (mayAt f 1 r) order (dominates f l) in
+    let writes = passes-iff (labels f) (converse (dominates f)) (mayAt f 2 r) (converse-order order) (λ a. dominates f a l) in
+    let one = passes (dominates f l) (rLevel f r) in
+    let two = passes (λ a. dominates f a l) (wLevel f r) in
+    (λ h. let (a, b) = and-iff one two .0 h in (reads .0 a, writes .0 b), λ (a, b). and-iff one two .1 (reads .1 a, writes .1 b))
 
 module _ (f : List ℕ) (cs : List Call) where
   abbrev now : Sessions
@@ -42,11 +51,6 @@ module _ (f : List ℕ) (cs : List Call) where
 
   session-of : (p : ℕ) (h : OpenPlace f cs p) → (s : Session) × (now p ≡ some s) × ((s .user ≡ h .user) × (s .label ≡ h .label))
   session-of p h = session-with (Opened f cs p (h .user) (h .label)) (now p) (open-for-iff f cs p (h .user) (h .label) .1 (h .since))
-
-  -- the rule of a call at a place, done
-  session-granted : (p : ℕ) (s : Session) (rule : Session → ℕ) → now p ≡ some s → rule s ≡ 0 → atSessionByFile now p rule ≡ 0
-  unfolding unless
-  session-granted p s rule e h = let a : Admitted f p s = rw e at (known p) in rw (among-iff 64 p .1 (a .place), e) h
 
   -- ---- open
 
@@ -80,7 +84,7 @@ module _ (f : List ℕ) (cs : List Call) where
   unfolding closeRule
   close-iff p = (
     λ h. let a = session-done now p (λ s. 0) h in there p (a .session) (a .found),
-    λ g. let (s, e, k) = session-of p g in session-granted p s (λ s. 0) e refl,
+    λ g. let (s, e, k) = session-of p g in session-granted f now known p s e (λ s. 0) refl,
   )
 
   -- ---- take and drop
@@ -93,7 +97,7 @@ module _ (f : List ℕ) (cs : List Call) where
         record { session = there p (a .session) (a .found); role = dropping f r (a .done) },
     λ g.
         let (s, e, k) = session-of p (g .session) in
-        session-granted p s (λ s. unless (among (roles f) r) 25 0) e (rw (among-iff (roles f) r .1 (g .role))),
+        session-granted f now known p s e _ (rw (among-iff (roles f) r .1 (g .role))),
   )
 
   entitled-by-file-iff : (u r : ℕ) → (entitledByFile f u r ≡ true) ↔ ((q : ℕ) × Among (roles f) q × (assigned f u q ≡ true) × (senior f q r ≡ true))
@@ -106,35 +110,21 @@ module _ (f : List ℕ) (cs : List Call) where
       test : ℕ → Bool
       test q = assigned f u q && senior f q r
 
-  module _ (order : PartialOrder (labels f) (dominates f)) where
-    fitting-by-file-iff : (l r : ℕ) → (fittingByFile f l r ≡ true)
-        ↔ (ReadsUnder f l r × WritesOver f l r)
-    unfolding fittingByFile rLevel wLevel
-    fitting-by-file-iff l r =
-        let reads = passes-iff (labels f) (dominates f) (mayAt f 1 r) order (dominates f l) in
-        let writes = passes-iff (labels f) (converse (dominates f)) (mayAt f 2 r) (converse-order order) (λ a. dominates f a l) in
-        let one = passes (dominates f l) (rLevel f r) in
-        let two = passes (λ a. dominates f a l) (wLevel f r) in
-        (λ h. let (a, b) = and-iff one two .0 h in (reads .0 a, writes .0 b), λ (a, b). and-iff one two .1 (reads .1 a, writes .1 b))
-
-    take-iff : (p r : ℕ) → (takeRule f now p r ≡ 0) ↔ MayTake f cs p r
-    unfolding takeRule unless
-    take-iff p r = (
-      λ h.
-          let a = session-done now p rest h in
-          let s = a .session in
-          let (w, b, c) = taking f r s (a .done) in
-          let (i, j) = fitting-by-file-iff (s .label) r .0 c in
-          record { session = there p s (a .found); role = w; member = entitled-by-file-iff (s .user) r .0 b; reads = i; writes = j },
-      λ g.
-          let (s, e, (u, l)) = session-of p (g .session) in
-          let b = entitled-by-file-iff (g .session .user) r .1 (g .member) in
-          let c = fitting-by-file-iff (g .session .label) r .1 (g .reads, g .writes) in
-          session-granted p s rest e (rw (among-iff (roles f) r .1 (g .role), u, l, b, c)),
-    )
-      where
-        rest : Session → ℕ
-        rest s = unless (among (roles f) r) 25 (unless (entitledByFile f (s .user) r) 27 (unless (fittingByFile f (s .label) r) 28 0))
+  take-iff : PartialOrder (labels f) (dominates f) → (p r : ℕ) → (takeRule f now p r ≡ 0) ↔ MayTake f cs p r
+  unfolding takeRule unless
+  take-iff order p r = (
+    λ h.
+        let a = session-done now p _ h in
+        let s = a .session in
+        let (w, b, c) = taking f r s (a .done) in
+        let (i, j) = fitting-by-file-iff f order (s .label) r .0 c in
+        record { session = there p s (a .found); role = w; member = entitled-by-file-iff (s .user) r .0 b; reads = i; writes = j },
+    λ g.
+        let (s, e, (u, l)) = session-of p (g .session) in
+        let b = entitled-by-file-iff (g .session .user) r .1 (g .member) in
+        let c = fitting-by-file-iff f order (g .session .label) r .1 (g .reads, g .writes) in
+        session-granted f now known p s e _ (rw (among-iff (roles f) r .1 (g .role), u, l, b, c)),
+  )
 
   -- ---- read and write
 
@@ -147,8 +137,7 @@ module _ (f : List ℕ) (cs : List Call) where
         (r, holds-iff f cs p r .0 (rw e a), b),
     λ (r, k, b).
         let a : s .held r ≡ true = rw e at (holds-iff f cs p r .1 k) in
-        let adm : Admitted f p s = rw e at (known p) in
-        some-iff test (roles f) .1 (r, adm .roles r a .0, and-iff (s .held r) (may f m r o) .1 (a, b)),
+        some-iff test (roles f) .1 (r, admitted f now known p s e .roles r a .0, and-iff (s .held r) (may f m r o) .1 (a, b)),
   )
     where
       test : ℕ → Bool
@@ -168,7 +157,7 @@ module _ (f : List ℕ) (cs : List Call) where
         },
     λ g.
         let (s, e, same) = session-of p (g .session) in
-        session-granted p s rest e
+        session-granted f now known p s e _
         (rw (
           among-iff (cards f) o .1 (g .card),
           gives-by-file-iff m p o s e .1 (g .role),
@@ -176,9 +165,6 @@ module _ (f : List ℕ) (cs : List Call) where
           le-leb (64 * cards f) size (g .inStore),
         )),
   )
-    where
-      rest : Session → ℕ
-      rest s = unless (among (cards f) o) 25 (unless (givesByFile f m s o) 29 (unless (leb (k + n) 64) 30 (unless (leb (64 * cards f) size) 31 0)))
 
 -- ---- demand 2
 

@@ -19,11 +19,11 @@ use Rattle.monitor.specs.Places.{isFree, put}
 use Rattle.monitor.specs.Rules.{Session, Sessions, noSessions, openRule, closeRule, takeRule, dropRule, rule, sessionOf, holding, without, next, sessions}
 use Rattle.monitor.specs.Granted.{ends, NoneEnds, Since, OpenFor, Holds}
 use Rattle.monitor.proofs.Places.{put-at, put-other}
-use Rattle.monitor.proofs.Orderly.{Admitted, Orderly, no-sessions-orderly, opening, session-done, either-way, orderly-next}
+use Rattle.monitor.proofs.Orderly.{Admitted, Orderly, no-sessions-orderly, opening, session-done, admitted, session-granted, either-way, orderly-next}
 
 -- ---- lists of calls
 
-pub sessions-append : (f : List ℕ) (ds cs : List Call) (t : Sessions) → sessions f t (ds ++ cs) ≡ sessions f (sessions f t ds) cs
+sessions-append : (f : List ℕ) (ds cs : List Call) (t : Sessions) → sessions f t (ds ++ cs) ≡ sessions f (sessions f t ds) cs
 unfolding sessions
 sessions-append f [] cs t = refl
 sessions-append f (c ∷ ds) cs t = sessions-append f ds cs (next f t c)
@@ -50,21 +50,8 @@ unfolding ifDone
 which-way P zero new old h = inl (refl, h)
 which-way P (suc n) new old h = inr (λ e. omega arith, h)
 
--- a closing of a place that has a session is done, and so is a dropping of a role of the file
-module _ (f : List ℕ) (t : Sessions) (known : Orderly f t) (p : ℕ) (s : Session) (found : t p ≡ some s) where
-  admitted : Admitted f p s
-  admitted = rw found at (known p)
-
-  pub close-done : closeRule t p ≡ 0
-  unfolding closeRule unless
-  close-done = rw (among-iff 64 p .1 (admitted .place), found)
-
-  drop-done : (r : ℕ) → Among (roles f) r → dropRule f t p r ≡ 0
-  unfolding dropRule unless
-  drop-done r w = rw (among-iff 64 p .1 (admitted .place), found, among-iff (roles f) r .1 w)
-
 -- ---- what begins with a call at place p and ends with a closing, or with a dropping of a role of the set
-pub record Kind (p : ℕ) (set : ℕ → Bool) (call : Call) (Good : Session → Type 0) : Type 0 where
+record Kind (p : ℕ) (set : ℕ → Bool) (call : Call) (Good : Session → Type 0) : Type 0 where
   pub opened : (u l : ℕ) → Good (sessionOf u l) → opens p u l ≡ call
   pub taken : (r : ℕ) (s : Session) → Good (holding r s) → Good s ⊎ (takes p r ≡ call)
   pub keeps : (r : ℕ) (s : Session) → Good s → Good (holding r s)
@@ -131,7 +118,7 @@ module _ (f : List ℕ) (p : ℕ) (set : ℕ → Bool) (call : Call) (Good : Ses
   back-dropped r (some s) h = kind .dropped r s h
 
   back-next : (c : Call) → So (next f t c) → Came c
-  unfolding next rule
+  unfolding next rule closeRule dropRule unless
   back-next (opens q u l) h =
       ⊎-elim
       (λ (z, g). elim (ℕ-discrete q p) [
@@ -148,7 +135,7 @@ module _ (f : List ℕ) (p : ℕ) (set : ℕ → Bool) (call : Call) (Good : Ses
       ])
       (λ (z, g).
       let (s, found, good) = session-with Good (t p) g in
-      inl (g, ne-eqb q p (λ i. z (rw i (close-done f t known p s found)))))
+      inl (g, ne-eqb q p (λ i. z (rw i (session-granted f t known p s found (λ s. 0) refl)))))
       (which-way So (closeRule t q) (put t q none) t h)
   back-next (takes q r) h =
       ⊎-elim
@@ -174,7 +161,7 @@ module _ (f : List ℕ) (p : ℕ) (set : ℕ → Bool) (call : Call) (Good : Ses
         g,
         untrue (eqb q p && set r) (λ e.
             let (i, j) = and-iff (eqb q p) (set r) .0 e in
-            z (rw (eqb-true q p i) (drop-done f t known p s found r (kind .role f s (rw found at (known p)) good r j)))),
+            z (rw (eqb-true q p i) (session-granted f t known p s found _ (rw (among-iff (roles f) r .1 (kind .role f s (admitted f t known p s found) good r j)))))),
       ))
       (which-way So (dropRule f t q r) (put t q (Option·map (without r) (t q))) t h)
   back-next (reads q o k n) h = inl (h, refl)
@@ -203,7 +190,7 @@ module _ (f : List ℕ) (p : ℕ) (set : ℕ → Bool) (call : Call) (Good : Ses
       inr (record { earlier = c ∷ s .earlier; later = s .later; split = ap (λ (ds : List Call). c ∷ ds) (s .split); done = s .done; lasts = s .lasts }))
       (came cs (next f t c) (orderly-next f t k c) h)
 
-  pub since-iff : (cs : List Call) → SessionWith Good (sessions f noSessions cs p) ↔ Since f noSessions p set call cs
+  since-iff : (cs : List Call) → SessionWith Good (sessions f noSessions cs p) ↔ Since f noSessions p set call cs
   unfolding sessions
   since-iff cs = (
     λ h. ⊎-elim (λ (so, lasting). absurd so) (λ s. s) (came cs noSessions (no-sessions-orderly f) h),

@@ -5,19 +5,20 @@ use mathlib.Core.Logic.{inl, inr}
 use mathlib.Core.List.{List}
 use mathlib.Core.Bool.{Bool, true, false, not, _&&_, and-false}
 use mathlib.Core.Option.{Option, none, some}
+use native.Mathlib.Nat.{zero-add}
 use native.Mathlib.Omega.{arith}
 use lib.Dec.{leb, eqb}
 use lib.ListN.{length, getD}
 use borrow.Author.Tests.{le-leb}
 use Rattle.search.specs.Search as search
 use Rattle.search.specs.Search.{among, Among}
-use Rattle.search.proofs.Truth.{and-iff, among-iff, same}
-use Rattle.search.proofs.Found.{some-iff, some-of}
+use Rattle.search.proofs.Truth.{and-iff, among-iff}
 use Rattle.roleset.specs.Row.{member, common}
 use Rattle.roleset.proofs.Rows.{whole-true}
 use Rattle.order.specs.Bound.{converse}
 use Rattle.rolefile.specs.Said.{labels, roles, users, cards, clearance, assigned}
 use Rattle.rolefile.specs.WellFormed.{WellFormed}
+use Rattle.rolefile.proofs.Within.{some-within}
 use Rattle.policy.specs.Policy.{dominates, senior, may, mayAt, rLevel, wLevel}
 use Rattle.policy.specs.Tables.{stateSize, rowOf, marked, seniorsAt, assignedAt}
 use Rattle.policy.proofs.Assigning.{passes-number}
@@ -41,6 +42,11 @@ test-same b false n e h = rw e
 pub test-passed : {b : Bool} (n : ℕ) {x : ℕ} → b ≡ true → unless b n x ≡ x
 unfolding unless
 test-passed n e = rw e
+
+-- a search among 128 that finds only among the first n is a search among n
+pub some-first : (n : ℕ) → n ≤ 128 → (q p : ℕ → Bool) → ((r : ℕ) → Among 128 r → q r ≡ true → Among n r) → ((r : ℕ) → Among n r → q r ≡ p r)
+    → search.some 128 q ≡ search.some n p
+some-first n few q p only agree = some-within 128 0 n (omega arith) q p (λ r w e. let k = only r w e in omega arith) (λ r w. rw zero-add (agree r w))
 
 module _ (f : List ℕ) (form : WellFormed f) (t : Sessions) (known : Orderly f t) (xs : List ℕ) (stands : Stands f t xs) where
   -- ---- the tests
@@ -93,12 +99,7 @@ module _ (f : List ℕ) (form : WellFormed f) (t : Sessions) (known : Orderly f 
   unfolding common
   common-file a b n g i j few agree inside =
       rw (whole-true xs a i, whole-true xs b j)
-      (same (search.some 128 both) (search.some n g)
-      (λ h. let (r, w, e) = some-iff both 128 .0 h in let k = sym (agree r w) ∙ e in some-of g n r (inside r k) k)
-      (λ h. let (r, w, e) = some-iff g n .0 h in let v : Among 128 r = omega arith in some-of both 128 r v (agree r v ∙ e)))
-    where
-      both : ℕ → Bool
-      both r = member xs a r && member xs b r
+      (some-first n few (λ r. member xs a r && member xs b r) g (λ r w e. inside r (sym (agree r w) ∙ e)) (λ r w. agree r (omega arith)))
 
   pub entitled-file : (u r : ℕ) → Among (users f) u → Among (roles f) r → entitled xs u r ≡ entitledByFile f u r
   unfolding entitled entitledByFile

@@ -10,7 +10,7 @@ use Rattle.search.specs.Search.{among, Among}
 use Rattle.search.proofs.Truth.{and-iff, among-iff, passed, failed}
 use Rattle.policy.specs.Tables.{word}
 use Rattle.monitor.specs.Session.{sound, entitled, fitting}
-use Rattle.monitor.specs.Review.{known, isLabel, isRole, isUser, isCard, counted, entitledTo, mayOpen, mayTake}
+use Rattle.monitor.specs.Review.{known, isRole, isUser, isCard, counted, entitledTo, mayOpen, mayTake}
 use Rattle.monitor.proofs.Answers.{Sound, sound-of}
 
 -- the test that fails, and one before it; a call's `ensures` is r ≡ t
@@ -63,9 +63,6 @@ module _ (xs : List ℕ) where
   within : (n at x : ℕ) → n ≤ 512 → known xs at x ≡ true → (Sound xs → word xs at ≤ n) → Among n x
   within n at x l h few = let a = inside at x h in let most = few (a .0) in omega arith
 
-  pub label : (l : ℕ) → isLabel xs l ≡ true → Among 32 l
-  label l h = within 32 0 l (omega arith) h (λ s. s .labels .1)
-
   pub role : (r : ℕ) → isRole xs r ≡ true → Among 128 r
   role r h = within 128 2 r (omega arith) h (λ s. s .roles)
 
@@ -75,21 +72,21 @@ module _ (xs : List ℕ) where
   pub card : (o : ℕ) → isCard xs o ≡ true → Among 512 o
   card o h = within 512 6 o (omega arith) h (λ s. s .cards)
 
-  pub entitled-role : (u r : ℕ) → entitledTo xs u r ≡ true → Among 128 r
+  -- a role that a user is entitled to, or may take, is one of the state's
+  entitled-is-role : (u r : ℕ) → entitledTo xs u r ≡ true → isRole xs r ≡ true
   unfolding entitledTo
-  entitled-role u r h = role r (and-iff (isRole xs r) (entitled xs u r) .0 (and-iff (isUser xs u) (isRole xs r && entitled xs u r) .0 h .1) .0)
+  entitled-is-role u r h = and-iff (isRole xs r) (entitled xs u r) .0 (and-iff (isUser xs u) _ .0 h .1) .0
+
+  may-is-role : (u l r : ℕ) → mayTake xs u l r ≡ true → isRole xs r ≡ true
+  unfolding mayTake
+  may-is-role u l r h = entitled-is-role u r (and-iff (entitledTo xs u r) (fitting xs l r) .0 (and-iff (mayOpen xs u l) _ .0 h .1) .0)
+
+  pub entitled-role : (u r : ℕ) → entitledTo xs u r ≡ true → Among 128 r
+  entitled-role u r h = role r (entitled-is-role u r h)
 
   pub may-role : (u l r : ℕ) → mayTake xs u l r ≡ true → Among 128 r
-  unfolding mayTake
-  may-role u l r h = entitled-role u r (and-iff (entitledTo xs u r) (fitting xs l r) .0 (and-iff (mayOpen xs u l) (entitledTo xs u r && fitting xs l r) .0 h .1) .0)
+  may-role u l r h = role r (may-is-role u l r h)
 
-  -- a role that may be taken is one that the state counts
+  -- and so within the state's count
   pub may-known : (u l r : ℕ) → mayTake xs u l r ≡ true → r ≤ counted xs 2
-  unfolding mayTake entitledTo
-  may-known u l r h =
-      let a = and-iff (mayOpen xs u l) (isUser xs u && (isRole xs r && entitled xs u r) && fitting xs l r) .0 h .1 in
-      let b = and-iff (isUser xs u && (isRole xs r && entitled xs u r)) (fitting xs l r) .0 a .0 in
-      let d = and-iff (isUser xs u) (isRole xs r && entitled xs u r) .0 b .1 in
-      let e = and-iff (isRole xs r) (entitled xs u r) .0 d .0 in
-      let s = and-iff (sound xs) (among (word xs 2) r) .0 e in
-      rw (s .0) (among-iff (word xs 2) r .0 (s .1) .1)
+  may-known u l r h = let s = and-iff (sound xs) (among (word xs 2) r) .0 (may-is-role u l r h) in rw (s .0) (among-iff (word xs 2) r .0 (s .1) .1)

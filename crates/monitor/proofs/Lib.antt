@@ -3,6 +3,7 @@ pub mod Known
 pub mod Filled
 pub mod Holding
 pub mod Frames
+pub mod Wrote
 pub mod Places
 pub mod Orderly
 pub mod Stands
@@ -13,4 +14,3 @@ pub mod Grants
 pub mod Cases
 pub mod Able
 pub mod Reviewed
-pub mod Wrote

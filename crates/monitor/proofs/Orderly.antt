@@ -3,12 +3,11 @@ use Prim.Native.Nat.{ℕ, zero, suc, _+_, _*_, _≤_}
 use mathlib.Core.Path.{_≡_, refl}
 use mathlib.Core.Logic.{⊎-elim}
 use mathlib.Core.List.{List}
-use mathlib.Core.Bool.{true, false, not, false≢true}
+use mathlib.Core.Bool.{true, not, false≢true}
 use mathlib.Core.Option.{Option, none, some, Option·map}
 use native.Mathlib.Omega.{arith}
-use native.Mathlib.Decide.{ℕ-discrete}
 use lib.Dec.{leb, eqb}
-use borrow.Author.Tests.{eqb-true, eq-eqb, ne-eqb, leb-true}
+use borrow.Author.Tests.{eqb-true, leb-true}
 use Rattle.search.specs.Search.{among, Among}
 use Rattle.search.proofs.Truth.{or-iff, and-iff, among-iff}
 use Rattle.rolefile.specs.Said.{labels, roles, users, cards, clearance}
@@ -18,6 +17,7 @@ use Rattle.monitor.specs.Runs.{Call, opens, closes, takes, drops, reads,
 use Rattle.monitor.specs.Places.{isFree, put}
 use Rattle.monitor.specs.Rules.{Session, Sessions, noSessions, sessionRule, atSessionByFile, entitledByFile, fittingByFile, givesByFile, openRule, closeRule, takeRule, dropRule, partRule, sessionOf, holding, without, next}
 use Rattle.monitor.proofs.Answers.{unless-done}
+use Rattle.monitor.proofs.Places.{put-everywhere}
 
 pub record Admitted (f : List ℕ) (p : ℕ) (s : Session) : Type 0 where
   pub place : Among 64 p
@@ -35,11 +35,8 @@ Orderly f t = (p : ℕ) → Known f p (t p)
 pub no-sessions-orderly : (f : List ℕ) → Orderly f noSessions
 no-sessions-orderly f p = tt
 
-pub orderly-put : (f : List ℕ) (t : Sessions) (p : ℕ) (s : Option Session) → Orderly f t → Known f p s → Orderly f (put t p s)
-orderly-put f t p s known new q = elim (ℕ-discrete q p) [
-  | yes e ↦ rw (e, eq-eqb p p refl) new
-  | no n ↦ rw (ne-eqb q p n) (known q)
-]
+orderly-put : (f : List ℕ) (t : Sessions) (p : ℕ) (s : Option Session) → Orderly f t → Known f p s → Orderly f (put t p s)
+orderly-put f t p s known new = put-everywhere (Known f) t p s new (λ q n. known q)
 
 -- ---- what a rule that is done tells
 
@@ -82,6 +79,16 @@ session-done t p rule h =
     there w none e d = absurd (omega arith)
     there w (some s) e d = record { place = w; session = s; found = e; done = d }
 
+module _ (f : List ℕ) (t : Sessions) (known : Orderly f t) (p : ℕ) (s : Session) (found : t p ≡ some s) where
+  -- a session is one that the rules have seen to
+  pub admitted : Admitted f p s
+  admitted = rw found at (known p)
+
+  -- the converse of `session-done`
+  pub session-granted : (rule : Session → ℕ) → rule s ≡ 0 → atSessionByFile t p rule ≡ 0
+  unfolding unless
+  session-granted rule h = rw (among-iff 64 p .1 (admitted .place), found) h
+
 pub taking : (f : List ℕ) (r : ℕ) (s : Session) → unless (among (roles f) r) 25 (unless (entitledByFile f (s .user) r) 27 (unless (fittingByFile f (s .label) r) 28 0)) ≡ 0
     → Among (roles f) r × (entitledByFile f (s .user) r ≡ true) × (fittingByFile f (s .label) r ≡ true)
 taking f r s h =
@@ -95,7 +102,6 @@ dropping f r h = among-iff (roles f) r .0 (unless-done (among (roles f) r) 25 0 
 
 -- a read or a write that is done
 pub record Using (f : List ℕ) (m : ℕ) (t : Sessions) (size p o k n : ℕ) : Type 0 where
-  pub place : Among 64 p
   pub session : Session
   pub found : t p ≡ some session
   pub card : Among (cards f) o
@@ -112,7 +118,6 @@ part-done f m t size p o k n h =
     let (x, d) = unless-done (leb (k + n) 64) 30 _ (omega arith) c in
     let (y, z) = unless-done (leb (64 * cards f) size) 31 _ (omega arith) d in
     record {
-      place = a .place;
       session = a .session;
       found = a .found;
       card = among-iff (cards f) o .0 i;
@@ -123,15 +128,17 @@ part-done f m t size p o k n h =
 
 -- ---- each call keeps it so
 
-pub either-way : {A : Type 0} (P : A → Type 0) (n : ℕ) (new old : A) → (n ≡ 0 → P new) → P old → P (ifDone n new old)
+-- what holds of two outcomes where the number is 0, and of two others, holds of those that the number picks
+pub both-ways : {A B : Type 0} (P : A → B → Type 0) (n : ℕ) (a c : A) (b d : B) → (n ≡ 0 → P a b) → P c d → P (ifDone n a c) (ifDone n b d)
 unfolding ifDone
-either-way P zero new old h k = h refl
-either-way P (suc n) new old h k = k
+both-ways P zero a c b d h k = h refl
+both-ways P (suc n) a c b d h k = k
+
+-- the same of one outcome
+pub either-way : {A : Type 0} (P : A → Type 0) (n : ℕ) (new old : A) → (n ≡ 0 → P new) → P old → P (ifDone n new old)
+either-way P n new old = both-ways (λ a b. P a) n new old new old
 
 module _ (f : List ℕ) (t : Sessions) (known : Orderly f t) where
-  admitted : (p : ℕ) (s : Session) → t p ≡ some s → Admitted f p s
-  admitted p s e = rw e at (known p)
-
   pub orderly-next : (c : Call) → Orderly f (next f t c)
   unfolding next closeRule takeRule dropRule
   orderly-next (opens p u l) = either-way (Orderly f) (openRule f t p u l) (put t p (some (sessionOf u l))) t
@@ -146,7 +153,7 @@ module _ (f : List ℕ) (t : Sessions) (known : Orderly f t) where
       let a = session-done t p _ h in
       let s = a .session in
       let (w, b, c) = taking f r s (a .done) in
-      let m = admitted p s (a .found) in
+      let m = admitted f t known p s (a .found) in
       orderly-put f t p (Option·map (holding r) (t p)) known
       (rw (a .found) (record {
         place = a .place;
@@ -159,7 +166,7 @@ module _ (f : List ℕ) (t : Sessions) (known : Orderly f t) where
       (λ h.
       let a = session-done t p _ h in
       let s = a .session in
-      let m = admitted p s (a .found) in
+      let m = admitted f t known p s (a .found) in
       orderly-put f t p (Option·map (without r) (t p)) known
       (rw (a .found) (record {
         place = a .place;

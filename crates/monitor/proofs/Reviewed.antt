@@ -1,16 +1,15 @@
 -- The review functions in the file's own terms, for every state that a load of an accepted file and any calls left: `review-…`. What a user's roles at a label give is what
 -- `monitor_can` answers (`review-can`). Assumes nothing.
 use Prim.Native.Nat.{ℕ, _≤_}
-use mathlib.Core.Path.{_≡_, refl, sym, _∙_}
+use mathlib.Core.Path.{_≡_, _∙_}
 use mathlib.Core.List.{List}
 use mathlib.Core.Logic.{inl}
-use mathlib.Core.Bool.{Bool, true, false, _&&_}
+use mathlib.Core.Bool.{Bool, true, _&&_, and-comm, and-assoc}
 use native.Mathlib.Omega.{arith}
 use borrow.Author.Tests.{le-leb}
 use Rattle.search.specs.Search as search
 use Rattle.search.specs.Search.{Among}
-use Rattle.search.proofs.Truth.{and-iff, among-iff, same}
-use Rattle.search.proofs.Found.{some-iff, some-of}
+use Rattle.search.proofs.Truth.{and-iff, among-iff}
 use Rattle.roleset.specs.Row.{member}
 use Rattle.rolefile.specs.Said.{labels, roles, users, cards, clearance, assigned}
 use Rattle.rolefile.specs.WellFormed.{WellFormed}
@@ -23,7 +22,7 @@ use Rattle.monitor.specs.Rights.{tableOf, roleCould, could, couldByFile}
 use Rattle.monitor.specs.Review.{counted, known, isLabel, isRole, isUser, isCard, clearanceOf, dominatesIn, seniorTo, assignedTo, entitledTo, mayOpen, mayTake, giveCard}
 use Rattle.monitor.proofs.Orderly.{Orderly}
 use Rattle.monitor.proofs.Stands.{Stands}
-use Rattle.monitor.proofs.InFile.{sound-file, cleared-file, entitled-file, fitting-file}
+use Rattle.monitor.proofs.InFile.{some-first, sound-file, cleared-file, entitled-file, fitting-file}
 use Rattle.monitor.proofs.Known.{may-role, may-known}
 use Rattle.monitor.proofs.Able.{table-says, could-by}
 
@@ -110,14 +109,7 @@ module _ (f : List ℕ) (form : WellFormed f) (t : Sessions) (orderly : Orderly 
     unfolding giveCard
     gives-by p agree =
         rw (card o i, among-iff 2 m .1 j)
-        (same (search.some 128 gives) (search.some (roles f) p)
-        (λ h.
-        let (r, k, e) = some-iff gives 128 .0 h in
-        let one = known r (and-iff (member xs (rowOf (tableOf m) o) r) (held r) .0 e .1) in
-        some-of p (roles f) r one (sym (agree r one) ∙ e))
-        (λ h.
-        let (r, k, e) = some-iff p (roles f) .0 h in
-        some-of gives 128 r (omega (arith, few)) (agree r k ∙ e)))
+        (some-first (roles f) few gives p (λ r k e. known r (and-iff (member xs (rowOf (tableOf m) o) r) (held r) .0 e .1)) agree)
 
     pub review-gives : giveCard xs m o held ≡ search.some (roles f) (λ r. may f m r o && held r)
     review-gives =
@@ -134,16 +126,8 @@ module _ (f : List ℕ) (form : WellFormed f) (t : Sessions) (orderly : Orderly 
     role-could-as : (r : ℕ) → Among (roles f) r → (member xs (rowOf (tableOf m) o) r && mayTake xs u l r) ≡ roleCould xs u l o (tableOf m) r
     unfolding roleCould
     role-could-as r k =
-        rw (takes-as r k)
-        (turn (member xs (rowOf (tableOf m) o) r) (entitled xs u r) (fitting xs l r))
-      where
-        turn : (a b c : Bool) → (a && (b && c)) ≡ (b && (c && a))
-        turn true true true = refl
-        turn true true false = refl
-        turn true false c = refl
-        turn false true true = refl
-        turn false true false = refl
-        turn false false c = refl
+        let one = member xs (rowOf (tableOf m) o) r in
+        rw (takes-as r k) (and-comm one (entitled xs u r && fitting xs l r) ∙ and-assoc (entitled xs u r) (fitting xs l r) one)
 
     taken-known : (r : ℕ) → mayTake xs u l r ≡ true → Among (roles f) r
     taken-known r h = let most = rw review-roles at (may-known xs u l r h) in let one = may-role xs u l r h in omega arith

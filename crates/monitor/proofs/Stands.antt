@@ -7,9 +7,8 @@ use mathlib.Core.Bool.{Bool}
 use mathlib.Core.Option.{Option, none, some}
 use native.Mathlib.Nat.{add-zero}
 use native.Mathlib.Omega.{arith}
-use native.Mathlib.Decide.{decLt, ℕ-discrete}
+use native.Mathlib.Decide.{decLt}
 use lib.ListN.{length, getD, replicate, getD-replicate, length-set}
-use borrow.Author.Tests.{eq-eqb, ne-eqb}
 use Rattle.search.specs.Search.{Among}
 use Rattle.search.proofs.Truth.{among-iff}
 use Rattle.roleset.specs.Row.{member, Kept, Placed, added, removed}
@@ -21,6 +20,7 @@ use Rattle.monitor.specs.Calls.{written, opened, closed, taken, dropped}
 use Rattle.monitor.specs.Places.{put}
 use Rattle.monitor.specs.Rules.{Session, Sessions, noSessions, sessionOf, holding, without}
 use Rattle.monitor.proofs.Frames.{length-written, written-in, written-out}
+use Rattle.monitor.proofs.Places.{put-everywhere}
 use Rattle.monitor.proofs.Holding.{more-placed, less-placed, length-less}
 
 pub record SessionAt (xs : List ℕ) (p : ℕ) (s : Session) : Type 0 where
@@ -73,10 +73,7 @@ module _ (f : List ℕ) (t : Sessions) (xs ys : List ℕ) (p : ℕ) (stands : St
   stands-put s new = record {
     long = rw (touched .same) (stands .long);
     tables = describes-stays f xs ys (λ i l m. touched .rest i (λ n. absurd (omega arith))) (stands .tables);
-    places = λ q v. elim (ℕ-discrete q p) [
-      | yes e ↦ rw (e, eq-eqb p p refl) new
-      | no n ↦ rw (ne-eqb q p n) (place-elsewhere q v n (t q) (stands .places q v))
-    ];
+    places = put-everywhere (λ q s. Among 64 q → PlaceIs ys q s) t p s (λ v. new) (λ q n v. place-elsewhere q v n (t q) (stands .places q v));
   }
 
 -- ---- what each call writes

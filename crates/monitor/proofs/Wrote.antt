@@ -10,7 +10,8 @@ use Rattle.monitor.proofs.Answers.{part-fits}
 use Rattle.monitor.proofs.Frames.{length-written, written-in, written-out}
 
 module _ (xs store : List ℕ) (p o k : ℕ) (bytes : List ℕ) (done : writeNumber xs store p o k bytes ≡ 0) where
-  inside : partAt o k + length bytes ≤ length store
+  -- the part written lies in the store
+  pub inside : partAt o k + length bytes ≤ length store
   inside = let f = part-fits writersAt xs (length store) p o k (length bytes) done in omega (arith, f .card, f .inCard, f .inStore)
 
   pub write-length : length (writeStore xs store p o k bytes) ≡ length store

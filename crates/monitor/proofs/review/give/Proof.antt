@@ -1,8 +1,6 @@
 -- The tests one after the other, and the card's row lies in the state.
-use Prim.Native.Nat.{ℕ, _≤_}
+use Prim.Native.Nat.{_≤_}
 use mathlib.Core.Path.{_∙_}
-use mathlib.Core.Bool.{Bool, true, false, cond}
-use lib.Dec.{eqb}
 use lib.ListN.{length}
 use denote.Ref.{now}
 use native.Mathlib.Omega.{arith}
@@ -13,6 +11,7 @@ use Rattle.roleset.proofs.Rows.{whole-true}
 use Rattle.policy.specs.Tables.{rowOf}
 use Rattle.monitor.specs.Rights.{tableOf}
 use Rattle.monitor.specs.Review.{giveCard}
+use Rattle.monitor.proofs.Answers.{table-low}
 use Rattle.monitor.proofs.Known.{tests, long, card}
 use Rattle.monitor.proofs.review.give.Statement.{statement}
 use Rattle.monitor.proofs.review.give.Tie as tie
@@ -34,11 +33,6 @@ whole-state c =
     let one = c .before .before in
     long _ 6 (c .before .before .before .before .before .args .card) (passed (one .before .known .ensures) (one .if1 .left))
 
--- where a mode's table starts
-low : (b : Bool) → cond {A = ℕ} b 12304 20496 ≤ 20496
-low true = omega arith
-low false = omega arith
-
 sub-at : tie.Need-sub-at
 sub-at c = its-card (c .before) .0
 
@@ -48,7 +42,7 @@ mul-at c = let o = its-card (c .before) in omega arith
 add-at : tie.Need-add-at
 add-at c =
     let o = its-card (c .before) in
-    omega (arith, c .table-of .ensures, low (eqb (c .before .before .before .before .before .before .args .mode) 1))
+    omega (arith, c .table-of .ensures, table-low (c .before .before .before .before .before .before .args .mode))
 
 returns-3 : tie.Need-returns-3
 unfolding giveCard
@@ -57,7 +51,7 @@ returns-3 c =
     let one = two .before .before in
     let a = one .before .before .before .args in
     let o = its-card two in
-    let table = low (eqb (a .mode) 1) in
+    let table = table-low (a .mode) in
     let whole = whole-true (now (a .s)) (rowOf (tableOf (a .mode)) (a .card)) (omega (arith, whole-state two)) in
     rw (passed (one .before .known .ensures) (one .if1 .left), passed (two .before .among .ensures) (two .if2 .left))
     (c .meet-row .ensures ∙ rw (c .before .table-of .ensures, whole))

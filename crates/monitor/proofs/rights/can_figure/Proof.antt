@@ -1,29 +1,20 @@
 -- A report that is done is on a sound state, with numbers in range.
-use Prim.Native.Nat.{_≤_}
 use mathlib.Core.Path.{_≡_, sym, ap, _∙_}
-use mathlib.Core.Bool.{Bool, true, false, cond}
 use denote.Ref.{now}
-use lib.Dec.{eqb}
-use Rattle.policy.specs.Tables.{readersAt, writersAt}
 use Rattle.monitor.specs.Rights.{tableOf, could}
-use native.Mathlib.Omega.{arith}
 use borrow.Author.Needs.{needs}
-use Rattle.monitor.proofs.Answers.{left, kept, can-room}
+use Rattle.monitor.proofs.Answers.{left, kept, can-room, table-low}
 use Rattle.monitor.proofs.rights.can_figure.Statement.{statement}
 use Rattle.monitor.proofs.rights.can_figure.Tie as tie
 
 returns : tie.Need-returns
 returns c = kept _ _ _ (c .before .before .pre) (c .if1 .taken)
 
-small : (b : Bool) → cond b readersAt writersAt ≤ 20496
-small true = omega arith
-small false = omega arith
-
 could-requires : tie.Need-could-requires
 could-requires c κs =
     let start = c .before .before .before in
     let a = can-room _ _ _ _ _ (sym (start .pre) ∙ c .before .if1 .left) in
-    (a .sound .long, a .sound .roles, rw (c .table-of .ensures) (small (eqb (start .args .mode) 1)), a .user, a .card)
+    (a .sound .long, a .sound .roles, rw (c .table-of .ensures) (table-low (start .args .mode)), a .user, a .card)
 
 -- what the roles say, by the table of the mode
 told : (c : tie.After-could)
