@@ -16,7 +16,7 @@ use Rattle.roleset.proofs.Bits.{bit-zero, bit-on}
 use Rattle.rolefile.specs.Form.{fine}
 use Rattle.rolefile.specs.Said.{labels, roles, users, cards, clearance, cardLabel, assigned}
 use Rattle.policy.specs.Policy.{dominates, senior, may, rLevel, wLevel, levelNumber}
-use Rattle.policy.specs.Tables.{dominanceAt, clearancesAt, cardLabelsAt, rLevelsAt, wLevelsAt, seniorsAt, assignedAt, readersAt, writersAt, rowOf}
+use Rattle.policy.specs.Tables.{dominanceAt, clearancesAt, cardLabelsAt, rLevelsAt, wLevelsAt, seniorsAt, assignedAt, readersAt, writersAt, rowOf, markAt}
 use Rattle.policy.specs.Accepted.{Accepted}
 use Rattle.policy.specs.Image.{Unused, Describes, Image, loadVerdict}
 use Rattle.policy.proofs.Outcomes.{accepted-fine}
@@ -218,10 +218,10 @@ module _ (f : List ℕ) where
       let i = start + (x - 1) in
       at i (omega arith) ∙ told i (omega arith) (omega arith) ∙ ap said (let z : i - start + 1 ≡ x = omega arith in z)
 
-  dominance-byte : (a b : ℕ) → Among 32 a → Among 32 b → getD state (dominanceAt + (32 * (a - 1) + (b - 1))) 0 ≡ cond (leb a (labels f) && dominates f a b) 1 0
+  dominance-byte : (a b : ℕ) → Among 32 a → Among 32 b → getD state (markAt a b) 0 ≡ cond (leb a (labels f) && dominates f a b) 1 0
   unfolding marks
   dominance-byte a b v w =
-      let i = dominanceAt + (32 * (a - 1) + (b - 1)) in
+      let i = markAt a b in
       let row : (i - dominanceAt) / 32 + 1 ≡ a = omega arith in
       let column : (i - dominanceAt) % 32 + 1 ≡ b = omega arith in
       at i (omega arith) ∙ past-counts i (omega arith) ∙ table-in dominanceAt 1024 marks from-clearances i (omega arith) (omega arith)

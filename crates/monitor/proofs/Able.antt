@@ -20,7 +20,7 @@ use Rattle.rolefile.specs.WellFormed.{WellFormed}
 use Rattle.policy.specs.Policy.{dominates, may}
 use Rattle.policy.specs.Tables.{rowOf}
 use Rattle.policy.specs.Accepted.{Accepted}
-use Rattle.policy.specs.Image.{Loaded}
+use Rattle.policy.specs.Image.{Loaded, Allows}
 use Rattle.policy.proofs.Meaning.{counts-known}
 use Rattle.monitor.specs.Session.{labelsIn, usersIn, cardsIn, cleared, entitled, fitting}
 use Rattle.monitor.specs.Calls.{unless, ifDone}
@@ -49,7 +49,7 @@ module _ (f : List ℕ) (form : WellFormed f) (t : Sessions) (known : Orderly f 
       (cleared-file f form t known xs stands u l (among-iff (users f) u .0 user) (among-iff (labels f) l .0 label)) (λ dominated. refl)))))
 
   -- the table of a mode says who may
-  pub table-says : (m : ℕ) → Among 2 m → (o r : ℕ) → Among 512 o → Among 128 r → member xs (rowOf (tableOf m) o) r ≡ may f m r o
+  pub table-says : (m : ℕ) → Among 2 m → Allows f m (tableOf m) xs
   table-says zero w o r i j = absurd (omega arith)
   table-says (suc zero) w o r i j = stands .tables .permitting .readers o r i j
   table-says (suc (suc zero)) w o r i j = stands .tables .permitting .writers o r i j

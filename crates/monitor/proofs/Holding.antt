@@ -1,17 +1,17 @@
 -- A row with one role more, or one less, is the row with one byte changed: `Placed` leaves no other choice. Assumes nothing.
-use Prim.Native.Nat.{ℕ, _+_, _-_, _*_, _/_, _%_, _^_, _≤_, _<_}
-use mathlib.Core.Path.{_≡_, refl, sym, ap, _∙_}
-use mathlib.Core.Bool.{Bool, true, false, cond, or-true, or-false, and-true, and-false}
+use Prim.Native.Nat.{ℕ, _+_, _-_, _/_, _%_, _^_, _≤_, _<_}
+use mathlib.Core.Path.{_≡_, refl, sym}
+use mathlib.Core.Bool.{Bool, true, false, cond, or-false, and-true, and-false}
 use mathlib.Core.List.{List}
 use native.Mathlib.Omega.{arith}
 use native.Mathlib.Decide.{ℕ-discrete}
-use borrow.Author.Tests.{eq-eqb, ne-eqb}
+use borrow.Author.Tests.{ne-eqb}
 use lib.Bits.{bitOr, bitXor, or-lt, xor-lt}
 use lib.ListN.{length, getD, set, length-set}
 use lib.Seq.{getD-set-same, getD-set-other}
 use Rattle.search.specs.Search.{among, Among}
-use Rattle.search.proofs.Truth.{among-iff, either}
-use Rattle.roleset.specs.Row.{bit, member, Placed, added, removed}
+use Rattle.search.proofs.Truth.{either}
+use Rattle.roleset.specs.Row.{member, Placed, added, removed}
 use Rattle.roleset.proofs.Bits.{shifted}
 use Rattle.roleset.proofs.Rows.{added-placed, removed-placed, placed-once, unwritten}
 use Rattle.monitor.specs.Session.{heldAt}

@@ -1,9 +1,9 @@
 -- Each test that a call makes, on a state that stands for the sessions, is the rule's test by the file; so is each number. Assumes nothing.
 use Prim.Native.Nat.{ℕ, _+_, _*_, _≤_}
 use mathlib.Core.Path.{_≡_, refl, sym, ap, _∙_}
-use mathlib.Core.Logic.{inl, inr}
+use mathlib.Core.Logic.{inr}
 use mathlib.Core.List.{List}
-use mathlib.Core.Bool.{Bool, true, false, not, _&&_, and-false}
+use mathlib.Core.Bool.{Bool, true, false, not, _&&_}
 use mathlib.Core.Option.{Option, none, some}
 use native.Mathlib.Nat.{zero-add}
 use native.Mathlib.Omega.{arith}
@@ -15,15 +15,15 @@ use Rattle.search.specs.Search.{among, Among}
 use Rattle.search.proofs.Truth.{and-iff, among-iff}
 use Rattle.roleset.specs.Row.{member, common}
 use Rattle.roleset.proofs.Rows.{whole-true}
-use Rattle.order.specs.Bound.{converse}
 use Rattle.rolefile.specs.Said.{labels, roles, users, cards, clearance, assigned}
 use Rattle.rolefile.specs.WellFormed.{WellFormed}
 use Rattle.rolefile.proofs.Within.{some-within}
-use Rattle.policy.specs.Policy.{dominates, senior, may, mayAt, rLevel, wLevel}
-use Rattle.policy.specs.Tables.{stateSize, rowOf, marked, seniorsAt, assignedAt}
-use Rattle.policy.proofs.Assigning.{passes-number}
-use Rattle.policy.proofs.Inside.{assigned-known}
+use Rattle.policy.specs.Policy.{dominates, senior, may}
+use Rattle.policy.specs.Tables.{stateSize, rowOf, seniorsAt, assignedAt}
+use Rattle.policy.proofs.Assigning.{reads-test, writes-test}
+use Rattle.policy.proofs.Inside.{assigned-known, over-between}
 use Rattle.policy.proofs.Meaning.{counts-known, marked-file}
+use Rattle.policy.specs.Image.{Allows}
 use Rattle.monitor.specs.Session.{sound, labelsIn, rolesIn, usersIn, cardsIn, placeAt, heldAt, inUse, userAt, labelAt, cleared, entitled, fitting, gives}
 use Rattle.monitor.specs.Calls.{unless, atSession, openNumber, closeNumber, takeNumber, dropNumber, partNumber}
 use Rattle.monitor.specs.Places.{isFree}
@@ -113,22 +113,21 @@ module _ (f : List ℕ) (form : WellFormed f) (t : Sessions) (known : Orderly f 
       (λ q e. assigned-known f (form .good) u q (and-iff (assigned f u q) (senior f q r) .0 e .0) .1)
 
   pub fitting-file : (l r : ℕ) → Among (labels f) l → Among (roles f) r → fitting xs l r ≡ fittingByFile f l r
-  unfolding fitting fittingByFile rLevel wLevel
+  unfolding fitting fittingByFile
   fitting-file l r v w =
       let c = counts-known f form in
+      let between = over-between f (form .good) in
       let few-roles = c .roles in
       let i : Among 128 r = omega arith in
       rw (
         stands .tables .levelled .reads r i,
         stands .tables .levelled .writes r i,
-        passes-number (labels f) (dominates f) (mayAt f 1 r) (c .labels .1) (marked xs l) (dominates f l)
-            (and-false (among 32 l)) (λ a j. marked-file f form xs (stands .tables) l a (inl v)),
-        passes-number (labels f) (converse (dominates f)) (mayAt f 2 r) (c .labels .1) (λ a. marked xs a l) (λ a. dominates f a l)
-            refl (λ a j. marked-file f form xs (stands .tables) a l (inr v)),
+        reads-test f xs c between (stands .tables .dominating) l r,
+        writes-test f xs c between (stands .tables .dominating) l r,
       )
 
   -- the table at `at` says who may use cards by mode m
-  module _ (at m : ℕ) (inside : at + 8192 ≤ 65536) (says : (o r : ℕ) → Among 512 o → Among 128 r → member xs (rowOf at o) r ≡ may f m r o) where
+  module _ (at m : ℕ) (inside : at + 8192 ≤ 65536) (says : Allows f m at xs) where
     gives-file : (p o : ℕ) (s : Session) → SessionAt xs p s → Admitted f p s → Among (cards f) o → gives xs at p o ≡ givesByFile f m s o
     unfolding gives givesByFile
     gives-file p o s a k w =
