@@ -26,7 +26,7 @@ use Rattle.monitor.specs.Session.{labelsIn, usersIn, cardsIn, cleared, e
 use Rattle.monitor.specs.Calls.{unless, ifDone}
 use Rattle.monitor.specs.Runs.{Call, opens, takes, Memory, after, run}
 use Rattle.monitor.specs.Rules.{Session, Sessions, noSessions, entitledByFile, fittingByFile, givesByFile, openRule, takeRule, partRule, rule, sessionOf, holding, next, sessions}
-use Rattle.monitor.specs.Rights.{canNumber, tableOf, roleCould, could, Cans, canRule, couldByFile, useOf, Granting}
+use Rattle.monitor.specs.Rights.{canNumber, tableOf, roleCould, could, Cans, canRule, couldByFile, useOf, CouldUse}
 use Rattle.monitor.proofs.Answers.{unless-done}
 use Rattle.monitor.proofs.Orderly.{Orderly, opening, taking, part-done, both-ways}
 use Rattle.monitor.proofs.Stands.{Stands}
@@ -201,7 +201,7 @@ module _ (f : List ℕ) (accepted : Accepted f) (xs ys : List ℕ) (v : Verdict)
   runs-two : (r : ℕ) → Runs f (next f (next f noSessions (opens p u l)) (takes p r)) (length store) (after (after start (opens p u l)) (takes p r))
   runs-two r = runs-next f form (next f noSessions (opens p u l)) (length store) (after start (opens p u l)) runs-one (takes p r)
 
-  granting : (r : ℕ) → Let f (length store) p u l place enough o m r ↔ Granting start p u l o m r
+  granting : (r : ℕ) → Let f (length store) p u l place enough o m r ↔ CouldUse start p u l o m r
   unfolding rule
   granting r =
       let a = runs-number f form noSessions (length store) start runs (opens p u l) in
@@ -214,7 +214,7 @@ module _ (f : List ℕ) (accepted : Accepted f) (xs ys : List ℕ) (v : Verdict)
   same : Able f u l o m → could ys u l o (tableOf m) ≡ couldByFile f u l o m
   same a = could-by f form noSessions (runs .known) ys (runs .stands) u l o m (a .user) (a .label) (a .card) (a .mode)
 
-  pub can-iff : (n figure : ℕ) → Cans ys u l o m n figure → (figure ≡ 1) ↔ ((r : ℕ) × Granting start p u l o m r)
+  pub can-iff : (n figure : ℕ) → Cans ys u l o m n figure → (figure ≡ 1) ↔ ((r : ℕ) × CouldUse start p u l o m r)
   can-iff n figure h =
       let by = number-by f form noSessions (runs .known) ys (runs .stands) u l o m in
       let one = figure-one (canNumber ys u l o m) (could ys u l o (tableOf m)) in (

@@ -10,7 +10,7 @@ use Rattle.search.specs.Search.{among, Among}
 use Rattle.search.proofs.Truth.{and-iff, among-iff, passed, failed}
 use Rattle.policy.specs.Tables.{word}
 use Rattle.monitor.specs.Session.{sound, entitled, fitting}
-use Rattle.monitor.specs.Review.{known, isRole, isUser, isCard, counted, entitledTo, mayOpen, mayTake}
+use Rattle.monitor.specs.Review.{known, isRole, isUser, isCard, knownCount, entitledTo, mayOpen, mayTake}
 use Rattle.monitor.proofs.Answers.{Sound, sound-of}
 
 -- the test that fails, and one before it; a call's `ensures` is r ≡ t
@@ -41,22 +41,22 @@ module _ (xs : List ℕ) where
   pub long : (at x : ℕ) → known xs at x ≡ true → 65536 ≤ length xs
   long at x h = inside at x h .0 .long
 
-  few : (n at : ℕ) → (Sound xs → word xs at ≤ n) → counted xs at ≤ n
+  few : (n at : ℕ) → (Sound xs → word xs at ≤ n) → knownCount xs at ≤ n
   few n at most = elim (sound-or xs) [
     | inl e ↦ rw e (most (sound-of xs e))
     | inr e ↦ rw e (omega arith)
   ]
 
-  pub few-labels : counted xs 0 ≤ 32
+  pub few-labels : knownCount xs 0 ≤ 32
   few-labels = few 32 0 (λ s. s .labels .1)
 
-  pub few-roles : counted xs 2 ≤ 128
+  pub few-roles : knownCount xs 2 ≤ 128
   few-roles = few 128 2 (λ s. s .roles)
 
-  pub few-users : counted xs 4 ≤ 256
+  pub few-users : knownCount xs 4 ≤ 256
   few-users = few 256 4 (λ s. s .users)
 
-  pub few-cards : counted xs 6 ≤ 512
+  pub few-cards : knownCount xs 6 ≤ 512
   few-cards = few 512 6 (λ s. s .cards)
 
   -- with a limit to how many there are
@@ -88,5 +88,5 @@ module _ (xs : List ℕ) where
   may-role u l r h = role r (may-is-role u l r h)
 
   -- and so within the state's count
-  pub may-known : (u l r : ℕ) → mayTake xs u l r ≡ true → r ≤ counted xs 2
+  pub may-known : (u l r : ℕ) → mayTake xs u l r ≡ true → r ≤ knownCount xs 2
   may-known u l r h = let s = and-iff (sound xs) (among (word xs 2) r) .0 (may-is-role u l r h) in rw (s .0) (among-iff (word xs 2) r .0 (s .1) .1)

@@ -19,7 +19,7 @@ use Rattle.policy.proofs.Meaning.{counts-known, marked-file}
 use Rattle.monitor.specs.Session.{sound, entitled, fitting}
 use Rattle.monitor.specs.Rules.{Sessions, entitledByFile, fittingByFile}
 use Rattle.monitor.specs.Rights.{tableOf, roleCould, could, couldByFile}
-use Rattle.monitor.specs.Review.{counted, known, isLabel, isRole, isUser, isCard, clearanceOf, dominatesIn, seniorTo, assignedTo, entitledTo, mayOpen, mayTake, giveCard}
+use Rattle.monitor.specs.Review.{knownCount, known, isLabel, isRole, isUser, isCard, clearanceOf, dominatesIn, seniorTo, assignedTo, entitledTo, mayOpen, mayTake, giveCard}
 use Rattle.monitor.proofs.Orderly.{Orderly}
 use Rattle.monitor.proofs.Stands.{Stands}
 use Rattle.monitor.proofs.InFile.{some-first, sound-file, cleared-file, entitled-file, fitting-file}
@@ -32,16 +32,16 @@ module _ (f : List ℕ) (form : WellFormed f) (t : Sessions) (orderly : Orderly 
 
   -- ---- counts and ranges
 
-  pub review-labels : counted xs 0 ≡ labels f
+  pub review-labels : knownCount xs 0 ≡ labels f
   review-labels = rw whole (stands .tables .counted .labels)
 
-  pub review-roles : counted xs 2 ≡ roles f
+  pub review-roles : knownCount xs 2 ≡ roles f
   review-roles = rw whole (stands .tables .counted .roles)
 
-  pub review-users : counted xs 4 ≡ users f
+  pub review-users : knownCount xs 4 ≡ users f
   review-users = rw whole (stands .tables .counted .users)
 
-  pub review-cards : counted xs 6 ≡ cards f
+  pub review-cards : knownCount xs 6 ≡ cards f
   review-cards = rw whole (stands .tables .counted .cards)
 
   thing : (at n x : ℕ) → word xs at ≡ n → Among n x → known xs at x ≡ true

@@ -10,20 +10,20 @@ use Rattle.monitor.specs.Session.{sound, cleared, entitled, fitting}
 use Rattle.monitor.specs.Rights.{tableOf}
 
 -- how many things the count at `at` tells of: labels at 0, roles at 2, users at 4, cards at 6
-abbrev pub counted : List ℕ → ℕ → ℕ
-counted xs at = cond (sound xs) (word xs at) 0
+abbrev pub knownCount : List ℕ → ℕ → ℕ
+knownCount xs at = cond (sound xs) (word xs at) 0
 
 abbrev pub knownLabels : List ℕ → ℕ
-knownLabels xs = counted xs 0
+knownLabels xs = knownCount xs 0
 
 abbrev pub knownRoles : List ℕ → ℕ
-knownRoles xs = counted xs 2
+knownRoles xs = knownCount xs 2
 
 abbrev pub knownUsers : List ℕ → ℕ
-knownUsers xs = counted xs 4
+knownUsers xs = knownCount xs 4
 
 abbrev pub knownCards : List ℕ → ℕ
-knownCards xs = counted xs 6
+knownCards xs = knownCount xs 6
 
 -- x is one of them
 abbrev pub known : List ℕ → ℕ → ℕ → Bool

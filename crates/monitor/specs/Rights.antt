@@ -66,7 +66,7 @@ abbrev pub useOf : ℕ → ℕ → ℕ → Call
 useOf m p o = cond (eqb m 1) (reads p o 0 0) (writes p o 0 [])
 
 -- from the memory m₀, opening place p, taking role r there and using the card are answered 0, 0, 0
-pub record Granting (m₀ : Memory) (p u l o m r : ℕ) : Type 0 where
+pub record CouldUse (m₀ : Memory) (p u l o m r : ℕ) : Type 0 where
   pub opened : number m₀ (opens p u l) ≡ 0
   pub taken : number (after m₀ (opens p u l)) (takes p r) ≡ 0
   pub used : number (after (after m₀ (opens p u l)) (takes p r)) (useOf m p o) ≡ 0

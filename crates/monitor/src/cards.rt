@@ -16,7 +16,7 @@ fn part_number(s: &[u8], at: u64, size: usize, place: u64, card: u64, offset: u6
     if first != 0 {
         return first;
     }
-    if !state::counted(s, 6, card) {
+    if !state::within_count(s, 6, card) {
         return 25;
     }
     if !rules::gives(s, at, place, card) {

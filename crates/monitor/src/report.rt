@@ -11,10 +11,10 @@ pub fn flows_number(s: &[u8], from: u64, to: u64) -> u64
     if !state::sound(s) {
         return 21;
     }
-    if !state::counted(s, 2, from) {
+    if !state::within_count(s, 2, from) {
         return 25;
     }
-    if !state::counted(s, 2, to) {
+    if !state::within_count(s, 2, to) {
         return 25;
     }
     0

@@ -12,8 +12,8 @@ ghost use Rattle.roleset.specs.Row.{member};
 ghost use Rattle.monitor.specs.Review as review;
 
 // How many things the count at `at` tells of.
-fn counted(s: &[u8], at: u16) -> u64
-    ensures { λ r. ⌜ r ≡ review.counted (now (s .entry)) at ⌝ }
+fn known_count(s: &[u8], at: u16) -> u64
+    ensures { λ r. ⌜ r ≡ review.knownCount (now (s .entry)) at ⌝ }
 {
     if !state::sound(s) {
         return 0;
@@ -25,28 +25,28 @@ fn counted(s: &[u8], at: u16) -> u64
 pub fn labels(s: &[u8]) -> u64
     ensures { λ r. ⌜ r ≡ review.knownLabels (now (s .entry)) ⌝ }
 {
-    counted(s, 0)
+    known_count(s, 0)
 }
 
 // How many roles.
 pub fn roles(s: &[u8]) -> u64
     ensures { λ r. ⌜ r ≡ review.knownRoles (now (s .entry)) ⌝ }
 {
-    counted(s, 2)
+    known_count(s, 2)
 }
 
 // How many users.
 pub fn users(s: &[u8]) -> u64
     ensures { λ r. ⌜ r ≡ review.knownUsers (now (s .entry)) ⌝ }
 {
-    counted(s, 4)
+    known_count(s, 4)
 }
 
 // How many cards.
 pub fn cards(s: &[u8]) -> u64
     ensures { λ r. ⌜ r ≡ review.knownCards (now (s .entry)) ⌝ }
 {
-    counted(s, 6)
+    known_count(s, 6)
 }
 
 // Whether x is one of the things that the count at `at` tells of.
@@ -56,7 +56,7 @@ fn known(s: &[u8], at: u16, x: u64) -> bool
     if !state::sound(s) {
         return false;
     }
-    state::counted(s, at, x)
+    state::within_count(s, at, x)
 }
 
 // The user's clearance, or 0.

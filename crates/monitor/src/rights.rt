@@ -17,13 +17,13 @@ pub fn can_number(s: &[u8], user: u64, label: u64, card: u64, mode: u64) -> u64
     if !state::sound(s) {
         return 21;
     }
-    if !state::counted(s, 4, user) {
+    if !state::within_count(s, 4, user) {
         return 25;
     }
-    if !state::counted(s, 0, label) {
+    if !state::within_count(s, 0, label) {
         return 25;
     }
-    if !state::counted(s, 6, card) {
+    if !state::within_count(s, 6, card) {
         return 25;
     }
     if !search::among(2, mode) {

@@ -31,10 +31,10 @@ fn open_number(s: &[u8], place: u64, user: u64, label: u64) -> u64
     if state::in_use(s, place) {
         return 23;
     }
-    if !state::counted(s, 4, user) {
+    if !state::within_count(s, 4, user) {
         return 25;
     }
-    if !state::counted(s, 0, label) {
+    if !state::within_count(s, 0, label) {
         return 25;
     }
     if !rules::cleared(s, user, label) {
@@ -52,7 +52,7 @@ fn put_session(s: &mut [u8], place: u64, user: u64, label: u64)
     bytes[0] = 1;
     bytes[1] = (user - 1) as u8;
     bytes[2] = label as u8;
-    let at = 61456 + 20 * (place - 1);
+    let at = state::place_at(place);
     put(s, at as usize, &bytes);
 }
 
@@ -89,7 +89,7 @@ fn empty(s: &mut [u8], place: u64)
     ensures { λ _. ⌜ now (s .exit) ≡ closed (now (s .entry)) place ⌝ }
 {
     let bytes = [0u8; 20];
-    let at = 61456 + 20 * (place - 1);
+    let at = state::place_at(place);
     put(s, at as usize, &bytes);
 }
 
@@ -112,7 +112,7 @@ fn take_number(s: &[u8], place: u64, role: u64) -> u64
     if n != 0 {
         return n;
     }
-    if !state::counted(s, 2, role) {
+    if !state::within_count(s, 2, role) {
         return 25;
     }
     if !rules::entitled_at(s, place, role) {
@@ -129,7 +129,7 @@ fn hold(s: &mut [u8], place: u64, role: u64)
     requires { ⌜ takeNumber (now s) place role ≡ 0 ⌝ }
     ensures { λ _. ⌜ now (s .exit) ≡ taken (now (s .entry)) place role ⌝ }
 {
-    let at = 61456 + 20 * (place - 1) + 4;
+    let at = state::place_at(place) + 4;
     roleset::add(s, at as usize, role as usize);
 }
 
@@ -152,7 +152,7 @@ fn drop_number(s: &[u8], place: u64, role: u64) -> u64
     if n != 0 {
         return n;
     }
-    if !state::counted(s, 2, role) {
+    if !state::within_count(s, 2, role) {
         return 25;
     }
     0
@@ -163,7 +163,7 @@ fn remove_role(s: &mut [u8], place: u64, role: u64)
     requires { ⌜ dropNumber (now s) place role ≡ 0 ⌝ }
     ensures { λ _. ⌜ now (s .exit) ≡ dropped (now (s .entry)) place role ⌝ }
 {
-    let at = 61456 + 20 * (place - 1) + 4;
+    let at = state::place_at(place) + 4;
     roleset::remove(s, at as usize, role as usize);
 }
 

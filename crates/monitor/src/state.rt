@@ -8,7 +8,7 @@ ghost use Rattle.policy.specs.Tables as tables;
 ghost use Rattle.monitor.specs.Session as session;
 
 // Whether x is one of the things that the count at `at` tells of.
-pub fn counted(s: &[u8], at: u16, x: u64) -> bool
+pub fn within_count(s: &[u8], at: u16, x: u64) -> bool
     ensures { λ r. ⌜ r ≡ among (tables.word (now (s .entry)) at) x ⌝ }
 {
     search::among(tables::word(s, at), x)
@@ -36,12 +36,20 @@ pub fn byte_of(s: &[u8], at: u64, x: u64) -> u64
     tables::byte(s, at + (x - 1)) as u64
 }
 
+// Where the bytes of a place begin.
+pub fn place_at(place: u64) -> u64
+    requires { ⌜ Among 64 place ⌝ }
+    ensures { λ r. ⌜ r ≡ session.placeAt place ⌝ }
+{
+    61456 + 20 * (place - 1)
+}
+
 // Whether the place has a session.
 pub fn in_use(s: &[u8], place: u64) -> bool
     requires { ⌜ Among 64 place ⌝ }
     ensures { λ r. ⌜ r ≡ session.inUse (now (s .entry)) place ⌝ }
 {
-    tables::byte(s, 61456 + 20 * (place - 1)) == 1
+    tables::byte(s, place_at(place)) == 1
 }
 
 // The user of the session at the place.
@@ -49,7 +57,7 @@ pub fn user_at(s: &[u8], place: u64) -> u64
     requires { ⌜ Among 64 place ⌝ }
     ensures { λ r. ⌜ (r ≡ session.userAt (now (s .entry)) place) × (1 ≤ r) × (r ≤ 256) ⌝ }
 {
-    tables::byte(s, 61456 + 20 * (place - 1) + 1) as u64 + 1
+    tables::byte(s, place_at(place) + 1) as u64 + 1
 }
 
 // The label of the session at the place.
@@ -57,5 +65,5 @@ pub fn label_at(s: &[u8], place: u64) -> u64
     requires { ⌜ Among 64 place ⌝ }
     ensures { λ r. ⌜ (r ≡ session.labelAt (now (s .entry)) place) × (r < 256) ⌝ }
 {
-    tables::byte(s, 61456 + 20 * (place - 1) + 2) as u64
+    tables::byte(s, place_at(place) + 2) as u64
 }

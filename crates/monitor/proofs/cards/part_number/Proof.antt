@@ -33,7 +33,7 @@ gives-requires : tie.Need-gives-requires
 gives-requires c κs =
     let t = c .before .before in
     let e = t .before .session-number .ensures in
-    (t .before .before .before .pre, place-known _ _ e (t .if1 .left), card-known _ _ e (t .if1 .left) _ (c .before .counted .ensures) (c .if2 .left))
+    (t .before .before .before .pre, place-known _ _ e (t .if1 .left), card-known _ _ e (t .if1 .left) _ (c .before .within-count .ensures) (c .if2 .left))
 
 pub part-number-spec : {M : Type 1} → statement M
 part-number-spec =

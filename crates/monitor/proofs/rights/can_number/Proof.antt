@@ -37,7 +37,7 @@ cleared-requires : tie.Need-cleared-requires
 cleared-requires c κs =
     let user = c .before .before .before .before .before .before in
     let whole = user .before .before in
-    user-known _ (whole .before .sound .ensures) (whole .if1 .left) _ (user .before .counted .ensures) (user .if2 .left)
+    user-known _ (whole .before .sound .ensures) (whole .if1 .left) _ (user .before .within-count .ensures) (user .if2 .left)
 
 pub can-number-spec : {M : Type 1} → statement M
 can-number-spec =

@@ -11,16 +11,14 @@ room c = close-room _ _ (c .pre)
 
 returns : tie.Need-returns
 unfolding closed
-returns c = c .before .before .put .ensures
+returns c = rw (← c .before .before .before .before .before .place-at .ensures) (c .before .before .put .ensures)
 
 pub empty-spec : {M : Type 1} → statement M
 empty-spec =
     tie.close
     (tie.spec
-    (λ c. omega (arith, room (c .before)))
-    (λ c. omega (arith, room (c .before)))
-    (λ c. omega (arith, room (c .before)))
+    (λ c κs. room (c .before) .place)
     (λ c. search needs)
-    (λ c κs. omega (arith, room (c .before .before .before)))
+    (λ c κs. omega (arith, room (c .before .before .before .before)))
     (λ c. search needs)
     returns)

@@ -16,23 +16,22 @@ returns : tie.Need-returns
 unfolding taken
 returns c =
     let t = c .before .before in
-    let start = t .before .before .before in
+    let at = t .before .before in
+    let start = at .before .before in
     let q = room start in
     added-is (start .args .s .now) (heldAt (start .args .place)) (start .args .role) (omega arith) (q .1)
-    (λ i. omega (arith, t .before .before .slice-known .given i))
+    (λ i. omega (arith, at .before .slice-known .given i))
     (t .add .last .0)
     (t .add .kept .0)
     (λ i. omega (arith, c .slice-known2 .given i))
-    (t .add .ensures)
+    (rw (at .place-at .ensures) at (t .add .ensures))
 
 pub hold-spec : {M : Type 1} → statement M
 hold-spec =
     tie.close
     (tie.spec
-    (λ c. omega (arith, room (c .before)))
-    (λ c. omega (arith, room (c .before)))
-    (λ c. omega (arith, room (c .before)))
-    (λ c. omega (arith, room (c .before)))
+    (λ c κs. room (c .before) .0 .place)
+    (λ c. search needs)
     (λ c κs. search needs)
     (λ c. search needs)
     returns)

@@ -38,7 +38,7 @@ cleared-requires : tie.Need-cleared-requires
 cleared-requires c κs =
     let t = c .before .before .before in
     let s = t .before .before .before .before .before .before in
-    user-known _ (s .sound .ensures) (t .before .before .before .before .before .if1 .left) _ (t .counted .ensures) (c .before .before .if4 .left)
+    user-known _ (s .sound .ensures) (t .before .before .before .before .before .if1 .left) _ (t .within-count .ensures) (c .before .before .if4 .left)
 
 pub open-number-spec : {M : Type 1} → statement M
 open-number-spec =

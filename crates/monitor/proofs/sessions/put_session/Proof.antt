@@ -12,7 +12,7 @@ room c = open-room _ _ _ _ (c .pre)
 
 returns : tie.Need-returns
 unfolding opened
-returns c = c .before .before .put .ensures
+returns c = rw (← c .before .before .before .before .before .place-at .ensures) (c .before .before .put .ensures)
 
 pub put-session-spec : {M : Type 1} → statement M
 put-session-spec =
@@ -24,10 +24,8 @@ put-session-spec =
     (λ c. search needs)
     (λ c. omega (arith, room (c .before)))
     (λ c. search needs)
-    (λ c. omega (arith, room (c .before)))
-    (λ c. omega (arith, room (c .before)))
-    (λ c. omega (arith, room (c .before)))
+    (λ c κs. room (c .before) .0 .place)
     (λ c. search needs)
-    (λ c κs. omega (arith, room (c .before .before .before)))
+    (λ c κs. omega (arith, room (c .before .before .before .before)))
     (λ c. search needs)
     returns)

@@ -29,14 +29,14 @@ entitled-at-requires : tie.Need-entitled-at-requires
 entitled-at-requires c κs =
     let t = c .before .before in
     let e = t .before .session-number .ensures in
-    (place-known _ _ e (t .if1 .left), role-known _ _ e (t .if1 .left) _ (c .before .counted .ensures) (c .if2 .left))
+    (place-known _ _ e (t .if1 .left), role-known _ _ e (t .if1 .left) _ (c .before .within-count .ensures) (c .if2 .left))
 
 fitting-at-requires : tie.Need-fitting-at-requires
 fitting-at-requires c κs =
     let d = c .before .before in
     let t = d .before .before in
     let e = t .before .session-number .ensures in
-    (place-known _ _ e (t .if1 .left), role-known _ _ e (t .if1 .left) _ (d .before .counted .ensures) (d .if2 .left))
+    (place-known _ _ e (t .if1 .left), role-known _ _ e (t .if1 .left) _ (d .before .within-count .ensures) (d .if2 .left))
 
 pub take-number-spec : {M : Type 1} → statement M
 take-number-spec =

@@ -9,9 +9,7 @@ use Rattle.monitor.proofs.state.in_use.Tie as tie
 
 returns : tie.Need-returns
 unfolding inUse
-returns c = ap (λ (n : ℕ). eqb n 1) (c .byte .ensures)
+returns c = rw (← c .before .place-at .ensures) (ap (λ (n : ℕ). eqb n 1) (c .byte .ensures))
 
 pub in-use-spec : {M : Type 1} → statement M
-in-use-spec =
-    tie.close
-    (tie.spec (λ c. search needs) (λ c. search needs) (λ c. search needs) (λ c κs. search needs) returns)
+in-use-spec = tie.close (tie.spec (λ c κs. search needs) (λ c κs. search needs) returns)

@@ -7,15 +7,13 @@ use Rattle.monitor.proofs.state.user_at.Tie as tie
 
 returns : tie.Need-returns
 unfolding userAt
-returns c = (cc, omega arith, omega arith)
+returns c = (rw (← c .before .place-at .ensures) cc, omega arith, omega arith)
 
 pub user-at-spec : {M : Type 1} → statement M
 user-at-spec =
     tie.close
     (tie.spec
-    (λ c. search needs)
-    (λ c. search needs)
-    (λ c. search needs)
+    (λ c κs. search needs)
     (λ c. search needs)
     (λ c κs. search needs)
     (λ c. search needs)

@@ -1,0 +1,10 @@
+-- By the count that it reads.
+use borrow.Author.Needs.{needs}
+use Rattle.monitor.proofs.state.within_count.Statement.{statement}
+use Rattle.monitor.proofs.state.within_count.Tie as tie
+
+returns : tie.Need-returns
+returns c = cc
+
+pub within-count-spec : {M : Type 1} → statement M
+within-count-spec = tie.close (tie.spec (λ c κs. search needs) (λ c κs. search needs) returns)
