@@ -14,10 +14,10 @@ use Rattle.order.specs.Closure.{Relation, path}
 use Rattle.order.specs.Table.{related, Tabled}
 use Rattle.order.proofs.Placing.{placing-left}
 use Rattle.order.proofs.Closure.{Agree, via-agree}
-use Rattle.text.specs.Text.{ascii, each}
-use Rattle.text.proofs.Each.{each-agree}
+use Rattle.text.specs.Text.{ascii}
+use Rattle.text.proofs.Each.{each-agree, each-pair-agree}
 use Rattle.policy.proofs.Flowing.{row-more}
-use Rattle.graph.specs.Graph.{past, direct, directFlow, node, orderLine, flowLine, nodes, orderLines, flowLines, rolesText}
+use Rattle.graph.specs.Graph.{past, direct, directFlow, node, orderArrow, flowArrow, nodes, orderArrows, flowArrows, rolesText}
 
 -- ---- a table that is made row by row: its next row, empty so far, is united with another
 
@@ -51,31 +51,29 @@ module _ (n : ℕ) where
   nodes-agree prefix p q h = each-agree n (λ a. node prefix (p a) a) (λ a. node prefix (q a) a) (λ a w. rw (h a w))
 
   module _ (d e : Relation) (h : Agree n n d e) where
-    line-agree : (prefix : List ℕ) (a b : ℕ) → Among n a → Among n b → orderLine prefix n d a b ≡ orderLine prefix n e a b
-    unfolding orderLine direct
+    line-agree : (prefix : List ℕ) (a b : ℕ) → Among n a → Among n b → orderArrow prefix n d a b ≡ orderArrow prefix n e a b
+    unfolding orderArrow direct
     line-agree prefix a b v w = rw (h a b v w, past-agree d e d e h h a b v w)
 
-    pub order-lines-agree : (prefix : List ℕ) → orderLines prefix n d ≡ orderLines prefix n e
-    order-lines-agree prefix =
-        each-agree n (λ a. each n (orderLine prefix n d a)) (λ a. each n (orderLine prefix n e a))
-        (λ a v. each-agree n (orderLine prefix n d a) (orderLine prefix n e a) (λ b w. line-agree prefix a b v w))
+    pub order-arrows-agree : (prefix : List ℕ) → orderArrows prefix n d ≡ orderArrows prefix n e
+    order-arrows-agree prefix =
+        each-pair-agree n (orderArrow prefix n d) (orderArrow prefix n e) (line-agree prefix)
 
   -- juniors, seniors, flow and its paths
   module _ (j k s t f g p q : Relation) (hj : Agree n n j k) (hs : Agree n n s t) (hf : Agree n n f g) (hp : Agree n n p q) where
-    flow-agree : (a b : ℕ) → Among n a → Among n b → flowLine n j s f p a b ≡ flowLine n k t g q a b
-    unfolding flowLine directFlow
+    flow-agree : (a b : ℕ) → Among n a → Among n b → flowArrow n j s f p a b ≡ flowArrow n k t g q a b
+    unfolding flowArrow directFlow
     flow-agree a b v w = rw (hf a b v w, past-agree j k f g hj hf a b v w, past-agree f g s t hf hs a b v w, hp b a w v)
 
-    flow-lines-agree : flowLines n j s f p ≡ flowLines n k t g q
-    flow-lines-agree =
-        each-agree n (λ a. each n (flowLine n j s f p a)) (λ a. each n (flowLine n k t g q a))
-        (λ a v. each-agree n (flowLine n j s f p a) (flowLine n k t g q a) (λ b w. flow-agree a b v w))
+    flow-arrows-agree : flowArrows n j s f p ≡ flowArrows n k t g q
+    flow-arrows-agree =
+        each-pair-agree n (flowArrow n j s f p) (flowArrow n k t g q) flow-agree
 
     pub roles-agree : rolesText n j s f p ≡ rolesText n k t g q
     unfolding rolesText
     roles-agree =
         rw (
           nodes-agree (ascii "r") (λ a. p a a) (λ a. q a a) (λ a w. hp a a w w),
-          order-lines-agree s t hs (ascii "r"),
-          flow-lines-agree,
+          order-arrows-agree s t hs (ascii "r"),
+          flow-arrows-agree,
         )

@@ -153,8 +153,8 @@ fn arrow(prefix: &[u8], a: u64, b: u64, out: &mut [u8], at: usize) -> usize
     text::number(out, used, b)
 }
 
-// Puts the line from a up to b, where there is one.
-fn order_line(
+// Puts the arrow from a up to b, where there is one.
+fn order_arrow(
     prefix: &[u8],
     t: &[u8],
     n: usize,
@@ -164,7 +164,7 @@ fn order_line(
     at: usize,
 ) -> usize
     requires { ⌜ (2048 ≤ length (now t)) × (n ≤ 128) × Among 128 a × (b ≤ 128) × (at ≤ length (now out)) ⌝ }
-    ensures { λ r. ⌜ Puts (graph.orderLine (now (prefix .entry)) n (related (now (t .entry)) 0) a b) at (now (out .entry)) r (now (out .exit)) ⌝ }
+    ensures { λ r. ⌜ Puts (graph.orderArrow (now (prefix .entry)) n (related (now (t .entry)) 0) a b) at (now (out .entry)) r (now (out .exit)) ⌝ }
 {
     if !direct(t, n, a, b) {
         return at;
@@ -173,36 +173,43 @@ fn order_line(
     text::put(out, used, b";\n")
 }
 
-// Puts the lines from a.
-fn order_lines_from(prefix: &[u8], t: &[u8], n: usize, a: usize, out: &mut [u8], at: usize) -> usize
+// Puts the arrows from a.
+fn order_arrows_from(
+    prefix: &[u8],
+    t: &[u8],
+    n: usize,
+    a: usize,
+    out: &mut [u8],
+    at: usize,
+) -> usize
     requires { ⌜ (2048 ≤ length (now t)) × (n ≤ 128) × Among 128 a × (at ≤ length (now out)) ⌝ }
-    ensures { λ r. ⌜ Puts (each n (graph.orderLine (now (prefix .entry)) n (related (now (t .entry)) 0) a)) at (now (out .entry)) r (now (out .exit)) ⌝ }
+    ensures { λ r. ⌜ Puts (each n (graph.orderArrow (now (prefix .entry)) n (related (now (t .entry)) 0) a)) at (now (out .entry)) r (now (out .exit)) ⌝ }
 {
     let mut used = at;
     let mut i = 0;
     while i < n {
-        used = order_line(prefix, t, n, a, i + 1, out, used);
+        used = order_arrow(prefix, t, n, a, i + 1, out, used);
         i += 1;
     }
     used
 }
 
-// Puts all lines of the table's relation.
-fn order_lines(prefix: &[u8], t: &[u8], n: usize, out: &mut [u8], at: usize) -> usize
+// Puts all arrows of the table's relation.
+fn order_arrows(prefix: &[u8], t: &[u8], n: usize, out: &mut [u8], at: usize) -> usize
     requires { ⌜ (2048 ≤ length (now t)) × (n ≤ 128) × (at ≤ length (now out)) ⌝ }
-    ensures { λ r. ⌜ Puts (graph.orderLines (now (prefix .entry)) n (related (now (t .entry)) 0)) at (now (out .entry)) r (now (out .exit)) ⌝ }
+    ensures { λ r. ⌜ Puts (graph.orderArrows (now (prefix .entry)) n (related (now (t .entry)) 0)) at (now (out .entry)) r (now (out .exit)) ⌝ }
 {
     let mut used = at;
     let mut i = 0;
     while i < n {
-        used = order_lines_from(prefix, t, n, i + 1, out, used);
+        used = order_arrows_from(prefix, t, n, i + 1, out, used);
         i += 1;
     }
     used
 }
 
-// Puts the line of the flow from role r to role q, where there is one, red where q leads back to r.
-fn flow_line(
+// Puts the arrow of the flow from role r to role q, where there is one, red where q leads back to r.
+fn flow_arrow(
     juniors: &[u8],
     seniors: &[u8],
     flow: &[u8],
@@ -214,7 +221,7 @@ fn flow_line(
     at: usize,
 ) -> usize
     requires { ⌜ graph.RoleTables (now juniors) (now seniors) (now flow) (now leads) × (n ≤ 128) × Among 128 r × Among 128 q × (at ≤ length (now out)) ⌝ }
-    ensures { λ x. ⌜ Puts (graph.flowLine n (related (now (juniors .entry)) 0) (related (now (seniors .entry)) 0) (related (now (flow .entry)) 0) (related (now (leads .entry)) 0) r q) at (now (out .entry)) x (now (out .exit)) ⌝ }
+    ensures { λ x. ⌜ Puts (graph.flowArrow n (related (now (juniors .entry)) 0) (related (now (seniors .entry)) 0) (related (now (flow .entry)) 0) (related (now (leads .entry)) 0) r q) at (now (out .entry)) x (now (out .exit)) ⌝ }
 {
     if !direct_flow(juniors, seniors, flow, n, r, q) {
         return at;
@@ -226,8 +233,8 @@ fn flow_line(
     text::put(out, used, b";\n")
 }
 
-// Puts the lines of the flows from role r.
-fn flow_lines_from(
+// Puts the arrows of the flows from role r.
+fn flow_arrows_from(
     juniors: &[u8],
     seniors: &[u8],
     flow: &[u8],
@@ -238,19 +245,19 @@ fn flow_lines_from(
     at: usize,
 ) -> usize
     requires { ⌜ graph.RoleTables (now juniors) (now seniors) (now flow) (now leads) × (n ≤ 128) × Among 128 r × (at ≤ length (now out)) ⌝ }
-    ensures { λ x. ⌜ Puts (each n (graph.flowLine n (related (now (juniors .entry)) 0) (related (now (seniors .entry)) 0) (related (now (flow .entry)) 0) (related (now (leads .entry)) 0) r)) at (now (out .entry)) x (now (out .exit)) ⌝ }
+    ensures { λ x. ⌜ Puts (each n (graph.flowArrow n (related (now (juniors .entry)) 0) (related (now (seniors .entry)) 0) (related (now (flow .entry)) 0) (related (now (leads .entry)) 0) r)) at (now (out .entry)) x (now (out .exit)) ⌝ }
 {
     let mut used = at;
     let mut i = 0;
     while i < n {
-        used = flow_line(juniors, seniors, flow, leads, n, r, i + 1, out, used);
+        used = flow_arrow(juniors, seniors, flow, leads, n, r, i + 1, out, used);
         i += 1;
     }
     used
 }
 
-// Puts the lines of all flows.
-fn flow_lines(
+// Puts the arrows of all flows.
+fn flow_arrows(
     juniors: &[u8],
     seniors: &[u8],
     flow: &[u8],
@@ -260,12 +267,12 @@ fn flow_lines(
     at: usize,
 ) -> usize
     requires { ⌜ graph.RoleTables (now juniors) (now seniors) (now flow) (now leads) × (n ≤ 128) × (at ≤ length (now out)) ⌝ }
-    ensures { λ x. ⌜ Puts (graph.flowLines n (related (now (juniors .entry)) 0) (related (now (seniors .entry)) 0) (related (now (flow .entry)) 0) (related (now (leads .entry)) 0)) at (now (out .entry)) x (now (out .exit)) ⌝ }
+    ensures { λ x. ⌜ Puts (graph.flowArrows n (related (now (juniors .entry)) 0) (related (now (seniors .entry)) 0) (related (now (flow .entry)) 0) (related (now (leads .entry)) 0)) at (now (out .entry)) x (now (out .exit)) ⌝ }
 {
     let mut used = at;
     let mut i = 0;
     while i < n {
-        used = flow_lines_from(juniors, seniors, flow, leads, n, i + 1, out, used);
+        used = flow_arrows_from(juniors, seniors, flow, leads, n, i + 1, out, used);
         i += 1;
     }
     used
@@ -283,7 +290,7 @@ fn labels_text(s: &[u8], out: &mut [u8], at: usize) -> usize
         b"  subgraph cluster_labels { label=\"labels\"; edge [arrowhead=none];\n",
     );
     used = nodes(b"l", &t, n, out, used);
-    used = order_lines(b"l", &t, n, out, used);
+    used = order_arrows(b"l", &t, n, out, used);
     text::put(out, used, b"  }\n")
 }
 
@@ -306,13 +313,13 @@ fn roles_by(
         b"  subgraph cluster_roles { label=\"roles\"; edge [arrowhead=none];\n",
     );
     used = nodes(b"r", leads, n, out, used);
-    used = order_lines(b"r", seniors, n, out, used);
+    used = order_arrows(b"r", seniors, n, out, used);
     used = text::put(
         out,
         used,
         b"    edge [arrowhead=normal, style=dashed, color=blue, constraint=false];\n",
     );
-    used = flow_lines(juniors, seniors, flow, leads, n, out, used);
+    used = flow_arrows(juniors, seniors, flow, leads, n, out, used);
     text::put(out, used, b"  }\n")
 }
 

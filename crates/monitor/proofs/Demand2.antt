@@ -168,7 +168,7 @@ same-state xs a b (reads p o k n) = refl
 same-state xs a b (writes p o k bytes) = refl
 
 -- the stores that the calls were lent do not bear on the state that they leave
-pub state-run : (cs : List Call) (xs a b : List ℕ) → run (record { state = xs; store = a }) cs .state ≡ run (record { state = xs; store = b }) cs .state
+state-run : (cs : List Call) (xs a b : List ℕ) → run (record { state = xs; store = a }) cs .state ≡ run (record { state = xs; store = b }) cs .state
 unfolding run
 state-run [] xs a b = refl
 state-run (c ∷ cs) xs a b =

@@ -85,7 +85,7 @@ module _ (xs : List ℕ) (at r : ℕ) (fits : at + 16 ≤ length xs) (w : Among 
       | no n ↦ sym (rw (ne-eqb q r n, and-false (among 128 r)) (or-false (member xs at q)))
     ]
 
-    pub added-again : member xs at r ≡ true → set xs i (bitOr (getD xs i 0) (2 ^ k)) ≡ xs
+    added-again : member xs at r ≡ true → set xs i (bitOr (getD xs i 0) (2 ^ k)) ≡ xs
     added-again h = sym (added-is xs refl xs-bytes (unwritten (λ l q. again h q)))
 
 -- "Taking a role already held, or dropping one not held, is done and changes nothing"

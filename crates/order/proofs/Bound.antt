@@ -57,7 +57,7 @@ module _ (n : ℕ) (ge : Relation) (s : ℕ → Bool) where
   unfolding lub least
   lub-is c l q = let low = first-lowest (isLeast n ge (upper n ge s)) n c l .0 q in isLub-iff c (low .inside) .0 (low .holds)
 
-  pub lub-exists : (lub n ge s ≡ 0 → ⊥) ↔ ((c : ℕ) × IsLub n ge s c)
+  lub-exists : (lub n ge s ≡ 0 → ⊥) ↔ ((c : ℕ) × IsLub n ge s c)
   lub-exists = (λ z. go (lub n ge s) refl z, λ (c, b) z. lub-none .0 z c b)
     where
       go : (c : ℕ) → lub n ge s ≡ c → (lub n ge s ≡ 0 → ⊥) → (c : ℕ) × IsLub n ge s c
@@ -206,7 +206,7 @@ module _ (n : ℕ) (f g : Relation) (h : Agree n n f g) where
   unfolding partnerWithoutBound withoutBound
   partnerWithoutBound-agree a = first-agree (withoutBound n f a) (withoutBound n g a) n (λ b w. rw (lub-agree (pair a b)))
 
-  pub lowest-without-agree : lowestWithoutBound n f ≡ lowestWithoutBound n g
+  lowest-without-agree : lowestWithoutBound n f ≡ lowestWithoutBound n g
   unfolding lowestWithoutBound
   lowest-without-agree = first-agree (λ a. ltb 0 (partnerWithoutBound n f a)) (λ a. ltb 0 (partnerWithoutBound n g a)) n (λ a w. rw (partnerWithoutBound-agree a))
 

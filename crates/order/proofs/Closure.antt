@@ -94,7 +94,7 @@ module _ (e : Relation) where
     complete {a} {b} p w here = single n a b p
     complete {a} {b} {c} p w (step q v r) = meeting n a b c w (single n a b p) (complete q v r)
 
-    pub path-iff : (a c : ℕ) → Among n c → (path n e a c ≡ true) ↔ Onto a c
+    path-iff : (a c : ℕ) → Among n c → (path n e a c ≡ true) ↔ Onto a c
     path-iff a c w = (sound n a c (omega arith) w, λ (b, v, p, r). complete p v r)
 
     -- the closure is what steps reach
@@ -114,13 +114,13 @@ module _ (e : Relation) where
     pub circle-misses : (a : ℕ) → Among n a → (path n e a a ≡ false) ↔ (OnCircle n e a → ⊥)
     circle-misses a w = (λ q c. both (circle-finds a w .1 c) q, λ h. untrue (path n e a a) (λ p. h (circle-finds a w .0 p)))
 
-    pub closure-reflexive : (a : ℕ) → Among n a → closure n e a a ≡ true
+    closure-reflexive : (a : ℕ) → Among n a → closure n e a a ≡ true
     closure-reflexive a w = closure-iff a a w .1 here
 
-    pub closure-transitive : (a b c : ℕ) → Among n b → Among n c → closure n e a b ≡ true → closure n e b c ≡ true → closure n e a c ≡ true
+    closure-transitive : (a b c : ℕ) → Among n b → Among n c → closure n e a b ≡ true → closure n e b c ≡ true → closure n e a c ≡ true
     closure-transitive a b c v w p q = closure-iff a c w .1 (onward (closure-iff a b v .0 p) (closure-iff b c w .0 q))
 
-    pub closure-step : (a b : ℕ) → Among n b → e a b ≡ true → closure n e a b ≡ true
+    closure-step : (a b : ℕ) → Among n b → e a b ≡ true → closure n e a b ≡ true
     closure-step a b w p = closure-iff a b w .1 (step p w here)
 
     same-or-path : (a b : ℕ) → closure n e a b ≡ true → (a ≡ b) ⊎ (path n e a b ≡ true)

@@ -20,10 +20,10 @@ use Rattle.order.proofs.Closure.{RowSet}
 
 -- what stands at thing a when v is stored at i
 module _ {A : Type 0} (d : A) (l : List A) (i : ℕ) (v : A) where
-  pub stored-own : i < length l → getD (set l i v) (i + 1 - 1) d ≡ v
+  stored-own : i < length l → getD (set l i v) (i + 1 - 1) d ≡ v
   stored-own h = rw (add-sub-cancel i 1) (getD-set-same l i v d h)
 
-  pub stored-other : (a : ℕ) → 1 ≤ a → (a ≡ i + 1 → ⊥) → getD (set l i v) (a - 1) d ≡ getD l (a - 1) d
+  stored-other : (a : ℕ) → 1 ≤ a → (a ≡ i + 1 → ⊥) → getD (set l i v) (a - 1) d ≡ getD l (a - 1) d
   stored-other a h ne = getD-set-other l i (a - 1) v d (λ e. ne (omega arith))
 
 -- s has the marks of f up to thing i

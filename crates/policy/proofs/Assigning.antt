@@ -42,7 +42,7 @@ tables-clean xs u r =
 -- ---- a level as it is kept: no label is 0 or 99
 
 module _ (n : ℕ) (ge : Relation) (s : ℕ → Bool) (few : n ≤ 32) where
-  pub defined-number : not (eqb (levelNumber (level n ge s)) 99) ≡ isDefined (level n ge s)
+  defined-number : not (eqb (levelNumber (level n ge s)) 99) ≡ isDefined (level n ge s)
   defined-number = go (level n ge s) (level-tells n ge s)
     where
       go : (l : Level) → Tells n ge s l → not (eqb (levelNumber l) 99) ≡ isDefined l
@@ -51,7 +51,7 @@ module _ (n : ℕ) (ge : Relation) (s : ℕ → Bool) (few : n ≤ 32) where
       go Undefined t = refl
 
   -- what a test of the number kept says, where it agrees with p on the labels
-  pub passes-number : (test p : ℕ → Bool) → test 99 ≡ false → ((l : ℕ) → Among n l → test l ≡ p l)
+  passes-number : (test p : ℕ → Bool) → test 99 ≡ false → ((l : ℕ) → Among n l → test l ≡ p l)
       → (eqb (levelNumber (level n ge s)) 0 || test (levelNumber (level n ge s))) ≡ passes p (level n ge s)
   passes-number test p none agree = go (level n ge s) (level-tells n ge s)
     where

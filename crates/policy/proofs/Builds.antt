@@ -62,13 +62,13 @@ module _ (f xs ys : List ℕ) where
   row-stays : (a b at : ℕ) → Same a b xs ys → a ≤ at → at + 16 ≤ b → (r : ℕ) → member ys at r ≡ member xs at r
   row-stays a b at s l m = same-bytes xs ys at at (λ k n. s (at + k) (omega arith) (omega arith))
 
-  pub labelled-stays : Same 1040 1808 xs ys → Labelled f xs → Labelled f ys
+  labelled-stays : Same 1040 1808 xs ys → Labelled f xs → Labelled f ys
   labelled-stays s t = record {
     users = λ u w. s (clearancesAt + (u - 1)) (omega arith) (omega arith) ∙ t .users u w;
     cards = λ o w. s (cardLabelsAt + (o - 1)) (omega arith) (omega arith) ∙ t .cards o w;
   }
 
-  pub dominating-stays : Same 16 1040 xs ys → Dominating f xs → Dominating f ys
+  dominating-stays : Same 16 1040 xs ys → Dominating f xs → Dominating f ys
   dominating-stays s t a b v w = s (markAt a b) (omega arith) (omega arith) ∙ t a b v w
 
   pub seniors-stay : Same 2064 4112 xs ys → Seniors f xs → Seniors f ys
@@ -80,7 +80,7 @@ module _ (f xs ys : List ℕ) where
     writers = λ o r v w. row-stays 12304 28688 (rowOf writersAt o) s (omega arith) (omega arith) r ∙ t .writers o r v w;
   }
 
-  pub levelled-stays : Same 1808 2064 xs ys → Levelled f xs → Levelled f ys
+  levelled-stays : Same 1808 2064 xs ys → Levelled f xs → Levelled f ys
   levelled-stays s t = record {
     reads = λ r w. s (rLevelsAt + (r - 1)) (omega arith) (omega arith) ∙ t .reads r w;
     writes = λ r w. s (wLevelsAt + (r - 1)) (omega arith) (omega arith) ∙ t .writes r w;

@@ -86,7 +86,7 @@ module _ (n : ℕ) (ge : Relation) where
 
 -- ---- 14 to 16
 
-abbrev pub AssignRefusal : List ℕ → ℕ → ℕ → Verdict → Type 0
+abbrev AssignRefusal : List ℕ → ℕ → ℕ → Verdict → Type 0
 AssignRefusal f u r v = (n : ℕ) × AssignRefused f u r n × (v ≡ refusal n u r)
 
 -- for line i, where it is an assignment

@@ -21,7 +21,7 @@ use Rattle.policy.specs.Tables.{byteOf, rowOf, cardLabelsAt, gathered}
 use Rattle.policy.proofs.Relating.{others-stay}
 
 -- what card o + 1 brings to the row of label l
-abbrev pub brings : List ℕ → ℕ → ℕ → ℕ → ℕ → Bool
+abbrev brings : List ℕ → ℕ → ℕ → ℕ → ℕ → Bool
 brings xs at o l r = eqb (byteOf xs cardLabelsAt (o + 1)) l && member xs (rowOf at (o + 1)) r
 
 module _ (xs : List ℕ) (at o label : ℕ) (e : label ≡ getD xs (cardLabelsAt + o) 0) where

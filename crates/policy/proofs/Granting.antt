@@ -74,7 +74,7 @@ module _ (f xs : List ℕ) (good : GoodLines f) (few : roles f ≤ 128) (seniors
   senior-row : (q r : ℕ) → Among (roles f) q → Among 128 r → (among 128 q && member xs (rowOf seniorsAt q) r) ≡ senior f r q
   senior-row q r v w = rw (among-iff 128 q .1 (omega arith), seniors q r (omega arith) w, le-leb q (roles f) (v .1))
 
-  pub may-is : (d o r : ℕ) → Among 128 r → grantedByLines xs (part f j) m d o r ≡ may f d r o
+  may-is : (d o r : ℕ) → Among 128 r → grantedByLines xs (part f j) m d o r ≡ may f d r o
   unfolding grantedByLines may
   may-is d o r w =
       some-agree
@@ -104,10 +104,10 @@ module _ (f xs : List ℕ) (good : GoodLines f) (few : roles f ≤ 128) (seniors
 
 -- ---- levels
 
-abbrev pub CardLabels : List ℕ → List ℕ → Type 0
+abbrev CardLabels : List ℕ → List ℕ → Type 0
 CardLabels f xs = (o : ℕ) → Among 512 o → byteOf xs cardLabelsAt o ≡ cardLabel f o
 
-pub may-at-is : (f xs : List ℕ) → cards f ≤ 512 → CardLabels f xs → (d at : ℕ) → Allows f d at xs
+may-at-is : (f xs : List ℕ) → cards f ≤ 512 → CardLabels f xs → (d at : ℕ) → Allows f d at xs
     → (l r : ℕ) → Among 128 r → gathered xs at (cards f) l r ≡ mayAt f d r l
 unfolding gathered mayAt
 may-at-is f xs few label d at allows l r w =
@@ -142,7 +142,7 @@ module _ (f : List ℕ) (between : Between (roles f) (above f)) (r : ℕ) (past 
 
 -- a table of levels: the roles' are stored, and the others stay 0
 module _ (f : List ℕ) (counts : GoodCounts (header f)) (between : Between (roles f) (above f)) (d at : ℕ) (ge le : Relation) (g xs ys : List ℕ) where
-  pub levels-are : Agree (labels f) (labels f) ge le
+  levels-are : Agree (labels f) (labels f) ge le
       → ((l r : ℕ) → Among 32 l → Among 128 r → member g (rowOf 0 l) r ≡ mayAt f d r l)
       → Bytes at (roles f) (λ r. levelNumber (level (labels f) ge (λ l. member g (rowOf 0 l) r))) xs ys
       → Zeros at (at + 128) xs

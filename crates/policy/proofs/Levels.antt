@@ -17,7 +17,7 @@ use Rattle.policy.specs.Policy.{Level, Free, Label, Undefined}
 use Rattle.policy.specs.Policy.{dominates, mayAt, levelAt, level, rLevel, wLevel, passes, isDefined}
 use Rattle.policy.specs.Accepted.{Some, UndefinedLevel, Passing, ReadsUnder, WritesOver}
 
-pub converse-order : {n : ℕ} {ge : Relation} → PartialOrder n ge → PartialOrder n (converse ge)
+converse-order : {n : ℕ} {ge : Relation} → PartialOrder n ge → PartialOrder n (converse ge)
 converse-order o = record {
   reflexive = o .reflexive;
   transitive = λ a b c u v w p q. o .transitive c b a w v u q p;
@@ -48,7 +48,7 @@ module _ (n : ℕ) (ge : Relation) (s : ℕ → Bool) where
   unfolding level
   level-undefined = (λ e. rw e at level-tells, λ (h, none). rw (some-iff s n .1 h, lub-none n ge s .1 none))
 
-  pub undefined-iff : (isDefined (level n ge s) ≡ false) ↔ UndefinedLevel n ge s
+  undefined-iff : (isDefined (level n ge s) ≡ false) ↔ UndefinedLevel n ge s
   undefined-iff = (go (level n ge s) level-tells, λ b. rw (level-undefined .1 b))
     where
       go : (l : Level) → Tells l → isDefined l ≡ false → UndefinedLevel n ge s

@@ -16,7 +16,7 @@ use Rattle.policy.proofs.Builds.{describes-stays}
 pub scratch-zeros : Zeros 0 65536 (replicate 65536 0)
 scratch-zeros i l m = getD-replicate 65536 i 0 0 m
 
-pub image-copied : (f xs ys zs : List ℕ) → Copied 65536 ys xs zs → Image f ys → Image f zs
+image-copied : (f xs ys zs : List ℕ) → Copied 65536 ys xs zs → Image f ys → Image f zs
 image-copied f xs ys zs c t = record {
   tables = describes-stays f ys zs (λ i l m. c .done i (omega arith)) (t .tables);
   unused = λ i out l. c .done i l ∙ t .unused i out l;

@@ -20,7 +20,7 @@ use Rattle.policy.specs.Tables.{dominanceAt, pairs, markAt}
 use Rattle.policy.proofs.Relating.{pairs-more, pairs-none}
 
 -- the table r is t with a mark for a over b
-abbrev pub WithPair : ℕ → ℕ → List (List Bool) → List (List Bool) → Type 0
+abbrev WithPair : ℕ → ℕ → List (List Bool) → List (List Bool) → Type 0
 WithPair a b t r = (x y : ℕ) → Among 32 x → Among 32 y → mark r x y ≡ (mark t x y || (eqb a x && eqb b y))
 
 -- a pair whose first is no label makes no mark

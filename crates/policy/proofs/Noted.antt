@@ -23,7 +23,7 @@ all-stored v w e = record {
 }
 
 -- thing y's byte when a label is noted for thing x
-abbrev pub afterNote : List ℕ → ℕ → ℕ → ℕ → ℕ → ℕ
+abbrev afterNote : List ℕ → ℕ → ℕ → ℕ → ℕ → ℕ
 afterNote xs at x label y = cond (eqb x y) (noted (byteOf xs at y) label) (byteOf xs at y)
 
 module _ (at size x label : ℕ) (xs : List ℕ) where

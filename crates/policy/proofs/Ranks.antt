@@ -61,14 +61,14 @@ module _ (f : List ℕ) (good : GoodLines f) {j m : ℕ} (s : Section f S j m) (
         ∙ via-agree (roles f) 128 (related ys seniorsAt) (converse (above f)) few (λ a b x y. direct a b (omega arith) y) (roles f) (omega arith) q r v w
         ∙ via-converse (above f) (roles f) q r
 
-    pub role-circle : loop (roles f) (related zs seniorsAt) ≡ circle (roles f) (above f)
+    role-circle : loop (roles f) (related zs seniorsAt) ≡ circle (roles f) (above f)
     role-circle = first-agree (λ a. related zs seniorsAt a a) (λ a. path (roles f) (above f) a a) (roles f) (λ a w. paths a a w (omega arith))
 
-    pub paths-kept : Kept 2064 4112 xs zs
+    paths-kept : Kept 2064 4112 xs zs
     paths-kept i out = pathed .rest i (λ l. let far = out l in omega arith) ∙ filled .rest i (λ l. let far = out l in omega arith)
 
     module _ (closed : Tabled seniorsAt (roles f) (reflexive (related zs seniorsAt)) zs ws) where
-      pub seniors-are : Seniors f ws
+      seniors-are : Seniors f ws
       unfolding senior
       seniors-are q r v w = elim (decLe q (roles f)) [
         | yes l ↦
@@ -82,16 +82,16 @@ module _ (f : List ℕ) (good : GoodLines f) {j m : ℕ} (s : Section f S j m) (
             ∙ untrue (above f r q) (λ e. let u = above-between f good r q e .1 in omega arith))
       ]
 
-      pub seniors-kept : Kept 2064 4112 xs ws
+      seniors-kept : Kept 2064 4112 xs ws
       seniors-kept i out = closed .rest i (λ l. let far = out l in omega arith) ∙ paths-kept i out
 
 -- ---- 13
 
-pub rank-refused : (f : List ℕ) (r : ℕ) → r ≡ circle (roles f) (above f) → (r ≡ 0 → ⊥) → refusal 13 r 0 ≡ roleVerdict f
+rank-refused : (f : List ℕ) (r : ℕ) → r ≡ circle (roles f) (above f) → (r ≡ 0 → ⊥) → refusal 13 r 0 ≡ roleVerdict f
 unfolding roleVerdict
 rank-refused f r e ne = rw (← e, ne-eqb r 0 ne)
 
-pub rank-fine : (f : List ℕ) (r : ℕ) → r ≡ circle (roles f) (above f) → r ≡ 0 → fine ≡ roleVerdict f
+rank-fine : (f : List ℕ) (r : ℕ) → r ≡ circle (roles f) (above f) → r ≡ 0 → fine ≡ roleVerdict f
 unfolding roleVerdict
 rank-fine f r e z = rw (← e, z)
 

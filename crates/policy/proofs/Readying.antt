@@ -25,13 +25,13 @@ module _ (f : List ℕ) (e : linesVerdict f .number ≡ 0) where
   unfolding linesVerdict
   both = then-zero (unless (sized f) (refusal 1 0 0) fine) (scan (lines f) (lineVerdict f)) .0 e
 
-  pub sized-of : Sized f
+  sized-of : Sized f
   sized-of = sized-iff f .0 (unless-zero (refusal 1 0 0) fine (sized f) (λ z. omega arith) .0 (both .0) .0)
 
   pub good-of : GoodLines f
   good-of k w = line-iff f k .0 (line-clean f k (scan-zero (lineVerdict f) (lines f) .0 (both .1) k w))
 
-  pub some-line : 1 ≤ lines f
+  some-line : 1 ≤ lines f
   some-line = let s = sized-of in omega (arith, s .some, s .whole)
 
   pub counts-of : GoodCounts (lineAt f 1)

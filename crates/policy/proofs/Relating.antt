@@ -27,7 +27,7 @@ module _ (at size x : ℕ) (s : ℕ → Bool) (xs ys : List ℕ) (p : Placed (ro
   pub others-stay : (y r : ℕ) → Among size y → (y ≡ x → ⊥) → member ys (rowOf at y) r ≡ member xs (rowOf at y) r
   others-stay y r v ne = row-kept xs ys (p .rest) (rowOf at y) r (rows-apart at x y (w .0) (v .0) ne)
 
-  pub rest-stays : Kept at (at + 16 * size) xs ys
+  rest-stays : Kept at (at + 16 * size) xs ys
   rest-stays i out = p .rest i (λ l. let far = out (omega arith) in omega arith)
 
 -- ---- a pair at a time
@@ -133,7 +133,7 @@ module _ (base other role card : ℕ) (xs ys : List ℕ) (fits : 28688 ≤ lengt
   base-kept l m i out = p .rest i (λ k. let far = out (omega arith) in omega arith)
 
 -- what one line grants
-abbrev pub lineGrants : List ℕ → ℕ → ℕ → ℕ → Said
+abbrev lineGrants : List ℕ → ℕ → ℕ → ℕ → Said
 lineGrants xs role card mode d o r = eqb card o && (eqb mode d && (among 128 role && member xs (rowOf seniorsAt role) r))
 
 module _ (role card mode : ℕ) (xs ys : List ℕ) (fits : 28688 ≤ length xs) (v : Among 128 role) (w : Among 512 card) where

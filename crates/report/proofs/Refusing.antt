@@ -9,7 +9,7 @@ use borrow.Author.Tests.{ltb-true}
 use Rattle.search.specs.Search.{among}
 use Rattle.search.proofs.Truth.{and-iff}
 use Rattle.rolefile.specs.Line.{start, lines, textAt}
-use Rattle.report.specs.Refusal.{formReason, policyReason, reason, lineRow, placeRows, reasonRow, fits, refusalText}
+use Rattle.report.specs.Refusal.{formReason, policyReason, reason, lineRow, placeRows, reasonRow, inFive, refusalText}
 use Rattle.rolefile.proofs.Decimals.{few-digits, padded-length}
 use Rattle.text.proofs.Lengths.{most, where-most}
 
@@ -36,9 +36,9 @@ reason-row-most n = simp length-append (omega (arith, reason-most n))
 pub refusal-fits : (f : List ℕ) (number first second : ℕ) → length (refusalText f number first second) ≤ 256
 unfolding refusalText
 refusal-fits f number first second =
-    where-most (fits number && (fits first && fits second)) (placeRows number first second ++ (reasonRow number ++ lineRow f number first)) (λ e.
-    let (n, rest) = and-iff (fits number) (fits first && fits second) .0 e in
-    let (a, b) = and-iff (fits first) (fits second) .0 rest in
+    where-most (inFive number && (inFive first && inFive second)) (placeRows number first second ++ (reasonRow number ++ lineRow f number first)) (λ e.
+    let (n, rest) = and-iff (inFive number) (inFive first && inFive second) .0 e in
+    let (a, b) = and-iff (inFive first) (inFive second) .0 rest in
     let l = ltb-true number 100000 n in
     let k = ltb-true first 100000 a in
     let m = ltb-true second 100000 b in

@@ -1,11 +1,11 @@
 -- What is told of a user fits a buffer of 304,200 bytes, and so does what is told of nobody. Assumes nothing.
 use Prim.Native.Nat.{ℕ, _+_, _*_, _-_, _≤_, _<_}
 use mathlib.Core.List.{List, [], _++_}
-use mathlib.Core.Bool.{Bool, true, false, cond}
+use mathlib.Core.Bool.{Bool}
 use native.Mathlib.Omega.{arith}
 use lib.ListN.{length, getD, length-append}
 use Rattle.search.specs.Search.{among, some}
-use Rattle.search.proofs.Truth.{among-iff}
+use Rattle.search.proofs.Truth.{among-iff, either}
 use Rattle.rolefile.specs.Decimal.{digits}
 use Rattle.policy.specs.Tables.{clearancesAt}
 use Rattle.rolefile.proofs.Decimals.{few-digits, padded-length}
@@ -15,7 +15,7 @@ use Rattle.monitor.proofs.Known.{few-labels, few-users}
 use Rattle.report.specs.declared.list.Listed.{Listed}
 use Rattle.report.specs.declared.list.Listed.the-variants.{Assigned, Inherited, Taken, Untaken, Read, Written, Unread}
 use Rattle.report.specs.Lists.{piece, pieces, ranges, sizeOf, listed, rangesOf}
-use Rattle.report.specs.Rights.{row, head, noRole, clearanceLine, userLines, listsBy, labelLines, labelsLines, userText, anyoneTakes, nobodyText}
+use Rattle.report.specs.Rights.{listRow, head, noRole, clearanceLine, userLines, listsBy, labelLines, labelsLines, userText, anyoneTakes, nobodyText}
 use Rattle.report.proofs.Few.{few}
 use Rattle.text.proofs.Each.{each-most}
 use Rattle.text.proofs.Lengths.{one-most, where-most}
@@ -39,8 +39,8 @@ module _ (xs : List ℕ) where
   unfolding rangesOf
   list-most list u held = ranges-most (listed xs list u held) (sizeOf xs list) (few xs list)
 
-  row-most : (head : List ℕ) (list : Listed) (u : ℕ) (held : ℕ → Bool) → length head ≤ 22 → length (row head (rangesOf xs list u held)) ≤ 3095
-  unfolding row
+  row-most : (head : List ℕ) (list : Listed) (u : ℕ) (held : ℕ → Bool) → length head ≤ 22 → length (listRow head (rangesOf xs list u held)) ≤ 3095
+  unfolding listRow
   row-most head list u held l = simp length-append (omega (arith, list-most list u held))
 
   by-most : (held : ℕ → Bool) → length (listsBy xs held) ≤ 9285
@@ -94,8 +94,6 @@ module _ (xs : List ℕ) where
   -- a clearance is a byte
   pub clearance-byte : ((i : ℕ) → getD xs i 0 < 256) → (u : ℕ) → clearanceOf xs u < 100000
   unfolding clearanceOf
-  clearance-byte bytes u = small (isUser xs u) (bytes (clearancesAt + (u - 1)))
-    where
-      small : (b : Bool) {v : ℕ} → v < 256 → cond b v 0 < 100000
-      small true l = omega arith
-      small false l = omega arith
+  clearance-byte bytes u =
+      let byte = bytes (clearancesAt + (u - 1)) in
+      either (λ (v : ℕ). v < 100000) (isUser xs u) _ 0 (omega arith) (omega arith)

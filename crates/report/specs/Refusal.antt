@@ -58,10 +58,10 @@ unfoldable pub reasonRow : ℕ → List ℕ
 reasonRow number = ascii "            reason     " ++ (reason number ++ ascii "\n")
 
 -- five columns hold the number, as they hold each of a verdict's
-abbrev pub fits : ℕ → Bool
-fits n = ltb n 100000
+abbrev pub inFive : ℕ → Bool
+inFive n = ltb n 100000
 
 -- the report on file f, refused with a number and the two numbers of its place
 unfoldable pub refusalText : List ℕ → ℕ → ℕ → ℕ → List ℕ
 refusalText f number first second =
-    cond (fits number && (fits first && fits second)) (placeRows number first second ++ (reasonRow number ++ lineRow f number first)) []
+    cond (inFive number && (inFive first && inFive second)) (placeRows number first second ++ (reasonRow number ++ lineRow f number first)) []

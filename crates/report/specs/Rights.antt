@@ -19,8 +19,8 @@ use Rattle.report.specs.declared.list.Listed.the-variants.{Assigned, Inh
 use Rattle.report.specs.Lists.{rangesOf}
 
 -- a line: what it begins with, and a list
-unfoldable pub row : List ℕ → List ℕ → List ℕ
-row head list = head ++ (list ++ ascii "\n")
+unfoldable pub listRow : List ℕ → List ℕ → List ℕ
+listRow head list = head ++ (list ++ ascii "\n")
 
 -- a word of five letters and the number of a user or a label in five columns
 unfoldable pub head : List ℕ → ℕ → List ℕ
@@ -37,15 +37,15 @@ noRole r = false
 unfoldable pub userLines : List ℕ → ℕ → List ℕ
 userLines xs u =
     clearanceLine xs u
-    ++ (row (ascii "            assigned  ") (rangesOf xs Assigned u noRole)
-    ++ row (ascii "            inherited ") (rangesOf xs Inherited u noRole))
+    ++ (listRow (ascii "            assigned  ") (rangesOf xs Assigned u noRole)
+    ++ listRow (ascii "            inherited ") (rangesOf xs Inherited u noRole))
 
 -- the roles of a set, and the cards that it lets be read and written
 unfoldable pub listsBy : List ℕ → (ℕ → Bool) → List ℕ
 listsBy xs held =
-    row (ascii "  takes     ") (rangesOf xs Taken 0 held)
-    ++ (row (ascii "            reads     ") (rangesOf xs Read 0 held)
-    ++ row (ascii "            writes    ") (rangesOf xs Written 0 held))
+    listRow (ascii "  takes     ") (rangesOf xs Taken 0 held)
+    ++ (listRow (ascii "            reads     ") (rangesOf xs Read 0 held)
+    ++ listRow (ascii "            writes    ") (rangesOf xs Written 0 held))
 
 -- at a label that the clearance dominates, by the roles that may be taken there
 unfoldable pub labelLines : List ℕ → ℕ → ℕ → List ℕ
@@ -66,5 +66,5 @@ anyoneTakes xs r = some (knownUsers xs) (λ u. some (knownLabels xs) (λ l. mayT
 -- the roles that nobody can take, and the cards that nobody can read
 unfoldable pub nobodyText : List ℕ → List ℕ
 nobodyText xs =
-    row (ascii "no user     takes     ") (rangesOf xs Untaken 0 (anyoneTakes xs))
-    ++ row (ascii "            reads     ") (rangesOf xs Unread 0 (anyoneTakes xs))
+    listRow (ascii "no user     takes     ") (rangesOf xs Untaken 0 (anyoneTakes xs))
+    ++ listRow (ascii "            reads     ") (rangesOf xs Unread 0 (anyoneTakes xs))

@@ -8,7 +8,7 @@ ghost use Rattle.search.specs.Search.{some};
 ghost use Rattle.roleset.specs.Row.{member};
 ghost use Rattle.text.specs.Text.{Puts};
 ghost use Rattle.report.specs.Lists as lists;
-ghost use Rattle.report.specs.Rights.{row};
+ghost use Rattle.report.specs.Rights.{listRow};
 
 // The lists of the report: the roles assigned to a user and those inherited through them; and of
 // a set of roles, those in it and those not, the cards that it lets be read, those that it lets be
@@ -141,7 +141,7 @@ fn ranges(s: &[u8], list: Listed, user: u64, roles: [u8; 16], out: &mut [u8], at
 }
 
 // Puts a line: what it begins with, and a list.
-pub fn row(
+pub fn list_row(
     head: &[u8],
     s: &[u8],
     list: Listed,
@@ -150,7 +150,7 @@ pub fn row(
     out: &mut [u8],
     at: usize,
 ) -> usize
-    ensures { λ r. ⌜ Puts (row (now (head .entry)) (lists.rangesOf (now (s .entry)) list user (member roles 0))) at (now (out .entry)) r (now (out .exit)) ⌝ }
+    ensures { λ r. ⌜ Puts (listRow (now (head .entry)) (lists.rangesOf (now (s .entry)) list user (member roles 0))) at (now (out .entry)) r (now (out .exit)) ⌝ }
 {
     let started = text::put(out, at, head);
     let listed = ranges(s, list, user, roles, out, started);

@@ -127,8 +127,7 @@ fn line_row(file: &[u8], number: u64, k: u64, out: &mut [u8], at: usize) -> usiz
         return at;
     }
     let mut used = text::put(out, at, b"line ");
-    let field = text::columns(true, k);
-    used = text::put(out, used, &field);
+    used = text::field(out, used, true, k);
     used = text::put(out, used, b"  text       ");
     used = bytes_shown(rolefile::read::text(file, k as usize), out, used);
     text::put(out, used, b"\n")

@@ -1,6 +1,6 @@
 // What a user ends up with, and what nobody does.
 use super::list::Listed;
-use super::list::row;
+use super::list::list_row;
 ghost use mathlib.Core.Path.{_≡_};
 ghost use Prim.Native.Nat.{ℕ, _≤_, _<_};
 ghost use lib.ListN.{length, take};
@@ -15,9 +15,8 @@ fn head(word: &[u8], n: u64, out: &mut [u8], at: usize) -> usize
     requires { ⌜ n < 100000 ⌝ }
     ensures { λ r. ⌜ Puts (rights.head (now (word .entry)) n) at (now (out .entry)) r (now (out .exit)) ⌝ }
 {
-    let columns = text::columns(true, n);
     let end = text::put(out, at, word);
-    text::put(out, end, &columns)
+    text::field(out, end, true, n)
 }
 
 // Puts the line of a user's clearance.
@@ -38,7 +37,7 @@ fn user_lines(s: &[u8], user: u64, out: &mut [u8], at: usize) -> usize
 {
     let held = [0u8; 16];
     let cleared = clearance_line(s, user, out, at);
-    let assigned = row(
+    let assigned = list_row(
         b"            assigned  ",
         s,
         Listed::Assigned,
@@ -47,7 +46,7 @@ fn user_lines(s: &[u8], user: u64, out: &mut [u8], at: usize) -> usize
         out,
         cleared,
     );
-    row(
+    list_row(
         b"            inherited ",
         s,
         Listed::Inherited,
@@ -62,8 +61,8 @@ fn user_lines(s: &[u8], user: u64, out: &mut [u8], at: usize) -> usize
 fn lists_by(s: &[u8], roles: [u8; 16], out: &mut [u8], at: usize) -> usize
     ensures { λ r. ⌜ Puts (rights.listsBy (now (s .entry)) (member roles 0)) at (now (out .entry)) r (now (out .exit)) ⌝ }
 {
-    let taken = row(b"  takes     ", s, Listed::Taken, 0, roles, out, at);
-    let read = row(
+    let taken = list_row(b"  takes     ", s, Listed::Taken, 0, roles, out, at);
+    let read = list_row(
         b"            reads     ",
         s,
         Listed::Read,
@@ -72,7 +71,7 @@ fn lists_by(s: &[u8], roles: [u8; 16], out: &mut [u8], at: usize) -> usize
         out,
         taken,
     );
-    row(
+    list_row(
         b"            writes    ",
         s,
         Listed::Written,
@@ -168,7 +167,7 @@ pub fn nobody_text(s: &[u8], out: &mut [u8]) -> usize
     ensures { λ r. ⌜ (304200 ≤ length (now (out .entry)) → take r (now (out .exit)) ≡ rights.nobodyText (now (s .entry))) ⌝ }
 {
     let roles = roles_of_all(s);
-    let taken = row(
+    let taken = list_row(
         b"no user     takes     ",
         s,
         Listed::Untaken,
@@ -177,7 +176,7 @@ pub fn nobody_text(s: &[u8], out: &mut [u8]) -> usize
         out,
         0,
     );
-    row(
+    list_row(
         b"            reads     ",
         s,
         Listed::Unread,

@@ -1,4 +1,4 @@
--- What the program is asked: a user by a decimal number of one to five digits, the picture by the word `dot`. Assumes nothing.
+-- What the program is asked: a user by a decimal number of one to five digits, the graph by the word `dot`. Assumes nothing.
 use Prim.Native.Nat.{ℕ, zero, suc, _+_, _-_, _*_}
 use mathlib.Core.List.{List}
 use mathlib.Core.Bool.{Bool, true, false, _&&_, cond}
@@ -27,7 +27,7 @@ userAsked xs t = cond (leb (numeral t) (knownUsers xs)) (numeral t) 0
 unfoldable pub isDot : List ℕ → Bool
 isDot t = eqb (length t) 3 && (eqb (getD t 0 0) 100 && (eqb (getD t 1 0) 111 && eqb (getD t 2 0) 116))
 
--- what so many arguments ask, the program's name among them: the picture of a file by `dot FILE`, the rights of its users by `FILE` and any users
+-- what so many arguments ask, the program's name among them: the graph of a file by `dot FILE`, the rights of its users by `FILE` and any users
 unfoldable pub asked : ℕ → List ℕ → Request
 asked count first = cond (isDot first) (cond (eqb count 3) (Of 2 true) Usage) (cond (leb 2 count) (Of 1 false) Usage)
 

@@ -4,7 +4,7 @@ ghost use mathlib.Core.Path.{_≡_};
 ghost use Prim.Native.Nat.{_<_};
 ghost use Rattle.rights.specs.Arguments as arguments;
 
-// The usage; or of the file that argument `file` names the picture, where `drawn`, or its users' rights.
+// The usage; or of the file that argument `file` names the graph, where `drawn`, or its users' rights.
 pub enum Request {
     Usage,
     Of { file: usize, drawn: bool },
@@ -40,7 +40,7 @@ fn user_asked(s: &[u8], t: &[u8]) -> u64
     user
 }
 
-// Whether the text is the word that asks for the picture.
+// Whether the text is the word that asks for the graph.
 fn is_dot(t: &[u8]) -> bool
     ensures { λ r. ⌜ r ≡ arguments.isDot (now (t .entry)) ⌝ }
 {

@@ -21,8 +21,8 @@ use Rattle.policy.proofs.Levels.{Tells, level-tells}
 use Rattle.policy.proofs.Meaning.{counts-known}
 use Rattle.policy.proofs.Outcomes.{accepted-iff}
 use Rattle.text.proofs.Lengths.{where-most}
-use Rattle.text.proofs.Each.{each-most}
-use Rattle.rolecheck.specs.Report.{line, roleLine, roleLines, flowLine, flowsFrom, flowLines, policyLines, fileLines, report}
+use Rattle.text.proofs.Each.{each-most, each-pair-most}
+use Rattle.rolecheck.specs.Report.{line, roleLine, roleLines, flowLine, flowLines, policyLines, fileLines, report}
 use Rattle.rolecheck.proofs.Places.{verdict-written}
 
 module _ (letter used a b c : ℕ) (p : a < 100000) (q : b < 100000) (r : c < 100000) where
@@ -44,8 +44,7 @@ module _ (flow : Relation) where
 
   flow-lines-most : (n : ℕ) → n ≤ 128 → length (flowLines flow n) ≤ n * 2816
   flow-lines-most n l =
-      each-most n 2816 (flowsFrom flow n) (λ r v.
-      omega (arith, each-most n 22 (flowLine flow r) (λ q w. flow-line-length r q (omega arith) (omega arith))))
+      each-pair-most n 128 22 (flowLine flow) l (λ r q v w. flow-line-length r q (omega arith) (omega arith))
 
 -- ---- of a file
 

@@ -39,7 +39,7 @@ line-of-few k end p q r s a b c d =
     (record { a = a; b = b; c = c; d = d })
     (record { a = omega arith; b = omega arith; c = omega arith; d = omega arith })
 
-pub line-few : (f : List ℕ) (k : ℕ) → Few (lineAt f k)
+line-few : (f : List ℕ) (k : ℕ) → Few (lineAt f k)
 unfolding lineAt
 line-few f k =
     line-of-few _ _ _ _ _ _ (value-few f (start k + 1)) (value-few f (start k + 6)) (value-few f (start k + 11)) (value-few f (start k + 16))

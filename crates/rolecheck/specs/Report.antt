@@ -7,7 +7,7 @@ use lib.Dec.{leb, eqb}
 use Rattle.order.specs.Closure.{Relation}
 use Rattle.rolefile.specs.Said.{roles}
 use Rattle.rolefile.specs.Decimal.{blanks, columnsOf}
-use Rattle.text.specs.Text.{each}
+use Rattle.text.specs.Text.{each, eachPair}
 use Rattle.policy.specs.Policy.{rLevel, wLevel, levelNumber}
 use Rattle.policy.specs.Verdict.{verdict}
 use Rattle.policy.specs.Flow.{flows, flowCircle}
@@ -37,7 +37,7 @@ flowsFrom flow n from = each n (flowLine flow from)
 
 -- those of the first n roles
 abbrev pub flowLines : Relation → ℕ → List ℕ
-flowLines flow n = each n (flowsFrom flow n)
+flowLines flow n = eachPair n (flowLine flow)
 
 -- those of n roles, and the line C; 67 is the byte of C
 unfoldable pub policyLines : ℕ → (ℕ → ℕ) → (ℕ → ℕ) → Relation → ℕ → List ℕ

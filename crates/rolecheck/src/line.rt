@@ -1,17 +1,7 @@
 // The lines of the report: 22 bytes each, in the form of a role file's.
 ghost use Prim.Native.Nat.{_<_};
-ghost use Rattle.rolefile.specs.Decimal.{columnsOf};
 ghost use Rattle.text.specs.Text.{Puts};
 ghost use Rattle.rolecheck.specs.Report.{line};
-
-// Puts the five columns of a number, or blanks for a field without use, as `text::put` does.
-fn field(out: &mut [u8], at: usize, used: bool, n: u64) -> usize
-    requires { ⌜ n < 100000 ⌝ }
-    ensures { λ r. ⌜ Puts (columnsOf used n) at (now (out .entry)) r (now (out .exit)) ⌝ }
-{
-    let columns = text::columns(used, n);
-    text::put(out, at, &columns)
-}
 
 // Puts the line of a letter and as many of three numbers as are in use.
 pub fn line(out: &mut [u8], at: usize, letter: u8, used: u64, a: u64, b: u64, c: u64) -> usize
@@ -20,8 +10,8 @@ pub fn line(out: &mut [u8], at: usize, letter: u8, used: u64, a: u64, b: u64, c:
 {
     let letters = [letter];
     let mut end = text::put(out, at, &letters);
-    end = field(out, end, 1 <= used, a);
-    end = field(out, end, 2 <= used, b);
-    end = field(out, end, 3 <= used, c);
+    end = text::field(out, end, 1 <= used, a);
+    end = text::field(out, end, 2 <= used, b);
+    end = text::field(out, end, 3 <= used, c);
     text::put(out, end, b"     \n")
 }

@@ -20,7 +20,7 @@ pub asks : {M : Type 1} {𝓤 : URA M} {H : Heap 𝓤} {A : Atoms 𝓤} (W : Giv
 asks W P = qed W (raw P ∷ []) ∵ frame ! $ done !
 
 module _ (T : Ended) (κs : Lfts (T .signature .lifetimes)) where
-  abbrev pub Result : RattleType
+  abbrev Result : RattleType
   Result = typeAt (T .signature .result) κs
 
 module _ {M : Type 1} {𝓤 : URA M} {H : Heap 𝓤} {A : Atoms 𝓤} {W : Given 𝓤 H A} {Γ : List (Item 𝓤)} {G : Goal 𝓤 H} where

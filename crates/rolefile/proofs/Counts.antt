@@ -11,7 +11,7 @@ use Rattle.rolefile.specs.Form.{count}
 
 module _ (p : ℕ → Bool) where
   -- p holds of a alone
-  abbrev pub Alone : ℕ → ℕ → Type 0
+  abbrev Alone : ℕ → ℕ → Type 0
   Alone n a = Among n a × (p a ≡ true) × ((i : ℕ) → Among n i → p i ≡ true → i ≡ a)
 
   count-none : (n : ℕ) → (count n p ≡ 0) ↔ None p n

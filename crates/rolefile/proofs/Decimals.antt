@@ -127,13 +127,13 @@ unfolding columns column
 blanks-read zero = refl
 blanks-read (suc k) = blanks-read k
 
-pub first-read : (n : ℕ) → n < 10 → column Blank (48 + n) ≡ Number n
+first-read : (n : ℕ) → n < 10 → column Blank (48 + n) ≡ Number n
 unfolding column
 first-read n l =
     let whole : 48 + n - 48 ≡ n = omega arith in
     rw (ne-eqb (48 + n) 32 (omega arith), isDigit-iff (48 + n) .1 (omega arith), whole)
 
-pub next-read : (n : ℕ) → 10 ≤ n → n < 100000 → column (Number (n / 10)) (48 + n % 10) ≡ Number n
+next-read : (n : ℕ) → 10 ≤ n → n < 100000 → column (Number (n / 10)) (48 + n % 10) ≡ Number n
 unfolding column
 next-read n l m =
     let whole : 10 * (n / 10) + (48 + n % 10 - 48) ≡ n = omega arith in

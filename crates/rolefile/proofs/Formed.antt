@@ -60,7 +60,7 @@ sized-iff f =
 
 -- ---- 2 to 5
 
-pub counts-fit-iff : (h : Line) → (countsFit h ≡ true) ↔ GoodCounts h
+counts-fit-iff : (h : Line) → (countsFit h ≡ true) ↔ GoodCounts h
 unfolding countsFit
 counts-fit-iff h =
     let t = and-both (among-iff 32 (h .a)) (and-both (leb-iff (h .b) 128) (and-both (leb-iff (h .c) 256) (leb-iff (h .d) 512))) in (
@@ -68,7 +68,7 @@ counts-fit-iff h =
       λ g. t .1 (g .labels, (g .roles, (g .users, g .cards))),
     )
 
-pub ranged-iff : (h l : Line) → (ranged h l ≡ true) ↔ GoodNumbers h l
+ranged-iff : (h l : Line) → (ranged h l ≡ true) ↔ GoodNumbers h l
 unfolding ranged
 ranged-iff h l =
     let one = among-iff (firstLimit h (l .letter)) (l .a) in
@@ -81,7 +81,7 @@ ranged-iff h l =
 before-iff : (x y : ℕ) {t : Bool} {R : Type 0} → ((t ≡ true) ↔ R) → (before x y t ≡ true) ↔ Before x y R
 before-iff x y h = or-both (ltb-iff x y) (and-both (eqb-iff x y) h)
 
-pub rises-iff : (p l : Line) → (rises p l ≡ true) ↔ Rises p l
+rises-iff : (p l : Line) → (rises p l ≡ true) ↔ Rises p l
 unfolding rises
 rises-iff p l = before-iff (p .letter) (l .letter) (before-iff (p .a) (l .a) (before-iff (p .b) (l .b) (ltb-iff (p .c) (l .c))))
 
@@ -112,7 +112,7 @@ body-decides h p k l =
     test-decides (rises-iff p l) (refusal 5 k 0) (omega arith))))
     (λ (e, (n, r)). record { letter = e; numbers = n; order = r }, λ g. (g .letter, (g .numbers, g .order)))
 
-abbrev pub LineRefusal : List ℕ → ℕ → Verdict → Type 0
+abbrev LineRefusal : List ℕ → ℕ → Verdict → Type 0
 LineRefusal f k x = (n : ℕ) × LineRefused f k n × (x ≡ refusal n k 0)
 
 module _ (f : List ℕ) (k : ℕ) where
@@ -135,7 +135,7 @@ module _ (f : List ℕ) (k : ℕ) where
   refusing (badNumbers i l h) = inr (i, inr (l, inl (h, refl)))
   refusing (unordered i l g h) = inr (i, inr (l, inr (g, (h, refl))))
 
-  pub line-decides : Decides (lineVerdict f k) (GoodLine f k) (LineRefusal f k)
+  line-decides : Decides (lineVerdict f k) (GoodLine f k) (LineRefusal f k)
   unfolding lineVerdict
   line-decides =
       decides-as
@@ -156,14 +156,14 @@ line-clean f k = decides-clean (line-decides f k)
 -- ---- 6
 
 module _ (f : List ℕ) (k : ℕ) where
-  pub one-iff : (x : ℕ) → (eqb (count (lines f) (about f k x)) 1 ≡ true) ↔ One f k x
+  one-iff : (x : ℕ) → (eqb (count (lines f) (about f k x)) 1 ≡ true) ↔ One f k x
   one-iff x =
       let t = count-one (about f k x) (lines f) in (
         λ e. let (i, (w, h, o)) = t .0 (eqb-true (count (lines f) (about f k x)) 1 e) in record { line = i; inside = w; tells = h; only = o },
         λ o. eq-eqb (count (lines f) (about f k x)) 1 (t .1 (o .line, (o .inside, o .tells, o .only))),
       )
 
-  pub unlabelled-decides : (n place : ℕ) → Decides (found (unlabelled f k n) (refusal 6 place (unlabelled f k n)))
+  unlabelled-decides : (n place : ℕ) → Decides (found (unlabelled f k n) (refusal 6 place (unlabelled f k n)))
       (OneEach f k n) (λ v. (x : ℕ) × LowestUnlabelled f k n x × (v ≡ refusal 6 place x))
   unfolding unlabelled
   unlabelled-decides n place = search-decides n bad none has hasNot (refusal 6 place) (λ x. omega arith)

@@ -39,7 +39,7 @@ abbrev pub held-laws : (κs : Lfts 1) → LL.Laws (held κs)
 held-laws κs = T′.the-laws (namedLft 1 0 tt κs)
 
 -- the machine values of a reader's file and number
-abbrev pub fileVal : Reader → Val
+abbrev fileVal : Reader → Val
 fileVal d = sliceVal (d .file .ptr) (length (d .file .now))
 
 abbrev pub partVals : Reader → List Val × (List Val × Unit {0})

@@ -75,7 +75,7 @@ module _ (f : List ℕ) (good : GoodLines f) where
       let before : suc i - 1 ≡ i = omega arith in
       ⊎-elim (λ h. omega arith) (λ h. omega arith) (rw before at (good (suc i) w .body (λ e. omega arith) .order))
 
-  pub letters-rise : (i j : ℕ) → Among (lines f) i → Among (lines f) j → i ≤ j → lineAt f i .letter ≤ lineAt f j .letter
+  letters-rise : (i j : ℕ) → Among (lines f) i → Among (lines f) j → i ≤ j → lineAt f i .letter ≤ lineAt f j .letter
   letters-rise i j v w l =
       let e : i + (j - i) ≡ j = omega arith in
       rw e at (go (j - i) (omega arith))

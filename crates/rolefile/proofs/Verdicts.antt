@@ -65,7 +65,7 @@ module _ (v : ℕ → Verdict) where
   )
 
   -- the refusal of the lowest k that refuses
-  pub scan-first : (n k : ℕ) → Among n k → Refuses (v k) → ((j : ℕ) → Among n j → j < k → v j .number ≡ 0) → scan n v ≡ v k
+  scan-first : (n k : ℕ) → Among n k → Refuses (v k) → ((j : ℕ) → Among n j → j < k → v j .number ≡ 0) → scan n v ≡ v k
   unfolding scan
   scan-first zero k w h low = absurd (omega arith)
   scan-first (suc n) k w h low =

@@ -47,7 +47,7 @@ module _ (f : ℕ → ℕ → ℕ) (g : Bool → Bool → Bool)
 pub bit-or : (x y j : ℕ) → bit (bitOr x y) j ≡ (bit x j || bit y j)
 bit-or = each-bit bitOr _||_ or-shr or-mod refl refl refl refl
 
-pub bit-and : (x y j : ℕ) → bit (bitAnd x y) j ≡ (bit x j && bit y j)
+bit-and : (x y j : ℕ) → bit (bitAnd x y) j ≡ (bit x j && bit y j)
 bit-and = each-bit bitAnd _&&_ and-shr and-mod refl refl refl refl
 
 bit-xor : (x y j : ℕ) → bit (bitXor x y) j ≡ cond (bit y j) (not (bit x j)) (bit x j)

@@ -34,7 +34,7 @@ module _ (xs : List ℕ) (at : ℕ) where
   member-role r e = among-iff 128 r .0 (and-iff (among 128 r) _ .0 e .0)
 
   -- a row whose bytes are known
-  pub member-of : (f : ℕ → ℕ) → ((k : ℕ) → k < 16 → getD xs (at + k) 0 ≡ f k)
+  member-of : (f : ℕ → ℕ) → ((k : ℕ) → k < 16 → getD xs (at + k) 0 ≡ f k)
       → (r : ℕ) → member xs at r ≡ (among 128 r && bit (f (byteOf r)) (bitOf r))
   unfolding member
   member-of f h r =
@@ -142,7 +142,7 @@ module _ (xs : List ℕ) (at role byte : ℕ) (b : Bool) (fits : at + 16 ≤ len
     | no i ↦ rw (getD-set-other xs (at + byteOf role) (at + byteOf r) byte 0 (λ j. i (omega arith)))
   ])
 
-  pub one-written : {s : ℕ → Bool} → b ≡ s role → ((r : ℕ) → (r ≡ role → ⊥) → member xs at r ≡ s r)
+  one-written : {s : ℕ → Bool} → b ≡ s role → ((r : ℕ) → (r ≡ role → ⊥) → member xs at r ≡ s r)
       → Placed at s xs (set xs (at + byteOf role) byte)
   one-written e h = record {
     row = λ l r. elim (ℕ-discrete r role) [ yes i ↦ rw i (here ∙ e) | no i ↦ there r i ∙ h r i ];

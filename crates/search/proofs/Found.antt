@@ -59,11 +59,11 @@ module _ (p : ℕ → Bool) where
   )
 
   -- what `first` answers: 0 where there is none, else the lowest
-  abbrev pub Finds : ℕ → ℕ → Type 0
+  abbrev Finds : ℕ → ℕ → Type 0
   Finds n zero = None n
   Finds n (suc a) = Lowest n p (suc a)
 
-  pub first-finds : (n : ℕ) → Finds n (first n p)
+  first-finds : (n : ℕ) → Finds n (first n p)
   unfolding first
   first-finds zero = λ a w. absurd (omega arith)
   first-finds (suc n) = next (first n p) (first-finds n) (p (suc n)) refl
@@ -76,7 +76,7 @@ module _ (p : ℕ → Bool) where
           record { inside = omega arith; holds = low .holds; lower = λ c v l. low .lower c (omega arith) l }
 
   -- and nothing else is such an answer
-  pub finds-first : (n a : ℕ) → Finds n a → a ≡ first n p
+  finds-first : (n a : ℕ) → Finds n a → a ≡ first n p
   finds-first n a f = one a (first n p) f (first-finds n)
     where
       one : (a b : ℕ) → Finds n a → Finds n b → a ≡ b

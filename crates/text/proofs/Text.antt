@@ -9,7 +9,7 @@ use lib.Seq.{take-all, take-append-le, take-take, length-take-le}
 use Rattle.text.specs.Text.{Puts}
 
 -- the start of a text, with more after it, is cut where the text is
-pub cut-again : (n : ℕ) (xs ys : List ℕ) → take n (take n xs ++ ys) ≡ take n (xs ++ ys)
+cut-again : (n : ℕ) (xs ys : List ℕ) → take n (take n xs ++ ys) ≡ take n (xs ++ ys)
 cut-again n xs ys = elim (decLt n (length xs)) [
   | yes l ↦
       let m : n ≤ length (take n xs) = omega (arith, length-take n xs) in

@@ -20,6 +20,10 @@ unfoldable pub each : ℕ → (ℕ → List ℕ) → List ℕ
 each zero f = []
 each (suc n) f = each n f ++ f (suc n)
 
+-- those of their pairs, by the first thing and then by the second
+abbrev pub eachPair : ℕ → (ℕ → ℕ → List ℕ) → List ℕ
+eachPair n f = each n (λ a. each n (f a))
+
 -- the last digit of a number, or a blank for a place that it does not reach
 abbrev pub digitOf : ℕ → ℕ
 digitOf n = cond (ltb n 1) 32 (48 + n % 10)

@@ -55,6 +55,14 @@ pub fn columns(used: bool, n: u64) -> [u8; 5]
     ]
 }
 
+// Puts them, as `put` does.
+pub fn field(out: &mut [u8], at: usize, used: bool, n: u64) -> usize
+    ensures { λ r. ⌜ (n < 100000 → Puts (columnsOf used n) at (now (out .entry)) r (now (out .exit))) × Puts (lastColumns used n) at (now (out .entry)) r (now (out .exit)) ⌝ }
+{
+    let text = columns(used, n);
+    put(out, at, &text)
+}
+
 // How many of its five columns a number leaves blank.
 fn blanks(n: u64) -> usize
     ensures { λ r. ⌜ r ≤ 4 ⌝ }

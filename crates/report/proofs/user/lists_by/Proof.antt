@@ -7,7 +7,7 @@ use Rattle.report.proofs.user.lists_by.Tie as tie
 
 returns : tie.Need-returns
 unfolding listsBy
-returns c = puts-then (c .before .before .before .before .before .before .before .before .before .before .before .before .row .ensures) (puts-then (c .before .before .before .before .before .before .before .row2 .ensures) (c .before .before .row3 .ensures))
+returns c = puts-then (c .before .before .before .before .before .before .before .before .before .before .before .before .list-row .ensures) (puts-then (c .before .before .before .before .before .before .before .list-row2 .ensures) (c .before .before .list-row3 .ensures))
 
 pub lists-by-spec : {M : Type 1} → statement M
 lists-by-spec =

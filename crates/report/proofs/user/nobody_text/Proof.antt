@@ -15,7 +15,7 @@ returns c =
     let taken = c .before .before .before .before .before .before .before in
     let known = taken .before .before .before in
     let xs = now (known .before .before .before .args .s) in
-    let puts = rw (fun-ext (known .roles-of-all .ensures)) at (puts-then (taken .row .ensures) (c .before .before .row2 .ensures)) in
+    let puts = rw (fun-ext (known .roles-of-all .ensures)) at (puts-then (taken .list-row .ensures) (c .before .before .list-row2 .ensures)) in
     (puts, λ l. puts-whole puts (le-trans (nobody-fits xs) l) .0)
 
 pub nobody-text-spec : {M : Type 1} → statement M

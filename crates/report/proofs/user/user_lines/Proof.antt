@@ -8,7 +8,7 @@ use denote.Ref.{now}
 use Rattle.text.proofs.Text.{puts-then, puts-as}
 use Rattle.report.specs.declared.list.Listed.the-variants.{Assigned, Inherited}
 use Rattle.report.specs.Lists.{listed, rangesOf}
-use Rattle.report.specs.Rights.{row, noRole, userLines}
+use Rattle.report.specs.Rights.{listRow, noRole, userLines}
 use Rattle.report.proofs.user.user_lines.Statement.{statement}
 use Rattle.report.proofs.user.user_lines.Tie as tie
 
@@ -28,7 +28,7 @@ returns c =
     let first = c .before .before .before .before .before .before .before in
     let a = first .before .before .before .before .before .before .before .before .before .args in
     puts-then (first .before .before .before .before .before .clearance-line .ensures)
-    (puts-then (puts-as (ap (row _) (assigned (now (a .s)) (a .user) _)) (first .row .ensures)) (puts-as (ap (row _) (inherited (now (a .s)) (a .user) _)) (c .before .before .row2 .ensures)))
+    (puts-then (puts-as (ap (listRow _) (assigned (now (a .s)) (a .user) _)) (first .list-row .ensures)) (puts-as (ap (listRow _) (inherited (now (a .s)) (a .user) _)) (c .before .before .list-row2 .ensures)))
 
 pub user-lines-spec : {M : Type 1} → statement M
 user-lines-spec =

@@ -1,8 +1,9 @@
 -- Each turn takes one digit more.
-use Prim.Native.Nat.{ℕ, zero, suc, _+_, _-_, _*_, _≤_, _<_}
+use Prim.Native.Nat.{ℕ, _+_, _-_, _*_, _^_, _≤_, _<_}
 use mathlib.Core.Path.{_≡_, refl, sym, _∙_}
 use mathlib.Core.List.{List}
 use mathlib.Core.Bool.{Bool, true, false}
+use native.Mathlib.Nat.{pow-le-pow-right}
 use native.Mathlib.Omega.{arith}
 use native.Mathlib.Numerals.{add-one}
 use borrow.Author.Needs.{needs}
@@ -21,19 +22,8 @@ use Rattle.rights.proofs.arguments.numeral.Tie as tie
 abbrev digit : List ℕ → ℕ → Bool
 digit t k = isDigit (getD t (k - 1) 0)
 
--- the powers of ten
-abbrev tenTo : ℕ → ℕ
-tenTo zero = 1
-tenTo (suc i) = 10 * tenTo i
-
-few : (i : ℕ) → i ≤ 5 → tenTo i ≤ 100000
-few zero l = omega arith
-few (suc zero) l = omega arith
-few (suc (suc zero)) l = omega arith
-few (suc (suc (suc zero))) l = omega arith
-few (suc (suc (suc (suc zero)))) l = omega arith
-few (suc (suc (suc (suc (suc zero))))) l = omega arith
-few (suc (suc (suc (suc (suc (suc i)))))) l = absurd (omega arith)
+few : (i : ℕ) → i ≤ 5 → 10 ^ i ≤ 100000
+few i l = pow-le-pow-right {n = 10} (omega arith) l
 
 module _ (t : List ℕ) where
   begun : 0 ≡ valueOf 0 t
@@ -57,7 +47,7 @@ module _ (t : List ℕ) where
   whole l h = rw (le-leb (length t) 5 l, ← h)
 
 abbrev Inv-loop : tie.InvT-loop
-Inv-loop t value₀ i₀ value i = (length t ≤ 5) × (i ≤ length t) × (value ≡ valueOf i t) × (true ≡ every i (digit t)) × (value < tenTo i) × (tenTo i ≤ 100000)
+Inv-loop t value₀ i₀ value i = (length t ≤ 5) × (i ≤ length t) × (value ≡ valueOf i t) × (true ≡ every i (digit t)) × (value < 10 ^ i) × (10 ^ i ≤ 100000)
 
 abbrev μ-loop : tie.MeasureT-loop
 μ-loop t value₀ i₀ value i = length t - i
@@ -79,7 +69,7 @@ module _ (t : List ℕ) (i : ℕ) where
   fails : i < length t → isDigit (getD t i 0) ≡ false → false ≡ every (length t) (digit t)
   fails l d = every-fails (digit t) (length t) i l (here ∙ d)
 
-  step : (v : ℕ) → v < tenTo i → isDigit (getD t i 0) ≡ true → 10 * v + (getD t i 0 - 48) < tenTo (i + 1)
+  step : (v : ℕ) → v < 10 ^ i → isDigit (getD t i 0) ≡ true → 10 * v + (getD t i 0 - 48) < 10 ^ (i + 1)
   step v l d = let b = isDigit-iff (getD t i 0) .0 d in rw (add-one i) (omega arith)
 
 -- the byte that is read, and what it is known to be

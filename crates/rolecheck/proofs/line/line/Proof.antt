@@ -11,8 +11,10 @@ returns c =
     let third = c .before .before .before .before .before .before .before in
     let second = third .before .before .before .before in
     let first = second .before .before .before .before in
-    puts-then (first .before .before .before .before .put .ensures)
-    (puts-then (first .field .ensures) (puts-then (second .field2 .ensures) (puts-then (third .field3 .ensures) (c .before .before .put2 .ensures))))
+    let put = first .before .before .before .before in
+    let few = put .before .before .before .before .pre in
+    puts-then (put .put .ensures)
+    (puts-then (first .field .ensures .0 (few .0)) (puts-then (second .field2 .ensures .0 (few .1)) (puts-then (third .field3 .ensures .0 (few .2)) (c .before .before .put2 .ensures))))
 
 pub line-spec : {M : Type 1} → statement M
 line-spec =

@@ -5,19 +5,19 @@ use native.Mathlib.Omega.{arith}
 use borrow.Author.Needs.{needs}
 use Rattle.order.specs.Table.{related}
 use Rattle.text.specs.Text.{Puts, each}
-use Rattle.graph.specs.Graph.{orderLine}
+use Rattle.graph.specs.Graph.{orderArrow}
 use Rattle.text.proofs.Each.{each-none, each-more}
-use Rattle.graph.proofs.order_lines.Statement.{statement}
-use Rattle.graph.proofs.order_lines.Tie as tie
+use Rattle.graph.proofs.order_arrows.Statement.{statement}
+use Rattle.graph.proofs.order_arrows.Tie as tie
 
 abbrev Inv-loop : tie.InvT-loop
-Inv-loop prefix t n out₀ at used₀ i₀ out used i = (i ≤ n) × Puts (each i (λ a. each n (orderLine prefix n (related t 0) a))) at out₀ used out
+Inv-loop prefix t n out₀ at used₀ i₀ out used i = (i ≤ n) × Puts (each i (λ a. each n (orderArrow prefix n (related t 0) a))) at out₀ used out
 
 abbrev μ-loop : tie.MeasureT-loop
 μ-loop prefix t n out₀ at used₀ i₀ out used i = n - i
 
 loop-again : tie.Need-loop-again Inv-loop μ-loop
-loop-again c = let w = c .before .before .before .before .before .loop in (search needs, each-more _ (w .i) (w .inv .1) (c .before .before .order-lines-from .ensures))
+loop-again c = let w = c .before .before .before .before .before .loop in (search needs, each-more _ (w .i) (w .inv .1) (c .before .before .order-arrows-from .ensures))
 
 returns : tie.Need-returns Inv-loop μ-loop
 returns c =
@@ -25,8 +25,8 @@ returns c =
     let all : w .i ≡ c .before .before .before .before .before .args .n = omega arith in
     rw all at (w .inv .1)
 
-pub order-lines-spec : {M : Type 1} → statement M
-order-lines-spec =
+pub order-arrows-spec : {M : Type 1} → statement M
+order-arrows-spec =
     tie.close
     (tie.spec
     Inv-loop

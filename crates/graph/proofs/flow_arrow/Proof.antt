@@ -3,16 +3,16 @@ use mathlib.Core.Path.{sym, _∙_}
 use borrow.Author.Needs.{needs}
 use Rattle.search.proofs.Truth.{passed, failed}
 use Rattle.text.proofs.Text.{puts-nothing, puts-then}
-use Rattle.graph.specs.Graph.{flowLine}
-use Rattle.graph.proofs.flow_line.Statement.{statement}
-use Rattle.graph.proofs.flow_line.Tie as tie
+use Rattle.graph.specs.Graph.{flowArrow}
+use Rattle.graph.proofs.flow_arrow.Statement.{statement}
+use Rattle.graph.proofs.flow_arrow.Tie as tie
 
 returns : tie.Need-returns
-unfolding flowLine
+unfolding flowArrow
 returns c = rw (failed (c .before .direct-flow .ensures) (c .if1 .taken)) (puts-nothing _ _ (search needs))
 
 returns-2 : tie.Need-returns-2
-unfolding flowLine
+unfolding flowArrow
 returns-2 c =
     let ended = c .before .before in
     let back = ended .before .before .before in
@@ -22,7 +22,7 @@ returns-2 c =
     (puts-then (drawn .arrow .ensures) (ended .put .ensures))
 
 returns-3 : tie.Need-returns-3
-unfolding flowLine
+unfolding flowArrow
 returns-3 c =
     let ended = c .before .before in
     let back = ended .before .before .before in
@@ -31,8 +31,8 @@ returns-3 c =
     rw (passed (tested .before .direct-flow .ensures) (tested .if1 .left), sym (back .before .relates .ensures) ∙ back .if2 .left)
     (puts-then (drawn .arrow .ensures) (ended .put2 .ensures))
 
-pub flow-line-spec : {M : Type 1} → statement M
-flow-line-spec =
+pub flow-arrow-spec : {M : Type 1} → statement M
+flow-arrow-spec =
     tie.close
     (tie.spec
     (λ c κs. search needs)

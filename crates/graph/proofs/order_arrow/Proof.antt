@@ -2,21 +2,21 @@
 use borrow.Author.Needs.{needs}
 use Rattle.search.proofs.Truth.{passed, failed}
 use Rattle.text.proofs.Text.{puts-nothing, puts-then}
-use Rattle.graph.specs.Graph.{orderLine}
-use Rattle.graph.proofs.order_line.Statement.{statement}
-use Rattle.graph.proofs.order_line.Tie as tie
+use Rattle.graph.specs.Graph.{orderArrow}
+use Rattle.graph.proofs.order_arrow.Statement.{statement}
+use Rattle.graph.proofs.order_arrow.Tie as tie
 
 returns : tie.Need-returns
-unfolding orderLine
+unfolding orderArrow
 returns c = rw (failed (c .before .direct .ensures) (c .if1 .taken)) (puts-nothing _ _ (search needs))
 
 returns-2 : tie.Need-returns-2
-unfolding orderLine
+unfolding orderArrow
 returns-2 c =
     let ended = c .before .before in
     let drawn = ended .before .before .before .before .before in
     let tested = drawn .before .before in
     rw (passed (tested .before .direct .ensures) (tested .if1 .left)) (puts-then (drawn .arrow .ensures) (ended .put .ensures))
 
-pub order-line-spec : {M : Type 1} → statement M
-order-line-spec = tie.close (tie.spec (λ c κs. search needs) returns (λ c κs. search needs) (λ c. search needs) (λ c κs. search needs) (λ c. search needs) returns-2)
+pub order-arrow-spec : {M : Type 1} → statement M
+order-arrow-spec = tie.close (tie.spec (λ c κs. search needs) returns (λ c κs. search needs) (λ c. search needs) (λ c κs. search needs) (λ c. search needs) returns-2)
