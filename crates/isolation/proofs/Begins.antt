@@ -11,12 +11,12 @@ use lib.ListN.{length, getD, replicate, List·getD-eq-default}
 use borrow.Author.Tests.{le-leb, lt-leb, eq-eqb, ne-eqb}
 use Rattle.search.specs.Search.{Among}
 use Rattle.search.proofs.Truth.{among-iff, either}
-use Rattle.roleset.specs.Row.{bit, member}
+use Rattle.roleset.specs.Row.{rowOf, bit, member}
 use Rattle.roleset.proofs.Bits.{bit-zero, bit-on}
 use Rattle.rolefile.specs.Form.{fine}
 use Rattle.rolefile.specs.Said.{labels, roles, users, cards, clearance, cardLabel, assigned}
 use Rattle.policy.specs.Policy.{dominates, senior, may, rLevel, wLevel, levelNumber}
-use Rattle.policy.specs.Tables.{dominanceAt, clearancesAt, cardLabelsAt, rLevelsAt, wLevelsAt, seniorsAt, assignedAt, readersAt, writersAt, rowOf, markAt}
+use Rattle.policy.specs.Tables.{dominanceAt, clearancesAt, cardLabelsAt, rLevelsAt, wLevelsAt, seniorsAt, assignedAt, readersAt, writersAt, markAt}
 use Rattle.policy.specs.Accepted.{Accepted}
 use Rattle.policy.specs.Image.{Unused, Describes, Image, loadVerdict}
 use Rattle.policy.proofs.Outcomes.{accepted-fine}

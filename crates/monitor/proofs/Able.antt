@@ -13,12 +13,11 @@ use Rattle.search.specs.Search as search
 use Rattle.search.specs.Search.{among, Among}
 use Rattle.search.proofs.Truth.{or-iff, and-iff, among-iff}
 use Rattle.search.proofs.Found.{some-iff, some-agree}
-use Rattle.roleset.specs.Row.{member}
+use Rattle.roleset.specs.Row.{member, rowOf}
 use Rattle.rolefile.specs.declared.Verdict.{Verdict}
 use Rattle.rolefile.specs.Said.{labels, roles, users, cards, clearance}
 use Rattle.rolefile.specs.WellFormed.{WellFormed}
 use Rattle.policy.specs.Policy.{dominates, may}
-use Rattle.policy.specs.Tables.{rowOf}
 use Rattle.policy.specs.Accepted.{Accepted}
 use Rattle.policy.specs.Image.{Loaded, Allows}
 use Rattle.policy.proofs.Meaning.{counts-known}

@@ -13,13 +13,13 @@ use borrow.Author.Tests.{le-leb}
 use Rattle.search.specs.Search as search
 use Rattle.search.specs.Search.{among, Among}
 use Rattle.search.proofs.Truth.{and-iff, among-iff}
-use Rattle.roleset.specs.Row.{member, common}
+use Rattle.roleset.specs.Row.{member, rowOf, common}
 use Rattle.roleset.proofs.Rows.{whole-true}
 use Rattle.rolefile.specs.Said.{labels, roles, users, cards, clearance, assigned}
 use Rattle.rolefile.specs.WellFormed.{WellFormed}
 use Rattle.rolefile.proofs.Within.{some-within}
 use Rattle.policy.specs.Policy.{dominates, senior, may}
-use Rattle.policy.specs.Tables.{stateSize, rowOf, seniorsAt, assignedAt}
+use Rattle.policy.specs.Tables.{stateSize, seniorsAt, assignedAt}
 use Rattle.policy.proofs.Assigning.{reads-test, writes-test}
 use Rattle.policy.proofs.Inside.{assigned-known, over-between}
 use Rattle.policy.proofs.Meaning.{counts-known, marked-file}

@@ -10,11 +10,11 @@ use borrow.Author.Tests.{le-leb}
 use Rattle.search.specs.Search as search
 use Rattle.search.specs.Search.{Among}
 use Rattle.search.proofs.Truth.{and-iff, among-iff}
-use Rattle.roleset.specs.Row.{member}
+use Rattle.roleset.specs.Row.{member, rowOf}
 use Rattle.rolefile.specs.Said.{labels, roles, users, cards, clearance, assigned}
 use Rattle.rolefile.specs.WellFormed.{WellFormed}
 use Rattle.policy.specs.Policy.{dominates, senior, may}
-use Rattle.policy.specs.Tables.{word, rowOf}
+use Rattle.policy.specs.Tables.{word}
 use Rattle.policy.proofs.Meaning.{counts-known, marked-file}
 use Rattle.monitor.specs.Session.{sound, entitled, fitting}
 use Rattle.monitor.specs.Rules.{Sessions, entitledByFile, fittingByFile}

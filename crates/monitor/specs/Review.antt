@@ -4,8 +4,8 @@ use Prim.Native.Nat.{ℕ}
 use mathlib.Core.List.{List}
 use mathlib.Core.Bool.{Bool, _&&_, cond}
 use Rattle.search.specs.Search.{among, some}
-use Rattle.roleset.specs.Row.{member}
-use Rattle.policy.specs.Tables.{word, byteOf, rowOf, marked, clearancesAt, seniorsAt, assignedAt}
+use Rattle.roleset.specs.Row.{member, rowOf}
+use Rattle.policy.specs.Tables.{word, byteOf, marked, clearancesAt, seniorsAt, assignedAt}
 use Rattle.monitor.specs.Session.{sound, cleared, entitled, fitting}
 use Rattle.monitor.specs.Rights.{tableOf}
 

@@ -6,10 +6,10 @@ use mathlib.Core.List.{List, []}
 use mathlib.Core.Bool.{Bool, _&&_, cond}
 use lib.Dec.{eqb}
 use Rattle.search.specs.Search.{among, some}
-use Rattle.roleset.specs.Row.{member}
+use Rattle.roleset.specs.Row.{member, rowOf}
 use Rattle.rolefile.specs.Said.{labels, roles, users, cards, clearance}
 use Rattle.policy.specs.Policy.{dominates, may}
-use Rattle.policy.specs.Tables.{rowOf, readersAt, writersAt}
+use Rattle.policy.specs.Tables.{readersAt, writersAt}
 use Rattle.monitor.specs.Session.{sound, labelsIn, rolesIn, usersIn, cardsIn, cleared, entitled, fitting}
 use Rattle.monitor.specs.Calls.{unless, ifDone}
 use Rattle.monitor.specs.Runs.{Call, opens, takes, reads, writes, Memory, number, after}

@@ -4,9 +4,9 @@ use mathlib.Core.List.{List}
 use mathlib.Core.Bool.{Bool, _&&_}
 use lib.Dec.{eqb}
 use lib.ListN.{getD}
-use Rattle.roleset.specs.Row.{common}
+use Rattle.roleset.specs.Row.{rowOf, common}
 use Rattle.rolefile.specs.Form.{withinLimits}
-use Rattle.policy.specs.Tables.{word, byteOf, rowOf, marked, isState, passesIn, clearancesAt, rLevelsAt, wLevelsAt, seniorsAt, assignedAt}
+use Rattle.policy.specs.Tables.{word, byteOf, marked, isState, passesIn, clearancesAt, rLevelsAt, wLevelsAt, seniorsAt, assignedAt}
 
 -- ---- counts
 

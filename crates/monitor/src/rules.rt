@@ -6,7 +6,7 @@ ghost use Prim.Native.Nat.{_+_, _*_, _≤_};
 ghost use lib.Dec.{leb};
 ghost use lib.ListN.{length};
 ghost use Rattle.search.specs.Search.{Among};
-ghost use Rattle.roleset.specs.Row.{member};
+ghost use Rattle.roleset.specs.Row.{member, rowOf};
 ghost use Rattle.policy.specs.Tables as tables;
 ghost use Rattle.monitor.specs.Session as session;
 
@@ -69,7 +69,7 @@ pub fn gives(s: &[u8], at: u64, place: u64, card: u64) -> bool
 // Whether thing x's row of the table at `at` holds the role.
 pub fn in_row(s: &[u8], at: u64, x: u64, role: u64) -> bool
     requires { ⌜ (65536 ≤ length (now s)) × (at ≤ 20496) × Among 512 x ⌝ }
-    ensures { λ r. ⌜ r ≡ member (now (s .entry)) (tables.rowOf at x) role ⌝ }
+    ensures { λ r. ⌜ r ≡ member (now (s .entry)) (rowOf at x) role ⌝ }
 {
     let row = at + 16 * (x - 1);
     roleset::has(s, row as usize, role as usize)

@@ -10,7 +10,7 @@ use mathlib.Core.Bool.{Bool, false}
 use mathlib.Core.List.{List, []}
 use lib.ListN.{length, getD}
 use Rattle.search.specs.Search.{Among}
-use Rattle.roleset.specs.Row.{member, Kept}
+use Rattle.roleset.specs.Row.{member, rowOf, Kept}
 use Rattle.order.specs.Closure.{Relation}
 
 abbrev pub marks : List Bool → ℕ → Bool
@@ -26,7 +26,7 @@ pub record Rows (size n : ℕ) (h e f : Relation) : Type 0 where
 -- ---- the same for up to 128 things, each row a set of roles: the row of thing a starts 16 × (a - 1) bytes after `at`
 
 abbrev pub related : List ℕ → ℕ → Relation
-related xs at a b = member xs (at + 16 * (a - 1)) b
+related xs at a b = member xs (rowOf at a) b
 
 -- ys is xs with the rows 1 to n of the table at `at` as h says, and nothing else changed; a table that does not lie wholly in xs is left alone
 pub record Tabled (at n : ℕ) (h : Relation) (xs ys : List ℕ) : Type 0 where

@@ -4,7 +4,7 @@ use mathlib.Core.Path.{_≡_, sym, _∙_}
 use mathlib.Core.List.{List}
 use native.Mathlib.Omega.{arith}
 use lib.ListN.{getD}
-use Rattle.roleset.specs.Row.{member}
+use Rattle.roleset.specs.Row.{member, rowOf}
 use Rattle.roleset.proofs.Rows.{same-bytes}
 use Rattle.rolefile.specs.declared.Verdict.{Verdict}
 use Rattle.rolefile.specs.Line.{lines}
@@ -12,7 +12,7 @@ use Rattle.rolefile.specs.Form.{_then_, scan, linesVerdict, unlabelledVerdict, 
 use Rattle.rolefile.specs.Said.{labels, roles}
 use Rattle.rolefile.proofs.Verdicts.{Refuses, then-next, then-stop, then-joined}
 use Rattle.policy.specs.Verdict.{labelVerdict, roleVerdict, assignmentVerdict, policyVerdict, verdict}
-use Rattle.policy.specs.Tables.{clearancesAt, cardLabelsAt, rLevelsAt, wLevelsAt, seniorsAt, assignedAt, readersAt, writersAt, word, rowOf, markAt}
+use Rattle.policy.specs.Tables.{clearancesAt, cardLabelsAt, rLevelsAt, wLevelsAt, seniorsAt, assignedAt, readersAt, writersAt, word, markAt}
 use Rattle.policy.specs.Image.{Labelled, Dominating, Seniors, Permitting, Levelled, Describes, Image}
 use Rattle.policy.specs.Stages.{Zeros, Noting, Ranking, Granting, Finishing, Built}
 

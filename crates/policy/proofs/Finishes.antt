@@ -5,13 +5,13 @@ use mathlib.Core.Logic.{inr}
 use mathlib.Core.List.{List}
 use native.Mathlib.Omega.{arith}
 use lib.ListN.{drop}
-use Rattle.roleset.specs.Row.{Kept}
+use Rattle.roleset.specs.Row.{rowOf, Kept}
 use Rattle.roleset.proofs.Rows.{zero-row, row-kept}
 use Rattle.rolefile.specs.declared.Line.{Line}
 use Rattle.rolefile.specs.Line.{A, fields}
 use Rattle.rolefile.specs.Said.{assigned}
 use Rattle.policy.specs.declared.build.Parts.{Parts}
-use Rattle.policy.specs.Tables.{word, rowOf, assignedAt, pairs, Related}
+use Rattle.policy.specs.Tables.{word, assignedAt, pairs, Related}
 use Rattle.policy.specs.Stages.{Ready, Zeros, Counting, Finishing}
 use Rattle.policy.proofs.Readying.{good-of, section-a}
 use Rattle.policy.proofs.Ranks.{pairs-say}

@@ -12,13 +12,13 @@ use borrow.Author.Tests.{le-leb, lt-leb, leb-false, not-true, eq-eqb, ne-eqb}
 use Rattle.search.specs.Search.{Among, Lowest, some, first}
 use Rattle.search.proofs.Truth.{and-iff}
 use Rattle.search.proofs.Found.{first-agree, first-none, first-lowest, first-within}
-use Rattle.roleset.specs.Row.{whole, member, removed, united, nextMember, Placed}
+use Rattle.roleset.specs.Row.{rowOf, whole, member, removed, united, nextMember, Placed}
 use Rattle.roleset.proofs.Rows.{whole-true}
 use Rattle.order.specs.Closure.{Relation, path, loop, circle}
 use Rattle.order.specs.Table.{related, Tabled}
 use Rattle.order.proofs.Closure.{circle-agree}
 use Rattle.order.proofs.Placing.{placing-more, placing-pass, placing-left}
-use Rattle.policy.specs.Tables.{rowOf, readersAt, writersAt, stateSize, isState, flowing}
+use Rattle.policy.specs.Tables.{readersAt, writersAt, stateSize, isState, flowing}
 
 -- ---- what is answered where a test holds, and where it fails
 

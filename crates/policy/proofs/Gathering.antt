@@ -11,13 +11,13 @@ use lib.ListN.{length, getD}
 use borrow.Author.Tests.{eq-eqb, ne-eqb}
 use Rattle.search.specs.Search.{Among, some}
 use Rattle.search.proofs.Found.{some-more, some-agree}
-use Rattle.roleset.specs.Row.{whole, member, united, Placed}
+use Rattle.roleset.specs.Row.{rowOf, whole, member, united, Placed}
 use Rattle.roleset.proofs.Rows.{whole-true}
 use Rattle.order.specs.Closure.{Relation}
 use Rattle.order.specs.Bound.{lub}
 use Rattle.order.proofs.Bound.{lub-same-set}
 use Rattle.policy.specs.Policy.{levelAt, level, levelNumber}
-use Rattle.policy.specs.Tables.{byteOf, rowOf, cardLabelsAt, gathered}
+use Rattle.policy.specs.Tables.{byteOf, cardLabelsAt, gathered}
 use Rattle.policy.proofs.Relating.{others-stay}
 
 -- what card o + 1 brings to the row of label l

@@ -13,7 +13,7 @@ use borrow.Author.Tests.{eqb-true, eq-eqb, le-leb}
 use Rattle.search.specs.Search.{Among, among, some}
 use Rattle.search.proofs.Truth.{and-iff, among-iff, untrue, same}
 use Rattle.search.proofs.Found.{some-of, some-iff, some-none, some-agree}
-use Rattle.roleset.specs.Row.{member, Kept}
+use Rattle.roleset.specs.Row.{member, rowOf, Kept}
 use Rattle.roleset.proofs.Rows.{zero-row}
 use Rattle.order.specs.Closure.{Relation}
 use Rattle.order.specs.Bound.{converse}
@@ -29,7 +29,7 @@ use Rattle.rolefile.specs.WellFormed.{GoodCounts, GoodLines}
 use Rattle.rolefile.proofs.Sections.{part, Section, says-three}
 use Rattle.policy.specs.declared.build.Parts.{Parts}
 use Rattle.policy.specs.Policy.{dominates, senior, may, mayAt, level, rLevel, wLevel, levelNumber}
-use Rattle.policy.specs.Tables.{cardLabelsAt, rLevelsAt, wLevelsAt, seniorsAt, readersAt, writersAt, byteOf, rowOf, markAt}
+use Rattle.policy.specs.Tables.{cardLabelsAt, rLevelsAt, wLevelsAt, seniorsAt, readersAt, writersAt, byteOf, markAt}
 use Rattle.policy.specs.Tables.{grantedByLines, gathered, Bytes, GrantedRows}
 use Rattle.policy.specs.Image.{Labelled, Seniors, Permitting, Allows}
 use Rattle.policy.specs.Stages.{Ready, Zeros, Closed, Granting}

@@ -10,7 +10,7 @@ use lib.ListN.{length}
 use borrow.Author.Tests.{eq-eqb}
 use Rattle.search.specs.Search.{Among}
 use Rattle.search.proofs.Found.{some-agree, first-none, first-lowest-of}
-use Rattle.roleset.specs.Row.{member}
+use Rattle.roleset.specs.Row.{member, rowOf}
 use Rattle.order.specs.Closure.{path, OnCircle}
 use Rattle.order.proofs.Closure.{circle-finds, circle-misses, circle-agree}
 use Rattle.rolefile.specs.Form.{header}
@@ -19,7 +19,7 @@ use Rattle.rolefile.specs.WellFormed.{GoodCounts, WellFormed}
 use Rattle.rolefile.proofs.Formed.{header-counts}
 use Rattle.policy.specs.Policy.{dominates, may}
 use Rattle.policy.specs.Flow.{flows, flowCircle}
-use Rattle.policy.specs.Tables.{readersAt, writersAt, stateSize, rowOf, marked, flowing, rolesUpTo, cardsUpTo, roleCount, flowsIn, circleIn}
+use Rattle.policy.specs.Tables.{readersAt, writersAt, stateSize, marked, flowing, rolesUpTo, cardsUpTo, roleCount, flowsIn, circleIn}
 use Rattle.policy.specs.Accepted.{LowestOnCircle}
 use Rattle.policy.specs.Image.{Describes}
 use Rattle.policy.proofs.Inside.{over-between}

@@ -11,7 +11,7 @@ use borrow.Author.Tests.{ne-eqb, le-leb, lt-leb}
 use Rattle.search.specs.Search.{Among}
 use Rattle.search.proofs.Truth.{untrue, eqb-swap}
 use Rattle.search.proofs.Found.{first-agree}
-use Rattle.roleset.specs.Row.{Kept}
+use Rattle.roleset.specs.Row.{rowOf, Kept}
 use Rattle.roleset.proofs.Rows.{zero-row}
 use Rattle.order.specs.Bound.{converse}
 use Rattle.order.specs.Closure.{path, loop, circle, reflexive}
@@ -25,7 +25,7 @@ use Rattle.rolefile.specs.Said.{roles, above}
 use Rattle.rolefile.proofs.Sections.{part, Section, says-two}
 use Rattle.rolefile.specs.WellFormed.{GoodLines}
 use Rattle.policy.specs.Policy.{senior}
-use Rattle.policy.specs.Tables.{rowOf, seniorsAt, pairs, Related}
+use Rattle.policy.specs.Tables.{seniorsAt, pairs, Related}
 use Rattle.policy.specs.Image.{Seniors}
 use Rattle.policy.specs.Verdict.{roleVerdict}
 use Rattle.policy.specs.Stages.{Ready, Zeros, Ranking}

@@ -12,11 +12,11 @@ use borrow.Author.Tests.{eq-eqb, ne-eqb, eqb-true}
 use Rattle.search.specs.Search.{among, Among}
 use Rattle.search.proofs.Truth.{and-iff, and-when, and-right, among-iff, untrue, same}
 use Rattle.search.proofs.Found.{some-more}
-use Rattle.roleset.specs.Row.{member, added, joined, Kept, Placed}
+use Rattle.roleset.specs.Row.{member, rowOf, added, joined, Kept, Placed}
 use Rattle.roleset.proofs.Rows.{row-kept, whole-true}
 use Rattle.order.specs.Closure.{Relation}
 use Rattle.rolefile.specs.Section.{one, two, three}
-use Rattle.policy.specs.Tables.{rowOf, seniorsAt, readersAt, writersAt, pairs, grantedByLines, Related, GrantedRows, Joins}
+use Rattle.policy.specs.Tables.{seniorsAt, readersAt, writersAt, pairs, grantedByLines, Related, GrantedRows, Joins}
 
 -- two rows of one table do not overlap
 rows-apart : (at x y : ℕ) → 1 ≤ x → 1 ≤ y → (y ≡ x → ⊥) → (rowOf at y + 16 ≤ rowOf at x) ⊎ (rowOf at x + 16 ≤ rowOf at y)

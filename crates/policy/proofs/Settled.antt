@@ -8,12 +8,12 @@ use native.Mathlib.Decide.{decLt, ℕ-discrete}
 use lib.ListN.{getD}
 use lib.Seq.{ext-getD}
 use Rattle.search.specs.Search.{Among}
-use Rattle.roleset.specs.Row.{member}
+use Rattle.roleset.specs.Row.{member, rowOf}
 use Rattle.roleset.proofs.Bits.{same-bits}
 use Rattle.roleset.proofs.Rows.{bit-member}
 use Rattle.rolefile.specs.declared.Verdict.{Verdict}
 use Rattle.policy.specs.Tables.{dominanceAt, clearancesAt, cardLabelsAt, rLevelsAt, wLevelsAt, seniorsAt, assignedAt, readersAt, writersAt, markAt}
-use Rattle.policy.specs.Tables.{stateSize, word, byteOf, rowOf}
+use Rattle.policy.specs.Tables.{stateSize, word, byteOf}
 use Rattle.policy.specs.Image.{Unused, Image, Loaded}
 use Rattle.policy.proofs.Builds.{Same}
 

@@ -6,7 +6,7 @@ use mathlib.Core.Bool.{Bool, not, _&&_, _||_, cond}
 use lib.Dec.{leb, eqb}
 use lib.ListN.{length, getD}
 use Rattle.search.specs.Search.{among, some, Among}
-use Rattle.roleset.specs.Row.{member, Kept}
+use Rattle.roleset.specs.Row.{member, rowOf, Kept}
 use Rattle.order.specs.Closure.{Relation, circle}
 use Rattle.rolefile.specs.declared.Verdict.{Verdict}
 use Rattle.rolefile.specs.Form.{fine, refusal, unless}
@@ -54,10 +54,6 @@ word xs at = getD xs at 0 + 256 * getD xs (at + 1) 0
 -- thing x's byte in a table of bytes
 abbrev pub byteOf : List ℕ → ℕ → ℕ → ℕ
 byteOf xs at x = getD xs (at + (x - 1)) 0
-
--- thing x's row in a table of role sets
-abbrev pub rowOf : ℕ → ℕ → ℕ
-rowOf at x = at + 16 * (x - 1)
 
 -- where the mark of label a over label b stands
 abbrev pub markAt : ℕ → ℕ → ℕ

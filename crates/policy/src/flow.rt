@@ -8,9 +8,9 @@ ghost use Prim.Native.Nat.{ℕ, _+_, _≤_, _<_};
 ghost use lib.Dec.{eqb};
 ghost use lib.ListN.{length};
 ghost use Rattle.search.specs.Search.{some, Among};
-ghost use Rattle.roleset.specs.Row.{member};
+ghost use Rattle.roleset.specs.Row.{member, rowOf};
 ghost use Rattle.order.specs.Table.{related, Tabled};
-ghost use Rattle.policy.specs.Tables.{rowOf, rLevelsAt, wLevelsAt, readersAt, writersAt, countIn, roleCount, levelIn, flowsIn, circleIn};
+ghost use Rattle.policy.specs.Tables.{rLevelsAt, wLevelsAt, readersAt, writersAt, countIn, roleCount, levelIn, flowsIn, circleIn};
 
 // The count at `at` in the state, `most` where it is higher.
 fn count(s: &[u8], at: u16, most: usize) -> usize

@@ -5,11 +5,11 @@ ghost use lib.Dec.{eqb};
 ghost use Prim.Native.Nat.{ℕ, _+_, _≤_, _<_};
 ghost use lib.ListN.{length};
 ghost use Rattle.search.specs.Search.{Among, some};
-ghost use Rattle.roleset.specs.Row.{member};
+ghost use Rattle.roleset.specs.Row.{member, rowOf};
 ghost use Rattle.order.specs.Bound.{converse};
 ghost use Rattle.order.specs.Table.{marks, mark};
 ghost use Rattle.policy.specs.Policy.{level, levelNumber};
-ghost use Rattle.policy.specs.Tables.{byteOf, rowOf, cardLabelsAt, gathered, Bytes};
+ghost use Rattle.policy.specs.Tables.{byteOf, cardLabelsAt, gathered, Bytes};
 
 // Joins the row of thing o + 1, of the table at `at`, into the row of its label.
 fn gather_one(g: &mut [u8; 512], s: &[u8], at: usize, o: usize)

@@ -5,9 +5,9 @@ ghost use Prim.Native.Nat.{_+_, _*_, _≤_};
 ghost use lib.Dec.{eqb};
 ghost use lib.ListN.{length};
 ghost use Rattle.search.specs.Search.{among};
-ghost use Rattle.roleset.specs.Row.{member};
+ghost use Rattle.roleset.specs.Row.{member, rowOf};
 ghost use Rattle.rolefile.specs.Line.{lines};
-ghost use Rattle.policy.specs.Tables.{rowOf, seniorsAt, pairs, grantedByLines, Related, GrantedRows};
+ghost use Rattle.policy.specs.Tables.{seniorsAt, pairs, grantedByLines, Related, GrantedRows};
 
 // Puts a role into the row of thing x, if it is one of the table's.
 fn relate(s: &mut [u8], at: usize, size: usize, x: usize, role: usize)

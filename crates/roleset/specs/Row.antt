@@ -1,5 +1,6 @@
 -- Sets of roles 1 to 128, each a row of 16 bytes of a list: role r is bit (r - 1) % 8 of the row's byte (r - 1) / 8.
 --     whole xs at               the row at `at` lies wholly in xs
+--     rowOf at x                where the row of thing x begins, in a table of rows at `at`
 --     member xs at r            the row of xs at `at` holds role r
 --     common xs a b             the rows at a and at b have a role in common
 --     nextMember xs at after    the lowest role above `after` that the row holds, or 0
@@ -19,6 +20,10 @@ use Rattle.search.specs.Search.{among, some, first}
 -- bit j of x
 abbrev pub bit : ℕ → ℕ → Bool
 bit x j = eqb (x / 2 ^ j % 2) 1
+
+-- where the row of thing x begins, in a table of such rows
+abbrev pub rowOf : ℕ → ℕ → ℕ
+rowOf at x = at + 16 * (x - 1)
 
 abbrev pub whole : List ℕ → ℕ → Bool
 whole xs at = leb (at + 16) (length xs)

@@ -7,8 +7,8 @@ use native.Mathlib.Omega.{arith}
 use borrow.Author.Needs.{needs}
 use Rattle.search.specs.Search.{Among}
 use Rattle.search.proofs.Truth.{passed}
+use Rattle.roleset.specs.Row.{rowOf}
 use Rattle.roleset.proofs.Rows.{whole-true}
-use Rattle.policy.specs.Tables.{rowOf}
 use Rattle.monitor.specs.Rights.{tableOf}
 use Rattle.monitor.specs.Review.{giveCard}
 use Rattle.monitor.proofs.Answers.{table-low}

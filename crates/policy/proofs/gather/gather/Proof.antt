@@ -5,8 +5,8 @@ use native.Mathlib.Omega.{arith}
 use borrow.Author.Needs.{needs}
 use Rattle.search.specs.Search.{Among}
 use Rattle.roleset.proofs.Rows.{zero-rows}
-use Rattle.roleset.specs.Row.{member}
-use Rattle.policy.specs.Tables.{rowOf, gathered}
+use Rattle.roleset.specs.Row.{member, rowOf}
+use Rattle.policy.specs.Tables.{gathered}
 use Rattle.policy.proofs.Gathering.{gathered-more, gathered-yet}
 use Rattle.policy.proofs.gather.gather.Statement.{statement}
 use Rattle.policy.proofs.gather.gather.Tie as tie

@@ -6,10 +6,9 @@ use native.Mathlib.Nat.{add-sub-cancel, zero-add}
 use borrow.Author.Needs.{needs}
 use denote.Ref.{now}
 use lib.ListN.{length}
-use Rattle.roleset.specs.Row.{member}
+use Rattle.roleset.specs.Row.{member, rowOf}
 use Rattle.roleset.proofs.Rows.{whole-true}
 use Rattle.order.proofs.Stored.{Upto, upto-more}
-use Rattle.policy.specs.Tables.{rowOf}
 use Rattle.policy.proofs.gather.labels_of.Statement.{statement}
 use Rattle.policy.proofs.gather.labels_of.Tie as tie
 

@@ -4,12 +4,11 @@ use mathlib.Core.Path.{ap, _∙_}
 use native.Mathlib.Omega.{arith}
 use borrow.Author.Needs.{needs}
 use denote.Ref.{now}
-use Rattle.roleset.specs.Row.{member}
+use Rattle.roleset.specs.Row.{member, rowOf}
 use Rattle.roleset.proofs.Rows.{Written, write-none, write-more}
 use Rattle.order.specs.Bound.{converse}
 use Rattle.order.specs.Table.{mark}
 use Rattle.policy.specs.Policy.{level, levelNumber}
-use Rattle.policy.specs.Tables.{rowOf}
 use Rattle.policy.proofs.Noted.{all-stored}
 use Rattle.policy.proofs.Gathering.{level-same-set}
 use Rattle.policy.proofs.gather.put_levels.Statement.{statement}
