@@ -7,6 +7,7 @@ use libc::STDOUT_FILENO;
 ghost use mathlib.Core.Path.{_≡_};
 ghost use Prim.Native.Nat.{_≤_};
 ghost use lib.ListN.{length};
+ghost use Rattle.search.specs.Search.{Among};
 ghost use Rattle.io.specs.Counts.{Counts};
 ghost use Rattle.rights.specs.Arguments.{turns};
 ghost use Rattle.rights.specs.Reading.{Within};
@@ -63,7 +64,7 @@ fn print_no_user(name: &[u8]) {
 
 // The user told of in turn i. Where its argument asks for none, says so and answers 0.
 fn user_in_turn(s: &[u8], count: usize, i: usize) -> u64
-    requires { ⌜ i ≤ turns (now s) count ⌝ }
+    requires { ⌜ Among (turns (now s) count) i ⌝ }
 {
     let mut name = io::buffer();
     let n = os::arg(i + 1, &mut name);

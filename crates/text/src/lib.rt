@@ -38,7 +38,7 @@ fn digit(n: u64) -> u8
 
 // The five columns of a number, or blanks for a field without use. They hold a number below 100,000
 // whole, and the last five digits of any other.
-pub fn columns(used: bool, n: u64) -> [u8; 5]
+fn columns(used: bool, n: u64) -> [u8; 5]
     ensures { λ r. ⌜ 5 ≡ length r ⌝ }
     ensures { λ r. ⌜ (n < 100000 → r ≡ columnsOf used n) ⌝ }
     ensures { λ r. ⌜ r ≡ lastColumns used n ⌝ }

@@ -29,7 +29,7 @@ use denote.Plain.{uint-makes, bool-lawful}
 use denote.Builtin.{u8, usize}
 use denote.Ref.{RefT, NamedLft, now}
 use denote.Signature.{plain}
-use denote.Slice.{sliceTy, sliceVal, ShrSlice, slice-vals, shr-slice-tells, shr-slice-lawful, shr-slice-copy}
+use denote.Slice.{sliceTy, ShrSlice, slice-vals, shr-slice-tells, shr-slice-lawful, shr-slice-copy}
 use denote.Steps.{peeks, owned, nothing}
 use denote.Struct.Laws as LL
 use denote.Struct.Rest.{own-put}
@@ -56,7 +56,7 @@ use Rattle.rolefile.proofs.Verdict as Q
 use Rattle.rolefile.proofs.Verdict.Laws as Q′
 use Rattle.rolefile.proofs.Scanning.{ended-seen}
 use Rattle.rolefile.proofs.Called.{asks, answered}
-use Rattle.rolefile.proofs.Held.{Held, held, held-laws, Own, twice}
+use Rattle.rolefile.proofs.Held.{Held, held, held-laws, fileVal, Own, twice}
 use Rattle.rolefile.proofs.reader.from_line as from-line
 use Rattle.rolefile.proofs.reader.from_line.Symbol as from-line-def
 use Rattle.rolefile.proofs.reader.from_line.Symbol.{name as #from-line}
@@ -149,7 +149,7 @@ module _ {M : Type 1} (𝓤 : URA M) (H : Heap 𝓤) (A : Atoms 𝓤) (W : Given
   F = ShrSlice (named 0) κ u8
 
   abbrev v : Val
-  v = sliceVal (f .ptr) (length (f .now))
+  v = fileVal f
 
   abbrev αᵉ : NamedLft
   αᵉ = record { mir = erased; lft = κ }
