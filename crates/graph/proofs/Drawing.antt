@@ -17,7 +17,7 @@ use Rattle.order.proofs.Closure.{Agree, via-agree}
 use Rattle.text.specs.Text.{ascii}
 use Rattle.text.proofs.Each.{each-agree, each-pair-agree}
 use Rattle.policy.proofs.Flowing.{row-more}
-use Rattle.graph.specs.Graph.{past, direct, directFlow, node, orderArrow, flowArrow, nodes, orderArrows, flowArrows, rolesText}
+use Rattle.graph.specs.Graph.{past, direct, directFlow, node, orderEdge, flowEdge, nodes, orderEdges, flowEdges, rolesText}
 
 -- ---- a table that is made row by row: its next row, empty so far, is united with another
 
@@ -51,29 +51,29 @@ module _ (n : ℕ) where
   nodes-agree prefix p q h = each-agree n (λ a. node prefix (p a) a) (λ a. node prefix (q a) a) (λ a w. rw (h a w))
 
   module _ (d e : Relation) (h : Agree n n d e) where
-    line-agree : (prefix : List ℕ) (a b : ℕ) → Among n a → Among n b → orderArrow prefix n d a b ≡ orderArrow prefix n e a b
-    unfolding orderArrow direct
+    line-agree : (prefix : List ℕ) (a b : ℕ) → Among n a → Among n b → orderEdge prefix n d a b ≡ orderEdge prefix n e a b
+    unfolding orderEdge direct
     line-agree prefix a b v w = rw (h a b v w, past-agree d e d e h h a b v w)
 
-    pub order-arrows-agree : (prefix : List ℕ) → orderArrows prefix n d ≡ orderArrows prefix n e
-    order-arrows-agree prefix =
-        each-pair-agree n (orderArrow prefix n d) (orderArrow prefix n e) (line-agree prefix)
+    pub order-edges-agree : (prefix : List ℕ) → orderEdges prefix n d ≡ orderEdges prefix n e
+    order-edges-agree prefix =
+        each-pair-agree n (orderEdge prefix n d) (orderEdge prefix n e) (line-agree prefix)
 
   -- juniors, seniors, flow and its paths
   module _ (j k s t f g p q : Relation) (hj : Agree n n j k) (hs : Agree n n s t) (hf : Agree n n f g) (hp : Agree n n p q) where
-    flow-agree : (a b : ℕ) → Among n a → Among n b → flowArrow n j s f p a b ≡ flowArrow n k t g q a b
-    unfolding flowArrow directFlow
+    flow-agree : (a b : ℕ) → Among n a → Among n b → flowEdge n j s f p a b ≡ flowEdge n k t g q a b
+    unfolding flowEdge directFlow
     flow-agree a b v w = rw (hf a b v w, past-agree j k f g hj hf a b v w, past-agree f g s t hf hs a b v w, hp b a w v)
 
-    flow-arrows-agree : flowArrows n j s f p ≡ flowArrows n k t g q
-    flow-arrows-agree =
-        each-pair-agree n (flowArrow n j s f p) (flowArrow n k t g q) flow-agree
+    flow-edges-agree : flowEdges n j s f p ≡ flowEdges n k t g q
+    flow-edges-agree =
+        each-pair-agree n (flowEdge n j s f p) (flowEdge n k t g q) flow-agree
 
     pub roles-agree : rolesText n j s f p ≡ rolesText n k t g q
     unfolding rolesText
     roles-agree =
         rw (
           nodes-agree (ascii "r") (λ a. p a a) (λ a. q a a) (λ a w. hp a a w w),
-          order-arrows-agree s t hs (ascii "r"),
-          flow-arrows-agree,
+          order-edges-agree s t hs (ascii "r"),
+          flow-edges-agree,
         )

@@ -1,4 +1,4 @@
--- The policy as a graph, in the language of Graphviz' dot: labels with the arrows of direct dominance, roles with those of direct seniority, and the flows that
+-- The policy as a graph, in the language of Graphviz' dot: labels with the edges of direct dominance, roles with those of direct seniority, and the flows that
 -- follow from no other. What lies on a circle of flow is red.
 --
 --     digraph policy {
@@ -36,7 +36,7 @@ use Rattle.monitor.specs.Review.{knownLabels, knownRoles, dominatesIn, seniorTo
 use Rattle.graph.specs.declared.Order.{Order}
 use Rattle.graph.specs.declared.Order.the-variants.{Dominating, Seniors, Juniors}
 
--- ---- which arrows are drawn
+-- ---- which edges are drawn
 
 -- b is one of those that a is put in relation to, itself left out: the labels that dominate label a, the seniors of role a, or its juniors
 abbrev pub ordered : List ℕ → Order → Relation
@@ -67,41 +67,41 @@ unfoldable pub node : List ℕ → Bool → ℕ → List ℕ
 node prefix red a =
     ascii "    " ++ (prefix ++ (digits a ++ (ascii " [label=\"" ++ (digits a ++ cond red (ascii "\", color=red];\n") (ascii "\"];\n")))))
 
-unfoldable pub arrow : List ℕ → ℕ → ℕ → List ℕ
-arrow prefix a b = ascii "    " ++ (prefix ++ (digits a ++ (ascii " -> " ++ (prefix ++ digits b))))
+unfoldable pub edge : List ℕ → ℕ → ℕ → List ℕ
+edge prefix a b = ascii "    " ++ (prefix ++ (digits a ++ (ascii " -> " ++ (prefix ++ digits b))))
 
--- an arrow from a up to b
-unfoldable pub orderArrow : List ℕ → ℕ → Relation → ℕ → ℕ → List ℕ
-orderArrow prefix n e a b = cond (direct n e a b) (arrow prefix a b ++ ascii ";\n") []
+-- an edge from a up to b
+unfoldable pub orderEdge : List ℕ → ℕ → Relation → ℕ → ℕ → List ℕ
+orderEdge prefix n e a b = cond (direct n e a b) (edge prefix a b ++ ascii ";\n") []
 
--- an arrow from role r to role q, red where q leads back to r
-unfoldable pub flowArrow : ℕ → Relation → Relation → Relation → Relation → ℕ → ℕ → List ℕ
-flowArrow n juniors seniors flow leads r q =
-    cond (directFlow n juniors seniors flow r q) (arrow (ascii "r") r q ++ cond (leads q r) (ascii " [color=red];\n") (ascii ";\n")) []
+-- an edge from role r to role q, red where q leads back to r
+unfoldable pub flowEdge : ℕ → Relation → Relation → Relation → Relation → ℕ → ℕ → List ℕ
+flowEdge n juniors seniors flow leads r q =
+    cond (directFlow n juniors seniors flow r q) (edge (ascii "r") r q ++ cond (leads q r) (ascii " [color=red];\n") (ascii ";\n")) []
 
 abbrev pub nodes : List ℕ → ℕ → (ℕ → Bool) → List ℕ
 nodes prefix n red = each n (λ a. node prefix (red a) a)
 
-abbrev pub orderArrows : List ℕ → ℕ → Relation → List ℕ
-orderArrows prefix n e = eachPair n (orderArrow prefix n e)
+abbrev pub orderEdges : List ℕ → ℕ → Relation → List ℕ
+orderEdges prefix n e = eachPair n (orderEdge prefix n e)
 
-abbrev pub flowArrows : ℕ → Relation → Relation → Relation → Relation → List ℕ
-flowArrows n juniors seniors flow leads = eachPair n (flowArrow n juniors seniors flow leads)
+abbrev pub flowEdges : ℕ → Relation → Relation → Relation → Relation → List ℕ
+flowEdges n juniors seniors flow leads = eachPair n (flowEdge n juniors seniors flow leads)
 
 -- ---- the text
 
 unfoldable pub labelsText : ℕ → Relation → List ℕ
 labelsText n dominating =
     ascii "  subgraph cluster_labels { label=\"labels\"; edge [arrowhead=none];\n"
-    ++ (nodes (ascii "l") n (λ a. false) ++ (orderArrows (ascii "l") n dominating ++ ascii "  }\n"))
+    ++ (nodes (ascii "l") n (λ a. false) ++ (orderEdges (ascii "l") n dominating ++ ascii "  }\n"))
 
 -- `leads`: a path of flow of one step or more
 unfoldable pub rolesText : ℕ → Relation → Relation → Relation → Relation → List ℕ
 rolesText n juniors seniors flow leads =
     ascii "  subgraph cluster_roles { label=\"roles\"; edge [arrowhead=none];\n"
-    ++ (nodes (ascii "r") n (λ r. leads r r) ++ (orderArrows (ascii "r") n seniors
+    ++ (nodes (ascii "r") n (λ r. leads r r) ++ (orderEdges (ascii "r") n seniors
     ++ (ascii "    edge [arrowhead=normal, style=dashed, color=blue, constraint=false];\n"
-    ++ (flowArrows n juniors seniors flow leads ++ ascii "  }\n"))))
+    ++ (flowEdges n juniors seniors flow leads ++ ascii "  }\n"))))
 
 -- of a state
 unfoldable pub labelsOf : List ℕ → List ℕ

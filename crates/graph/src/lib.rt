@@ -140,10 +140,10 @@ fn nodes(prefix: &[u8], t: &[u8], n: usize, out: &mut [u8], at: usize) -> usize
     used
 }
 
-// Puts an arrow from a to b.
-fn arrow(prefix: &[u8], a: u64, b: u64, out: &mut [u8], at: usize) -> usize
+// Puts an edge from a to b.
+fn edge(prefix: &[u8], a: u64, b: u64, out: &mut [u8], at: usize) -> usize
     requires { ⌜ (a < 100000) × (b < 100000) ⌝ }
-    ensures { λ r. ⌜ Puts (graph.arrow (now (prefix .entry)) a b) at (now (out .entry)) r (now (out .exit)) ⌝ }
+    ensures { λ r. ⌜ Puts (graph.edge (now (prefix .entry)) a b) at (now (out .entry)) r (now (out .exit)) ⌝ }
 {
     let mut used = text::put(out, at, b"    ");
     used = text::put(out, used, prefix);
@@ -153,8 +153,8 @@ fn arrow(prefix: &[u8], a: u64, b: u64, out: &mut [u8], at: usize) -> usize
     text::number(out, used, b)
 }
 
-// Puts the arrow from a up to b, where there is one.
-fn order_arrow(
+// Puts the edge from a up to b, where there is one.
+fn order_edge(
     prefix: &[u8],
     t: &[u8],
     n: usize,
@@ -164,52 +164,45 @@ fn order_arrow(
     at: usize,
 ) -> usize
     requires { ⌜ (2048 ≤ length (now t)) × (n ≤ 128) × Among 128 a × (b ≤ 128) × (at ≤ length (now out)) ⌝ }
-    ensures { λ r. ⌜ Puts (graph.orderArrow (now (prefix .entry)) n (related (now (t .entry)) 0) a b) at (now (out .entry)) r (now (out .exit)) ⌝ }
+    ensures { λ r. ⌜ Puts (graph.orderEdge (now (prefix .entry)) n (related (now (t .entry)) 0) a b) at (now (out .entry)) r (now (out .exit)) ⌝ }
 {
     if !direct(t, n, a, b) {
         return at;
     }
-    let used = arrow(prefix, a as u64, b as u64, out, at);
+    let used = edge(prefix, a as u64, b as u64, out, at);
     text::put(out, used, b";\n")
 }
 
-// Puts the arrows from a.
-fn order_arrows_from(
-    prefix: &[u8],
-    t: &[u8],
-    n: usize,
-    a: usize,
-    out: &mut [u8],
-    at: usize,
-) -> usize
+// Puts the edges from a.
+fn order_edges_from(prefix: &[u8], t: &[u8], n: usize, a: usize, out: &mut [u8], at: usize) -> usize
     requires { ⌜ (2048 ≤ length (now t)) × (n ≤ 128) × Among 128 a × (at ≤ length (now out)) ⌝ }
-    ensures { λ r. ⌜ Puts (each n (graph.orderArrow (now (prefix .entry)) n (related (now (t .entry)) 0) a)) at (now (out .entry)) r (now (out .exit)) ⌝ }
+    ensures { λ r. ⌜ Puts (each n (graph.orderEdge (now (prefix .entry)) n (related (now (t .entry)) 0) a)) at (now (out .entry)) r (now (out .exit)) ⌝ }
 {
     let mut used = at;
     let mut i = 0;
     while i < n {
-        used = order_arrow(prefix, t, n, a, i + 1, out, used);
+        used = order_edge(prefix, t, n, a, i + 1, out, used);
         i += 1;
     }
     used
 }
 
-// Puts all arrows of the table's relation.
-fn order_arrows(prefix: &[u8], t: &[u8], n: usize, out: &mut [u8], at: usize) -> usize
+// Puts all edges of the table's relation.
+fn order_edges(prefix: &[u8], t: &[u8], n: usize, out: &mut [u8], at: usize) -> usize
     requires { ⌜ (2048 ≤ length (now t)) × (n ≤ 128) × (at ≤ length (now out)) ⌝ }
-    ensures { λ r. ⌜ Puts (graph.orderArrows (now (prefix .entry)) n (related (now (t .entry)) 0)) at (now (out .entry)) r (now (out .exit)) ⌝ }
+    ensures { λ r. ⌜ Puts (graph.orderEdges (now (prefix .entry)) n (related (now (t .entry)) 0)) at (now (out .entry)) r (now (out .exit)) ⌝ }
 {
     let mut used = at;
     let mut i = 0;
     while i < n {
-        used = order_arrows_from(prefix, t, n, i + 1, out, used);
+        used = order_edges_from(prefix, t, n, i + 1, out, used);
         i += 1;
     }
     used
 }
 
-// Puts the arrow of the flow from role r to role q, where there is one, red where q leads back to r.
-fn flow_arrow(
+// Puts the edge of the flow from role r to role q, where there is one, red where q leads back to r.
+fn flow_edge(
     juniors: &[u8],
     seniors: &[u8],
     flow: &[u8],
@@ -221,20 +214,20 @@ fn flow_arrow(
     at: usize,
 ) -> usize
     requires { ⌜ graph.RoleTables (now juniors) (now seniors) (now flow) (now leads) × (n ≤ 128) × Among 128 r × Among 128 q × (at ≤ length (now out)) ⌝ }
-    ensures { λ x. ⌜ Puts (graph.flowArrow n (related (now (juniors .entry)) 0) (related (now (seniors .entry)) 0) (related (now (flow .entry)) 0) (related (now (leads .entry)) 0) r q) at (now (out .entry)) x (now (out .exit)) ⌝ }
+    ensures { λ x. ⌜ Puts (graph.flowEdge n (related (now (juniors .entry)) 0) (related (now (seniors .entry)) 0) (related (now (flow .entry)) 0) (related (now (leads .entry)) 0) r q) at (now (out .entry)) x (now (out .exit)) ⌝ }
 {
     if !direct_flow(juniors, seniors, flow, n, r, q) {
         return at;
     }
-    let used = arrow(b"r", r as u64, q as u64, out, at);
+    let used = edge(b"r", r as u64, q as u64, out, at);
     if relates(leads, q, r) {
         return text::put(out, used, b" [color=red];\n");
     }
     text::put(out, used, b";\n")
 }
 
-// Puts the arrows of the flows from role r.
-fn flow_arrows_from(
+// Puts the edges of the flows from role r.
+fn flow_edges_from(
     juniors: &[u8],
     seniors: &[u8],
     flow: &[u8],
@@ -245,19 +238,19 @@ fn flow_arrows_from(
     at: usize,
 ) -> usize
     requires { ⌜ graph.RoleTables (now juniors) (now seniors) (now flow) (now leads) × (n ≤ 128) × Among 128 r × (at ≤ length (now out)) ⌝ }
-    ensures { λ x. ⌜ Puts (each n (graph.flowArrow n (related (now (juniors .entry)) 0) (related (now (seniors .entry)) 0) (related (now (flow .entry)) 0) (related (now (leads .entry)) 0) r)) at (now (out .entry)) x (now (out .exit)) ⌝ }
+    ensures { λ x. ⌜ Puts (each n (graph.flowEdge n (related (now (juniors .entry)) 0) (related (now (seniors .entry)) 0) (related (now (flow .entry)) 0) (related (now (leads .entry)) 0) r)) at (now (out .entry)) x (now (out .exit)) ⌝ }
 {
     let mut used = at;
     let mut i = 0;
     while i < n {
-        used = flow_arrow(juniors, seniors, flow, leads, n, r, i + 1, out, used);
+        used = flow_edge(juniors, seniors, flow, leads, n, r, i + 1, out, used);
         i += 1;
     }
     used
 }
 
-// Puts the arrows of all flows.
-fn flow_arrows(
+// Puts the edges of all flows.
+fn flow_edges(
     juniors: &[u8],
     seniors: &[u8],
     flow: &[u8],
@@ -267,12 +260,12 @@ fn flow_arrows(
     at: usize,
 ) -> usize
     requires { ⌜ graph.RoleTables (now juniors) (now seniors) (now flow) (now leads) × (n ≤ 128) × (at ≤ length (now out)) ⌝ }
-    ensures { λ x. ⌜ Puts (graph.flowArrows n (related (now (juniors .entry)) 0) (related (now (seniors .entry)) 0) (related (now (flow .entry)) 0) (related (now (leads .entry)) 0)) at (now (out .entry)) x (now (out .exit)) ⌝ }
+    ensures { λ x. ⌜ Puts (graph.flowEdges n (related (now (juniors .entry)) 0) (related (now (seniors .entry)) 0) (related (now (flow .entry)) 0) (related (now (leads .entry)) 0)) at (now (out .entry)) x (now (out .exit)) ⌝ }
 {
     let mut used = at;
     let mut i = 0;
     while i < n {
-        used = flow_arrows_from(juniors, seniors, flow, leads, n, i + 1, out, used);
+        used = flow_edges_from(juniors, seniors, flow, leads, n, i + 1, out, used);
         i += 1;
     }
     used
@@ -290,7 +283,7 @@ fn labels_text(s: &[u8], out: &mut [u8], at: usize) -> usize
         b"  subgraph cluster_labels { label=\"labels\"; edge [arrowhead=none];\n",
     );
     used = nodes(b"l", &t, n, out, used);
-    used = order_arrows(b"l", &t, n, out, used);
+    used = order_edges(b"l", &t, n, out, used);
     text::put(out, used, b"  }\n")
 }
 
@@ -313,13 +306,13 @@ fn roles_by(
         b"  subgraph cluster_roles { label=\"roles\"; edge [arrowhead=none];\n",
     );
     used = nodes(b"r", leads, n, out, used);
-    used = order_arrows(b"r", seniors, n, out, used);
+    used = order_edges(b"r", seniors, n, out, used);
     used = text::put(
         out,
         used,
         b"    edge [arrowhead=normal, style=dashed, color=blue, constraint=false];\n",
     );
-    used = flow_arrows(juniors, seniors, flow, leads, n, out, used);
+    used = flow_edges(juniors, seniors, flow, leads, n, out, used);
     text::put(out, used, b"  }\n")
 }
 

@@ -12,7 +12,7 @@ use Rattle.order.specs.Closure.{via}
 use Rattle.order.specs.Bound.{upper, isLeast, least, lub, withoutBound, partnerWithoutBound, lowestWithoutBound}
 use Rattle.rolefile.specs.Field.{column, columns}
 use Rattle.rolefile.specs.Line.{letterOf, fields, formed, lineOf, lineAt}
-use Rattle.rolefile.specs.Form.{fine, scan, sized, countsFit, firstLimit, secondLimit, ranged, rises, headVerdict, bodyVerdict, lineVerdict}
+use Rattle.rolefile.specs.Form.{fine, scan, sized, goodCounts, firstLimit, secondLimit, ranged, rises, headVerdict, bodyVerdict, lineVerdict}
 use Rattle.rolefile.specs.Form.{count, unlabelled, unlabelledVerdict, linesVerdict, formVerdict}
 use Rattle.rolefile.specs.Said.{cards, says, last, labelBy, cardLabel}
 use Rattle.policy.specs.Policy.{dominates, senior, may, mayAt, level, rLevel, wLevel}
@@ -35,7 +35,7 @@ answersBy L store cs = map (λ x. x .answer) (shownBy file L 192 noneOpen noSess
 accepted-file : verdict file ≡ fine
 unfolding file line bytes
     column columns letterOf fields formed lineOf lineAt
-    sized countsFit firstLimit secondLimit ranged rises headVerdict bodyVerdict lineVerdict scan count unlabelled unlabelledVerdict linesVerdict formVerdict
+    sized goodCounts firstLimit secondLimit ranged rises headVerdict bodyVerdict lineVerdict scan count unlabelled unlabelledVerdict linesVerdict formVerdict
     says last labelBy some every first via upper isLeast least lub withoutBound partnerWithoutBound lowestWithoutBound
     dominates senior may mayAt level rLevel wLevel orderVerdict labelVerdict roleVerdict assignVerdict assignmentVerdict policyVerdict verdict
 accepted-file = refl

@@ -107,7 +107,7 @@ pub record Claim (f : List ℕ) (L : ℕ) (m₁ m₂ : Memory) (cs₁ cs₂ : Li
   pub answers : Alike f L (shown f L noneOpen m₁ cs₁) (shown f L noneOpen m₂ cs₂)
   pub cards : SameCards f L (run m₁ cs₁ .store) (run m₂ cs₂ .store)
 
--- what is claimed of the label, the memories and the calls holds of every two runs of the file that fall under demand 3
+-- what is claimed of the label, the memories and the calls holds of every two runs of the file that fall under demand 3; each may start from a load of its own
 abbrev pub OfTwoRuns : (f : List ℕ) → (ℕ → Memory → Memory → List Call → List Call → Type 0) → Type 0
 OfTwoRuns f Claimed =
     Accepted f → (a b : Start f) (L : ℕ) → Among (labels f) L

@@ -6,7 +6,7 @@ use Rattle.order.specs.Closure.{via}
 use Rattle.order.specs.Bound.{upper, isLeast, least, lub, withoutBound, partnerWithoutBound, lowestWithoutBound}
 use Rattle.rolefile.specs.Field.{column, columns}
 use Rattle.rolefile.specs.Line.{letterOf, fields, formed, lineOf, lineAt}
-use Rattle.rolefile.specs.Form.{scan, sized, countsFit, firstLimit, secondLimit, ranged, rises, headVerdict, bodyVerdict, lineVerdict}
+use Rattle.rolefile.specs.Form.{scan, sized, goodCounts, firstLimit, secondLimit, ranged, rises, headVerdict, bodyVerdict, lineVerdict}
 use Rattle.rolefile.specs.Form.{count, unlabelled, unlabelledVerdict, linesVerdict, formVerdict}
 use Rattle.rolefile.specs.Said.{says, last, labelBy}
 use Rattle.policy.specs.Policy.{dominates, senior, may, mayAt, level, rLevel, wLevel}
@@ -23,7 +23,7 @@ given c = findings (bytes (c .file)) (c .expected)
 computed : map given cases ≡ map (λ c. c .expected) cases
 unfolding cases findings line bytes
     column columns letterOf fields formed lineOf lineAt
-    sized countsFit firstLimit secondLimit ranged rises headVerdict bodyVerdict lineVerdict scan count unlabelled unlabelledVerdict linesVerdict formVerdict
+    sized goodCounts firstLimit secondLimit ranged rises headVerdict bodyVerdict lineVerdict scan count unlabelled unlabelledVerdict linesVerdict formVerdict
     says last labelBy some every first via upper isLeast least lub withoutBound partnerWithoutBound lowestWithoutBound
     dominates senior may mayAt level rLevel wLevel orderVerdict labelVerdict roleVerdict assignVerdict assignmentVerdict policyVerdict verdict flows flowCircle
     unless ifDone entitledByFile fittingByFile givesByFile openRule takeRule partRule rule next numbered

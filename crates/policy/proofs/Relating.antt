@@ -16,7 +16,7 @@ use Rattle.roleset.specs.Row.{member, rowOf, added, joined, Kept, Placed}
 use Rattle.roleset.proofs.Rows.{row-kept, whole-true}
 use Rattle.order.specs.Closure.{Relation}
 use Rattle.rolefile.specs.Section.{one, two, three}
-use Rattle.policy.specs.Tables.{seniorsAt, readersAt, writersAt, pairs, grantedByLines, Related, GrantedRows, Joins}
+use Rattle.policy.specs.Tables.{seniorsAt, readersAt, writersAt, pairs, grantedByLines, Related, GrantedRows, Unites}
 
 -- two rows of one table do not overlap
 rows-apart : (at x y : ℕ) → 1 ≤ x → 1 ≤ y → (y ≡ x → ⊥) → (rowOf at y + 16 ≤ rowOf at x) ⊎ (rowOf at x + 16 ≤ rowOf at y)
@@ -34,25 +34,25 @@ module _ (at size x : ℕ) (s : ℕ → Bool) (xs ys : List ℕ) (p : Placed (ro
 
 -- nothing is said, the same is said by another name, and more is said
 module _ (at size : ℕ) (said : Relation) (xs : List ℕ) where
-  joins-none : ((x r : ℕ) → Among size x → Among 128 r → said x r ≡ false) → Joins at size said xs xs
-  joins-none h x r v w = rw (h x r v w) (sym (or-false (member xs (rowOf at x) r)))
+  unites-none : ((x r : ℕ) → Among size x → Among 128 r → said x r ≡ false) → Unites at size said xs xs
+  unites-none h x r v w = rw (h x r v w) (sym (or-false (member xs (rowOf at x) r)))
 
-  joins-as : (told : Relation) (ys : List ℕ) → ((x r : ℕ) → said x r ≡ told x r) → Joins at size said xs ys → Joins at size told xs ys
-  joins-as told ys e t x r v w = rw (← (e x r)) (t x r v w)
+  unites-as : (told : Relation) (ys : List ℕ) → ((x r : ℕ) → said x r ≡ told x r) → Unites at size said xs ys → Unites at size told xs ys
+  unites-as told ys e t x r v w = rw (← (e x r)) (t x r v w)
 
-  joins-more : (more : Relation) (ys zs : List ℕ) → Joins at size said xs ys → Joins at size more ys zs → Joins at size (λ x r. said x r || more x r) xs zs
-  joins-more more ys zs t u x r v w = u x r v w ∙ rw (t x r v w) (or-assoc (member xs (rowOf at x) r) (said x r) (more x r))
+  unites-more : (more : Relation) (ys zs : List ℕ) → Unites at size said xs ys → Unites at size more ys zs → Unites at size (λ x r. said x r || more x r) xs zs
+  unites-more more ys zs t u x r v w = u x r v w ∙ rw (t x r v w) (or-assoc (member xs (rowOf at x) r) (said x r) (more x r))
 
 pub related-none : (at size : ℕ) (said : Relation) (xs : List ℕ) → ((x r : ℕ) → Among size x → Among 128 r → said x r ≡ false) → Related at size said xs xs
-related-none at size said xs h = record { rows = joins-none at size said xs h; rest = λ i out. refl }
+related-none at size said xs h = record { rows = unites-none at size said xs h; rest = λ i out. refl }
 
 pub related-as : {at size : ℕ} {said told : Relation} {xs ys : List ℕ} → ((x r : ℕ) → said x r ≡ told x r) → Related at size said xs ys → Related at size told xs ys
-related-as {at} {size} {said} {told} {xs} {ys} e t = record { rows = joins-as at size said xs told ys e (t .rows); rest = t .rest }
+related-as {at} {size} {said} {told} {xs} {ys} e t = record { rows = unites-as at size said xs told ys e (t .rows); rest = t .rest }
 
 pub related-more : {at size : ℕ} {said more : Relation} {xs ys zs : List ℕ} → Related at size said xs ys → Related at size more ys zs
     → Related at size (λ x r. said x r || more x r) xs zs
 related-more {at} {size} {said} {more} {xs} {ys} {zs} t u = record {
-  rows = joins-more at size said xs more ys zs (t .rows) (u .rows);
+  rows = unites-more at size said xs more ys zs (t .rows) (u .rows);
   rest = λ i out. u .rest i out ∙ t .rest i out;
 }
 
@@ -94,22 +94,22 @@ Said = ℕ → ℕ → ℕ → Bool
 
 pub granted-none : (said : Said) (xs : List ℕ) → ((d o r : ℕ) → Among 2 d → Among 512 o → said d o r ≡ false) → GrantedRows said xs xs
 granted-none said xs h = record {
-  readers = joins-none readersAt 512 (said 1) xs (λ o r v w. h 1 o r (omega arith) v);
-  writers = joins-none writersAt 512 (said 2) xs (λ o r v w. h 2 o r (omega arith) v);
+  readers = unites-none readersAt 512 (said 1) xs (λ o r v w. h 1 o r (omega arith) v);
+  writers = unites-none writersAt 512 (said 2) xs (λ o r v w. h 2 o r (omega arith) v);
   rest = λ i out. refl;
 }
 
 pub granted-as : {said told : Said} {xs ys : List ℕ} → ((d o r : ℕ) → said d o r ≡ told d o r) → GrantedRows said xs ys → GrantedRows told xs ys
 granted-as {said} {told} {xs} {ys} e t = record {
-  readers = joins-as readersAt 512 (said 1) xs (told 1) ys (e 1) (t .readers);
-  writers = joins-as writersAt 512 (said 2) xs (told 2) ys (e 2) (t .writers);
+  readers = unites-as readersAt 512 (said 1) xs (told 1) ys (e 1) (t .readers);
+  writers = unites-as writersAt 512 (said 2) xs (told 2) ys (e 2) (t .writers);
   rest = t .rest;
 }
 
 pub granted-more : {said more : Said} {xs ys zs : List ℕ} → GrantedRows said xs ys → GrantedRows more ys zs → GrantedRows (λ d o r. said d o r || more d o r) xs zs
 granted-more {said} {more} {xs} {ys} {zs} t u = record {
-  readers = joins-more readersAt 512 (said 1) xs (more 1) ys zs (t .readers) (u .readers);
-  writers = joins-more writersAt 512 (said 2) xs (more 2) ys zs (t .writers) (u .writers);
+  readers = unites-more readersAt 512 (said 1) xs (more 1) ys zs (t .readers) (u .readers);
+  writers = unites-more writersAt 512 (said 2) xs (more 2) ys zs (t .writers) (u .writers);
   rest = λ i out. u .rest i out ∙ t .rest i out;
 }
 

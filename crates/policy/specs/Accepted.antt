@@ -41,7 +41,8 @@ WritesOver f l r = Passing (labels f) (converse (dominates f)) (mayAt f 2 r) (λ
 abbrev pub NoWriteLevel : List ℕ → ℕ → Type 0
 NoWriteLevel f r = UndefinedLevel (labels f) (converse (dominates f)) (mayAt f 2 r)
 
--- 003, Theorem 3, for an A line: "the clearance must dominate the r-level, and the w-level must dominate the clearance"
+-- 003, Theorem 3, for an A line: "the w-level must not be undefined, the clearance must dominate the r-level, and the w-level must dominate the
+-- clearance"; an undefined level does not pass
 pub record WithinLevels (f : List ℕ) (u r : ℕ) : Type 0 where
   pub reads : ReadsUnder f (clearance f u) r
   pub writes : WritesOver f (clearance f u) r

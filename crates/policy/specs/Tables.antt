@@ -91,13 +91,13 @@ gathered xs at n l r = some n (λ o. eqb (byteOf xs cardLabelsAt o) l && member 
 
 -- ---- records of what the functions over the tables leave
 
--- the rows of a table of role sets: each row x holds what it held, and the roles r of which `said x r`
-abbrev pub Joins : ℕ → ℕ → Relation → List ℕ → List ℕ → Type 0
-Joins at size said xs ys = (x r : ℕ) → Among size x → Among 128 r → member ys (rowOf at x) r ≡ (member xs (rowOf at x) r || said x r)
+-- the rows of a table of role sets: each row x holds what it held, and the roles r for which `said x r`
+abbrev pub Unites : ℕ → ℕ → Relation → List ℕ → List ℕ → Type 0
+Unites at size said xs ys = (x r : ℕ) → Among size x → Among 128 r → member ys (rowOf at x) r ≡ (member xs (rowOf at x) r || said x r)
 
--- so a table, and nothing else has changed
+-- the rows of the table at `at` are united so, and every other byte is as it was
 pub record Related (at size : ℕ) (said : Relation) (xs ys : List ℕ) : Type 0 where
-  pub rows : Joins at size said xs ys
+  pub rows : Unites at size said xs ys
   pub rest : Kept at (at + 16 * size) xs ys
 
 -- a table of bytes: thing x's is now v x
@@ -107,8 +107,8 @@ pub record Bytes (at size : ℕ) (v : ℕ → ℕ) (xs ys : List ℕ) : Type 0 w
 
 -- the readers' and the writers' rows with what `said` gives for mode 1 and mode 2
 pub record GrantedRows (said : ℕ → ℕ → ℕ → Bool) (xs ys : List ℕ) : Type 0 where
-  pub readers : Joins readersAt 512 (said 1) xs ys
-  pub writers : Joins writersAt 512 (said 2) xs ys
+  pub readers : Unites readersAt 512 (said 1) xs ys
+  pub writers : Unites writersAt 512 (said 2) xs ys
   pub rest : Kept readersAt 28688 xs ys
 
 -- ---- role flow by the rows of the first n cards
@@ -127,14 +127,15 @@ cardsUpTo xs = min (word xs 6) 512
 abbrev pub isState : List ℕ → Bool
 isState xs = leb stateSize (length xs)
 
--- ---- what a list of bytes tells of its roles; what is too short for a state has none
+-- ---- what a list of bytes tells of its roles and cards; what is too short for a state has none
 
 -- the count at `at`, `most` where it is higher
 abbrev pub countIn : List ℕ → ℕ → ℕ → ℕ
 countIn xs at most = cond (isState xs) (min (word xs at) most) 0
 
+-- that of the roles
 abbrev pub roleCount : List ℕ → ℕ
-roleCount xs = countIn xs 2 128
+roleCount xs = cond (isState xs) (rolesUpTo xs) 0
 
 -- the role's byte of the table of levels at `at`
 abbrev pub levelIn : List ℕ → ℕ → ℕ → ℕ

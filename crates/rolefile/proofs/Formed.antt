@@ -15,7 +15,7 @@ use Rattle.search.proofs.Found.{first-none}
 use Rattle.rolefile.specs.declared.Line.{Line}
 use Rattle.rolefile.specs.declared.Verdict.{Verdict}
 use Rattle.rolefile.specs.Line.{H, U, O, P, lineAt, lines}
-use Rattle.rolefile.specs.Form.{refusal, sized, header, countsFit, firstLimit, secondLimit, ranged, before, rises}
+use Rattle.rolefile.specs.Form.{refusal, sized, header, goodCounts, firstLimit, secondLimit, ranged, before, rises}
 use Rattle.rolefile.specs.Form.{headVerdict, bodyVerdict, lineVerdict, count, about, unlabelled, found, unlabelledVerdict, linesVerdict, formVerdict, fine, unless, scan}
 use Rattle.rolefile.specs.Said.{users, cards}
 use Rattle.rolefile.specs.WellFormed.{Sized, GoodCounts, GoodNumbers, Before, Rises, GoodHead, GoodBody, GoodLine, GoodLines, LineRefused, noHeader, badCounts, malformed, badNumbers, unordered, One, OneEach, LowestUnlabelled, WellFormed}
@@ -60,9 +60,9 @@ sized-iff f =
 
 -- ---- 2 to 5
 
-counts-fit-iff : (h : Line) → (countsFit h ≡ true) ↔ GoodCounts h
-unfolding countsFit
-counts-fit-iff h =
+good-counts-iff : (h : Line) → (goodCounts h ≡ true) ↔ GoodCounts h
+unfolding goodCounts
+good-counts-iff h =
     let t = and-both (among-iff 32 (h .a)) (and-both (leb-iff (h .b) 128) (and-both (leb-iff (h .c) 256) (leb-iff (h .d) 512))) in (
       λ e. let (p, (q, (r, s))) = t .0 e in record { labels = p; roles = q; users = r; cards = s },
       λ g. t .1 (g .labels, (g .roles, (g .users, g .cards))),
@@ -94,7 +94,7 @@ unfolding headVerdict
 head-decides l =
     decides-when
     (unless-decides (eqb-iff (l .letter) H) (refusal 2 1 0) (omega arith) (λ e.
-    test-decides (counts-fit-iff l) (refusal 3 1 0) (omega arith)))
+    test-decides (good-counts-iff l) (refusal 3 1 0) (omega arith)))
     (λ (e, c). record { letter = e; counts = c }, λ g. (g .letter, g .counts))
 
 abbrev BodyRefusal : Line → Line → ℕ → Line → Verdict → Type 0

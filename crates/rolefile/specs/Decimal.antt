@@ -19,7 +19,7 @@ lastDigits (suc k) n = cond (ltb n 10) ((48 + n) ∷ []) (lastDigits k (n / 10) 
 unfoldable pub digits : ℕ → List ℕ
 digits n = lastDigits (suc n) n
 
--- digits in k columns, with blanks before them; 32 is the byte of a blank
+-- up to k digits in k columns, with blanks before them; 32 is the byte of a blank
 abbrev pub inColumns : ℕ → List ℕ → List ℕ
 inColumns k ds = replicate (k - length ds) 32 ++ ds
 

@@ -46,8 +46,8 @@ header f = lineAt f 1
 abbrev pub withinLimits : ℕ → ℕ → ℕ → ℕ → Bool
 withinLimits labels roles users cards = among 32 labels && (leb roles 128 && (leb users 256 && leb cards 512))
 
-unfoldable pub countsFit : Line → Bool
-countsFit h = withinLimits (h .a) (h .b) (h .c) (h .d)
+unfoldable pub goodCounts : Line → Bool
+goodCounts h = withinLimits (h .a) (h .b) (h .c) (h .d)
 
 -- 4: the count that the first and the second field of a letter's lines go up to; a mode is 1 or 2
 unfoldable pub firstLimit : Line → ℕ → ℕ
@@ -69,7 +69,7 @@ rises p l = before (p .letter) (l .letter) (before (p .a) (l .a) (before (p .b) 
 
 -- line 1 is an H line with its counts
 unfoldable pub headVerdict : Line → Verdict
-headVerdict l = unless (eqb (l .letter) H) (refusal 2 1 0) (unless (countsFit l) (refusal 3 1 0) fine)
+headVerdict l = unless (eqb (l .letter) H) (refusal 2 1 0) (unless (goodCounts l) (refusal 3 1 0) fine)
 
 -- line k after line p, under the counts h: a letter, and not H; its numbers; its place after the line before
 unfoldable pub bodyVerdict : Line → Line → ℕ → Line → Verdict

@@ -1,4 +1,4 @@
--- What a well-formed file is, as properties: `Sized` is number 1's rule, `GoodLine` that of 2 to 5 for one line, and `One` that of 6. Assumes nothing.
+-- What a well-formed file is, as properties: `Sized` is number 1's rule, `GoodLine` that of 2 to 5 for one line, `LineRefused` why it is not met, and `One` that of 6. Assumes nothing.
 use Prim.Native.Nat.{ℕ, _-_, _%_, _≤_, _<_}
 use mathlib.Core.Path.{_≡_}
 use mathlib.Core.Logic.{_⊎_}
@@ -52,7 +52,7 @@ pub record GoodLine (f : List ℕ) (k : ℕ) : Type 0 where
 abbrev pub GoodLines : List ℕ → Type 0
 GoodLines f = (k : ℕ) → Among (lines f) k → GoodLine f k
 
--- why line k is not good
+-- why line k is not good, by number; `malformed` is a malformed line, an unknown letter, or H found later
 pub data LineRefused (f : List ℕ) (k : ℕ) : ℕ → Type 0 where
   noHeader : k ≡ 1 → (lineAt f k .letter ≡ H → ⊥) → LineRefused f k 2
   badCounts : k ≡ 1 → lineAt f k .letter ≡ H → (GoodCounts (lineAt f k) → ⊥) → LineRefused f k 3

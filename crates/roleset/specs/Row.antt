@@ -21,7 +21,7 @@ use Rattle.search.specs.Search.{among, some, first}
 abbrev pub bit : ℕ → ℕ → Bool
 bit x j = eqb (x / 2 ^ j % 2) 1
 
--- where the row of thing x begins, in a table of such rows
+-- where the row of thing x begins, in a table of rows at `at`
 abbrev pub rowOf : ℕ → ℕ → ℕ
 rowOf at x = at + 16 * (x - 1)
 

@@ -24,7 +24,7 @@ each (suc n) f = each n f ++ f (suc n)
 abbrev pub eachPair : ℕ → (ℕ → ℕ → List ℕ) → List ℕ
 eachPair n f = each n (λ a. each n (f a))
 
--- the last digit of a number, or a blank for a place that it does not reach
+-- what a column before the last shows, of a number less its digits after that column: the last digit of what is left, or a blank where nothing is
 abbrev pub digitOf : ℕ → ℕ
 digitOf n = cond (ltb n 1) 32 (48 + n % 10)
 

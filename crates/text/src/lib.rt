@@ -26,7 +26,8 @@ pub fn put(out: &mut [u8], at: usize, bytes: &[u8]) -> usize
     at + i
 }
 
-// The last digit of n, or a blank for a place that the number does not reach.
+// What a column before the last shows, where n is the number less its digits after that column:
+// the last digit of n, or a blank where n is 0.
 fn digit(n: u64) -> u8
     ensures { λ r. ⌜ r ≡ digitOf n ⌝ }
 {
@@ -55,7 +56,8 @@ fn columns(used: bool, n: u64) -> [u8; 5]
     ]
 }
 
-// Puts them, as `put` does.
+// Puts the five columns of a number, or blanks for a field without use, as `put` does: a number below
+// 100,000 whole, and the last five digits of any other.
 pub fn field(out: &mut [u8], at: usize, used: bool, n: u64) -> usize
     ensures { λ r. ⌜ (n < 100000 → Puts (columnsOf used n) at (now (out .entry)) r (now (out .exit))) × Puts (lastColumns used n) at (now (out .entry)) r (now (out .exit)) ⌝ }
 {

@@ -13,7 +13,7 @@ use Rattle.text.proofs.Text.{puts-then, puts-as}
 use Rattle.monitor.proofs.Known.{few-labels}
 use Rattle.graph.specs.declared.Order.the-variants.{Dominating}
 use Rattle.graph.specs.Graph.{ordered, labelsText, labelsOf}
-use Rattle.graph.proofs.Drawing.{nodes-agree, order-arrows-agree}
+use Rattle.graph.proofs.Drawing.{nodes-agree, order-edges-agree}
 use Rattle.text.proofs.Text.{by-key}
 use Rattle.graph.proofs.labels_text.Statement.{statement}
 use Rattle.graph.proofs.labels_text.Tie as tie
@@ -40,7 +40,7 @@ returns c =
     by-key (λ m. labelsText m (ordered xs Dominating)) (sym (known .labels .ensures))
     (puts-then (begun .put .ensures)
     (puts-then (puts-as (nodes-agree n (ascii "l") (λ a. related t 0 a a) (λ a. false) (λ a w. made .ordered-table .ensures a a w w ∙ apart xs a)) (noded .nodes .ensures))
-    (puts-then (puts-as (order-arrows-agree n (related t 0) (ordered xs Dominating) (made .ordered-table .ensures) (ascii "l")) (lined .order-arrows .ensures)) (ended .put2 .ensures))))
+    (puts-then (puts-as (order-edges-agree n (related t 0) (ordered xs Dominating) (made .ordered-table .ensures) (ascii "l")) (lined .order-edges .ensures)) (ended .put2 .ensures))))
 
 pub labels-text-spec : {M : Type 1} → statement M
 labels-text-spec =

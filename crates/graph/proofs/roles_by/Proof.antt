@@ -14,8 +14,8 @@ returns c =
     let lined = parted .before .before .before .before .before in
     let noded = lined .before .before .before .before .before in
     let begun = noded .before .before .before .before .before in
-    puts-then (begun .put .ensures) (puts-then (noded .nodes .ensures) (puts-then (lined .order-arrows .ensures)
-    (puts-then (parted .put2 .ensures) (puts-then (flowed .flow-arrows .ensures) (ended .put3 .ensures)))))
+    puts-then (begun .put .ensures) (puts-then (noded .nodes .ensures) (puts-then (lined .order-edges .ensures)
+    (puts-then (parted .put2 .ensures) (puts-then (flowed .flow-edges .ensures) (ended .put3 .ensures)))))
 
 pub roles-by-spec : {M : Type 1} → statement M
 roles-by-spec =

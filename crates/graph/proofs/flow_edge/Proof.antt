@@ -3,36 +3,36 @@ use mathlib.Core.Path.{sym, _∙_}
 use borrow.Author.Needs.{needs}
 use Rattle.search.proofs.Truth.{passed, failed}
 use Rattle.text.proofs.Text.{puts-nothing, puts-then}
-use Rattle.graph.specs.Graph.{flowArrow}
-use Rattle.graph.proofs.flow_arrow.Statement.{statement}
-use Rattle.graph.proofs.flow_arrow.Tie as tie
+use Rattle.graph.specs.Graph.{flowEdge}
+use Rattle.graph.proofs.flow_edge.Statement.{statement}
+use Rattle.graph.proofs.flow_edge.Tie as tie
 
 returns : tie.Need-returns
-unfolding flowArrow
+unfolding flowEdge
 returns c = rw (failed (c .before .direct-flow .ensures) (c .if1 .taken)) (puts-nothing _ _ (search needs))
 
 returns-2 : tie.Need-returns-2
-unfolding flowArrow
+unfolding flowEdge
 returns-2 c =
     let ended = c .before .before in
     let back = ended .before .before .before in
     let drawn = back .before .before .before .before in
     let tested = drawn .before .before .before in
     rw (passed (tested .before .direct-flow .ensures) (tested .if1 .left), sym (back .before .relates .ensures) ∙ back .if2 .taken)
-    (puts-then (drawn .arrow .ensures) (ended .put .ensures))
+    (puts-then (drawn .edge .ensures) (ended .put .ensures))
 
 returns-3 : tie.Need-returns-3
-unfolding flowArrow
+unfolding flowEdge
 returns-3 c =
     let ended = c .before .before in
     let back = ended .before .before .before in
     let drawn = back .before .before .before .before in
     let tested = drawn .before .before .before in
     rw (passed (tested .before .direct-flow .ensures) (tested .if1 .left), sym (back .before .relates .ensures) ∙ back .if2 .left)
-    (puts-then (drawn .arrow .ensures) (ended .put2 .ensures))
+    (puts-then (drawn .edge .ensures) (ended .put2 .ensures))
 
-pub flow-arrow-spec : {M : Type 1} → statement M
-flow-arrow-spec =
+pub flow-edge-spec : {M : Type 1} → statement M
+flow-edge-spec =
     tie.close
     (tie.spec
     (λ c κs. search needs)

@@ -1,23 +1,23 @@
--- Each turn puts the lines from one thing more.
+-- Each turn puts the line to one thing more.
 use Prim.Native.Nat.{_-_, _≤_}
 use mathlib.Core.Path.{_≡_}
 use native.Mathlib.Omega.{arith}
 use borrow.Author.Needs.{needs}
 use Rattle.order.specs.Table.{related}
 use Rattle.text.specs.Text.{Puts, each}
-use Rattle.graph.specs.Graph.{orderArrow}
+use Rattle.graph.specs.Graph.{orderEdge}
 use Rattle.text.proofs.Each.{each-none, each-more}
-use Rattle.graph.proofs.order_arrows.Statement.{statement}
-use Rattle.graph.proofs.order_arrows.Tie as tie
+use Rattle.graph.proofs.order_edges_from.Statement.{statement}
+use Rattle.graph.proofs.order_edges_from.Tie as tie
 
 abbrev Inv-loop : tie.InvT-loop
-Inv-loop prefix t n out₀ at used₀ i₀ out used i = (i ≤ n) × Puts (each i (λ a. each n (orderArrow prefix n (related t 0) a))) at out₀ used out
+Inv-loop prefix t n a out₀ at used₀ i₀ out used i = (i ≤ n) × Puts (each i (orderEdge prefix n (related t 0) a)) at out₀ used out
 
 abbrev μ-loop : tie.MeasureT-loop
-μ-loop prefix t n out₀ at used₀ i₀ out used i = n - i
+μ-loop prefix t n a out₀ at used₀ i₀ out used i = n - i
 
 loop-again : tie.Need-loop-again Inv-loop μ-loop
-loop-again c = let w = c .before .before .before .before .before .loop in (search needs, each-more _ (w .i) (w .inv .1) (c .before .before .order-arrows-from .ensures))
+loop-again c = let w = c .before .before .before .before .before .loop in (search needs, each-more _ (w .i) (w .inv .1) (c .before .before .order-edge .ensures))
 
 returns : tie.Need-returns Inv-loop μ-loop
 returns c =
@@ -25,8 +25,8 @@ returns c =
     let all : w .i ≡ c .before .before .before .before .before .args .n = omega arith in
     rw all at (w .inv .1)
 
-pub order-arrows-spec : {M : Type 1} → statement M
-order-arrows-spec =
+pub order-edges-from-spec : {M : Type 1} → statement M
+order-edges-from-spec =
     tie.close
     (tie.spec
     Inv-loop

@@ -1,12 +1,12 @@
 -- The texts one after the other.
 use borrow.Author.Needs.{needs}
 use Rattle.text.proofs.Text.{puts-then}
-use Rattle.graph.specs.Graph.{arrow}
-use Rattle.graph.proofs.arrow.Statement.{statement}
-use Rattle.graph.proofs.arrow.Tie as tie
+use Rattle.graph.specs.Graph.{edge}
+use Rattle.graph.proofs.edge.Statement.{statement}
+use Rattle.graph.proofs.edge.Tie as tie
 
 returns : tie.Need-returns
-unfolding arrow
+unfolding edge
 returns c =
     let second = c .before .before in
     let marked = second .before .before .before .before in
@@ -18,8 +18,8 @@ returns c =
     puts-then (begun .put .ensures) (puts-then (named .put2 .ensures) (puts-then (first .number .ensures .2 (pre .0))
     (puts-then (parted .put3 .ensures) (puts-then (marked .put4 .ensures) (second .number2 .ensures .2 (pre .1))))))
 
-pub arrow-spec : {M : Type 1} → statement M
-arrow-spec =
+pub edge-spec : {M : Type 1} → statement M
+edge-spec =
     tie.close
     (tie.spec
     (λ c. search needs)

@@ -1,24 +1,24 @@
--- Each turn puts the lines from one role more.
+-- Each turn puts the line to one role more.
 use Prim.Native.Nat.{_-_, _≤_}
 use mathlib.Core.Path.{_≡_}
 use native.Mathlib.Omega.{arith}
 use borrow.Author.Needs.{needs}
 use Rattle.order.specs.Table.{related}
 use Rattle.text.specs.Text.{Puts, each}
-use Rattle.graph.specs.Graph.{flowArrow}
+use Rattle.graph.specs.Graph.{flowEdge}
 use Rattle.text.proofs.Each.{each-none, each-more}
-use Rattle.graph.proofs.flow_arrows.Statement.{statement}
-use Rattle.graph.proofs.flow_arrows.Tie as tie
+use Rattle.graph.proofs.flow_edges_from.Statement.{statement}
+use Rattle.graph.proofs.flow_edges_from.Tie as tie
 
 abbrev Inv-loop : tie.InvT-loop
-Inv-loop juniors seniors flow leads n out₀ at used₀ i₀ out used i =
-    (i ≤ n) × Puts (each i (λ r. each n (flowArrow n (related juniors 0) (related seniors 0) (related flow 0) (related leads 0) r))) at out₀ used out
+Inv-loop juniors seniors flow leads n r out₀ at used₀ i₀ out used i =
+    (i ≤ n) × Puts (each i (flowEdge n (related juniors 0) (related seniors 0) (related flow 0) (related leads 0) r)) at out₀ used out
 
 abbrev μ-loop : tie.MeasureT-loop
-μ-loop juniors seniors flow leads n out₀ at used₀ i₀ out used i = n - i
+μ-loop juniors seniors flow leads n r out₀ at used₀ i₀ out used i = n - i
 
 loop-again : tie.Need-loop-again Inv-loop μ-loop
-loop-again c = let w = c .before .before .before .before .before .loop in (search needs, each-more _ (w .i) (w .inv .1) (c .before .before .flow-arrows-from .ensures))
+loop-again c = let w = c .before .before .before .before .before .loop in (search needs, each-more _ (w .i) (w .inv .1) (c .before .before .flow-edge .ensures))
 
 returns : tie.Need-returns Inv-loop μ-loop
 returns c =
@@ -26,8 +26,8 @@ returns c =
     let all : w .i ≡ c .before .before .before .before .before .before .before .args .n = omega arith in
     rw all at (w .inv .1)
 
-pub flow-arrows-spec : {M : Type 1} → statement M
-flow-arrows-spec =
+pub flow-edges-from-spec : {M : Type 1} → statement M
+flow-edges-from-spec =
     tie.close
     (tie.spec
     Inv-loop
