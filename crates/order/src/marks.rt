@@ -36,8 +36,9 @@ fn pass(t: &mut [[bool; 32]; 32], k: usize, n: usize)
     let other = t[k];
     let mut i = 0;
     while i < n {
+        let on = t[i][k];
         let row = t[i];
-        t[i] = stepped(row, other, row[k]);
+        t[i] = stepped(row, other, on);
         i += 1;
     }
 }

@@ -28,8 +28,8 @@ abbrev μ-loop : tie.MeasureT-loop
 
 loop-again : tie.Need-loop-again Inv-loop μ-loop
 loop-again c =
-    let a = c .before .before .before .before .before .args in
-    let w = c .before .before .before .loop in
+    let a = c .before .before .before .before .before .before .args in
+    let w = c .before .before .before .before .loop in
     let t = now (a .t) in
     let i : ℕ = w .i in
     let seat : (j : ℕ) → j < 32 → getD (getD (w .t) i []) j false ≡ getD (getD t i []) j false = λ j l. same-seat _ t (w .t) i j (search needs) l (w .inv .2) in (
@@ -55,6 +55,8 @@ pass-spec =
     (λ c. search needs)
     (λ c. search needs)
     (λ c. (search needs, search needs, rows-none _ _ _))
+    (λ c. search needs)
+    (λ c. search needs)
     (λ c. search needs)
     (λ c. search needs)
     (λ c. search needs)
