@@ -1,6 +1,7 @@
 -- Tables of marks and what the functions over them say.
 --     marks s a          s has a mark at a: a set of the things 1 to 32
 --     mark t a b         t has a mark in row a and column b: a relation among them
+--     FirstThings n s    s is the set of the first n things
 --     Rows size n h e f  f is h in its rows 1 to n, and e in the rows after, up to `size`
 --     related xs at a b  the table of role sets at `at` relates a to b
 -- Assumes nothing.
@@ -8,6 +9,7 @@ use Prim.Native.Nat.{ℕ, _+_, _*_, _-_, _≤_, _<_}
 use mathlib.Core.Path.{_≡_}
 use mathlib.Core.Bool.{Bool, false}
 use mathlib.Core.List.{List, []}
+use lib.Dec.{leb}
 use lib.ListN.{length, getD}
 use Rattle.search.specs.Search.{Among}
 use Rattle.roleset.specs.Row.{member, rowOf, Kept}
@@ -18,6 +20,10 @@ marks s a = getD s (a - 1) false
 
 abbrev pub mark : List (List Bool) → Relation
 mark t a b = marks (getD t (a - 1) []) b
+
+-- s is the set of the first n things
+abbrev pub FirstThings : ℕ → List Bool → Type 0
+FirstThings n s = (a : ℕ) → Among 32 a → marks s a ≡ leb a n
 
 pub record Rows (size n : ℕ) (h e f : Relation) : Type 0 where
   pub done : (a b : ℕ) → Among n a → Among size b → f a b ≡ h a b

@@ -5,14 +5,13 @@
 ghost use mathlib.Core.Path.{_≡_};
 ghost use mathlib.Core.Bool.{_&&_};
 ghost use Prim.Native.Nat.{ℕ, _+_, _≤_, _<_, min};
-ghost use lib.Dec.{leb};
 ghost use Rattle.search.specs.Search.{Among, among, every, implies};
-ghost use Rattle.order.specs.Bound.{upper, least, glb, converse, partnerWithoutBound, FirstWithoutBound};
-ghost use Rattle.order.specs.Table.{marks, mark};
+ghost use Rattle.order.specs.Bound.{upper, least, converse, partnerWithoutBound, FirstWithoutBound};
+ghost use Rattle.order.specs.Table.{marks, mark, FirstThings};
 
 // The set of the first n things.
-fn first_things(n: usize) -> [bool; 32]
-    ensures { λ r. ⌜ ((a : ℕ) → Among 32 a → marks r a ≡ leb a n) ⌝ }
+pub fn first_things(n: usize) -> [bool; 32]
+    ensures { λ r. ⌜ FirstThings n r ⌝ }
 {
     let mut r = [false; 32];
     let mut i = 0;
@@ -85,12 +84,12 @@ fn narrowed(s: [bool; 32], under: [bool; 32], on: bool) -> [bool; 32]
     s
 }
 
-// The lower bounds of the set among the first n things.
-fn lower_bounds(t: &[[bool; 32]; 32], n: usize, s: [bool; 32]) -> [bool; 32]
-    ensures { λ r. ⌜ ((c : ℕ) → Among 32 c → marks r c ≡ (leb c (min n 32) && upper (min n 32) (converse (mark (now (t .entry)))) (marks s) c)) ⌝ }
+// The things of `all` that are under each of s, of which the first n count.
+fn lower_bounds(t: &[[bool; 32]; 32], n: usize, all: &[bool; 32], s: [bool; 32]) -> [bool; 32]
+    ensures { λ r. ⌜ ((c : ℕ) → Among 32 c → marks r c ≡ (marks (now (all .entry)) c && upper (min n 32) (converse (mark (now (t .entry)))) (marks s) c)) ⌝ }
 {
     let m = super::marks::lesser(n, 32);
-    let mut r = first_things(m);
+    let mut r = *all;
     let mut i = 0;
     while i < m {
         let under = t[i];
@@ -101,11 +100,12 @@ fn lower_bounds(t: &[[bool; 32]; 32], n: usize, s: [bool; 32]) -> [bool; 32]
     r
 }
 
-// The greatest lower bound of the set among the first n things, or 0.
-pub fn greatest_lower(t: &[[bool; 32]; 32], n: usize, s: [bool; 32]) -> usize
-    ensures { λ r. ⌜ r ≡ glb (min n 32) (mark (now (t .entry))) (marks s) ⌝ }
+// The greatest of the things of `all` that are under each of s, of which the first n count, or 0: where all are
+// the first n, the greatest lower bound. Who asks for many makes that set once.
+pub fn greatest_lower(t: &[[bool; 32]; 32], n: usize, all: &[bool; 32], s: [bool; 32]) -> usize
+    ensures { λ r. ⌜ r ≡ least 32 (converse (mark (now (t .entry)))) (λ c. marks (now (all .entry)) c && upper (min n 32) (converse (mark (now (t .entry)))) (marks s) c) ⌝ }
 {
-    let bounds = lower_bounds(t, n, s);
+    let bounds = lower_bounds(t, n, all, s);
     greatest(t, &bounds)
 }
 

@@ -137,11 +137,12 @@ fn grant_all(f: &[u8], s: &mut [u8], q: Parts, h: Line, t: [[bool; 32]; 32])
     let n = h.a as usize;
     let roles = h.b as usize;
     let cards = h.d as usize;
+    let all = order::bounds::first_things(n);
     let up = order::bounds::converse(t);
     let read_at = gather::gather(s, 12304, cards);
-    gather::put_levels(s, 1808, read_at, &up, n, roles);
+    gather::put_levels(s, 1808, read_at, &up, n, &all, roles);
     let written_at = gather::gather(s, 20496, cards);
-    gather::put_levels(s, 1936, written_at, &t, n, roles);
+    gather::put_levels(s, 1936, written_at, &t, n, &all, roles);
 }
 
 // 14 to 16, by the tables in the state.

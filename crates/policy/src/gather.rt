@@ -7,7 +7,7 @@ ghost use lib.ListN.{length};
 ghost use Rattle.search.specs.Search.{Among, some};
 ghost use Rattle.roleset.specs.Row.{member, rowOf};
 ghost use Rattle.order.specs.Bound.{converse};
-ghost use Rattle.order.specs.Table.{marks, mark};
+ghost use Rattle.order.specs.Table.{marks, mark, FirstThings};
 ghost use Rattle.policy.specs.Policy.{level, levelNumber};
 ghost use Rattle.policy.specs.Tables.{byteOf, cardLabelsAt, gathered, Bytes};
 
@@ -66,37 +66,38 @@ fn any(s: &[bool; 32], n: usize) -> bool
     false
 }
 
-// The level of a set of the first n labels: its bound by the rows of t, as it is kept.
-fn level_of(t: &[[bool; 32]; 32], n: usize, s: &[bool; 32]) -> u8
-    requires { ⌜ n ≤ 32 ⌝ }
+// The level of a set of labels, of which there are n, `all`: its bound by the rows of t, as it is kept.
+fn level_of(t: &[[bool; 32]; 32], n: usize, all: &[bool; 32], s: &[bool; 32]) -> u8
+    requires { ⌜ (n ≤ 32) × FirstThings n (now all) ⌝ }
     ensures { λ r. ⌜ r ≡ levelNumber (level n (converse (mark (now (t .entry)))) (marks (now (s .entry)))) ⌝ }
 {
     if !any(s, n) {
         return 0;
     }
-    let bound = order::bounds::greatest_lower(t, n, *s);
+    let bound = order::bounds::greatest_lower(t, n, all, *s);
     if bound == 0 {
         return 99;
     }
     bound as u8
 }
 
-// Puts the levels of the first `roles` roles at `at`.
+// Puts the levels of the first `roles` roles at `at`, by n labels, `all`.
 pub fn put_levels(
     s: &mut [u8],
     at: usize,
     g: [u8; 512],
     t: &[[bool; 32]; 32],
     n: usize,
+    all: &[bool; 32],
     roles: usize,
 )
-    requires { ⌜ (at + roles ≤ length (now s)) × (n ≤ 32) × (roles ≤ 128) ⌝ }
+    requires { ⌜ (at + roles ≤ length (now s)) × (n ≤ 32) × FirstThings n (now all) × (roles ≤ 128) ⌝ }
     ensures { λ _. ⌜ Bytes at roles (λ r. levelNumber (level n (converse (mark (now (t .entry)))) (λ l. member g (rowOf 0 l) r))) (now (s .entry)) (now (s .exit)) ⌝ }
 {
     let mut i = 0;
     while i < roles {
         let set = labels_of(&g, i + 1);
-        s[at + i] = level_of(t, n, &set);
+        s[at + i] = level_of(t, n, all, &set);
         i += 1;
     }
 }

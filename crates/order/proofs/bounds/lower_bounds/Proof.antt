@@ -1,4 +1,4 @@
--- After each turn the set holds the things that are under each of the set so far.
+-- After each turn the set holds the things of `all` that are under each of the set so far.
 use Prim.Native.Nat.{ℕ, _+_, _≤_, _-_, min}
 use mathlib.Core.Path.{_≡_, sym, _∙_}
 use lib.ListN.{getD}
@@ -8,7 +8,6 @@ use native.Mathlib.Nat.{add-sub-cancel}
 use native.Mathlib.Omega.{arith}
 use borrow.Author.Needs.{needs}
 use denote.Ref.{now}
-use lib.Dec.{leb}
 use Rattle.search.specs.Search.{every, implies, Among}
 use Rattle.search.proofs.Found.{every-yet, every-more}
 use Rattle.order.specs.Bound.{upper}
@@ -20,19 +19,19 @@ use Rattle.order.proofs.bounds.lower_bounds.Tie as tie
 abbrev under : List (List Bool) → List Bool → ℕ → ℕ → Bool
 under t s c x = implies (marks s x) (mark t x c)
 
-one-more : (t : List (List Bool)) (s : List Bool) (m x i : ℕ) (now : Bool) → now ≡ (leb x m && every i (under t s x))
-    → (now && implies (getD s i false) (marks (getD t i []) x)) ≡ (leb x m && every (i + 1) (under t s x))
-one-more t s m x i now e =
-    rw (e, every-more (under t s x) i, add-sub-cancel i 1) (and-assoc (leb x m) (every i (under t s x)) (implies (getD s i false) (marks (getD t i []) x)))
+one-more : (t : List (List Bool)) (s : List Bool) (x i : ℕ) (one now : Bool) → now ≡ (one && every i (under t s x))
+    → (now && implies (getD s i false) (marks (getD t i []) x)) ≡ (one && every (i + 1) (under t s x))
+one-more t s x i one now e =
+    rw (e, every-more (under t s x) i, add-sub-cancel i 1) (and-assoc one (every i (under t s x)) (implies (getD s i false) (marks (getD t i []) x)))
 
 abbrev Inv-loop : tie.InvT-loop
-Inv-loop t n s m r₀ i₀ r i = (m ≤ 32) × (i ≤ m) × ((c : ℕ) → Among 32 c → marks r c ≡ (leb c m && every i (under t s c)))
+Inv-loop t n all s m r₀ i₀ r i = (m ≤ 32) × (i ≤ m) × ((c : ℕ) → Among 32 c → marks r c ≡ (marks all c && every i (under t s c)))
 
 abbrev μ-loop : tie.MeasureT-loop
-μ-loop t n s m r₀ i₀ r i = m - i
+μ-loop t n all s m r₀ i₀ r i = m - i
 
 loop-holds : tie.Need-loop-holds Inv-loop μ-loop
-loop-holds c = (search needs, search needs, λ x w. c .first-things .ensures x w ∙ rw (← (every-yet _)) (sym (and-true _)))
+loop-holds c = (search needs, search needs, λ x w. rw (← (every-yet _)) (sym (and-true _)))
 
 loop-again : tie.Need-loop-again Inv-loop μ-loop
 loop-again c =
@@ -40,7 +39,7 @@ loop-again c =
     let w = c .before .before .before .loop in (
       search needs,
       search needs,
-      λ x v. c .narrowed .ensures x v ∙ one-more (now (a .t)) (a .t3) _ x (w .i) _ (w .inv .2 x v),
+      λ x v. c .narrowed .ensures x v ∙ one-more (now (a .t)) (a .t4) x (w .i) (marks (now (a .all)) x) _ (w .inv .2 x v),
     )
 
 returns : tie.Need-returns Inv-loop μ-loop
@@ -48,9 +47,8 @@ unfolding upper
 returns c =
     let n = c .before .before .before .before .args .n in
     let w = c .before .loop in
-    let m : c .before .before .before .lesser .result ≡ min n 32 = omega arith in
     let i : w .i ≡ min n 32 = omega arith in
-    rw (i, m) at (w .inv .2)
+    rw i at (w .inv .2)
 
 pub lower-bounds-spec : {M : Type 1} → statement M
 lower-bounds-spec =
@@ -58,7 +56,6 @@ lower-bounds-spec =
     (tie.spec
     Inv-loop
     μ-loop
-    (λ c κs. search needs)
     (λ c κs. search needs)
     loop-holds
     (λ c. search needs)

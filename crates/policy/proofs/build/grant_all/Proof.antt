@@ -1,7 +1,9 @@
 -- What each call leaves, in order: the table of dominance, the permissions, and the levels of reading and of writing.
+use Prim.Native.Nat.{_≤_}
 use native.Mathlib.Omega.{arith}
 use borrow.Author.Needs.{needs}
 use denote.Ref.{now}
+use lib.ListN.{length}
 use Rattle.policy.proofs.Readying.{head-counts}
 use Rattle.policy.proofs.Granting.{granting}
 use Rattle.policy.proofs.build.grant_all.Statement.{statement}
@@ -15,53 +17,56 @@ grant-lines-requires c κs =
 
 gather-requires : tie.Need-gather-requires
 gather-requires c κs =
-    let start = c .before .before .before .before .before .before .before .before .before .before .before .before .before .before in
+    let start = c .before .before .before .before .before .before .before .before .before .before .before .before .before .before .before in
     (search needs, search needs, head-counts _ _ _ (start .pre .0) .cards)
 
 put-levels-requires : tie.Need-put-levels-requires
 put-levels-requires c κs =
-    let grants = c .before .before .before .before .before .before .before in
+    let firsts = c .before .before .before .before .before .before in
+    let grants = firsts .before .before .before in
     let table = grants .before .before .before .before in
     let start = table .before .before .before .before .before .before in
     let length₂ = grants .grant-lines .last .1 in
     let length₁ = table .put-table .last .1 in
     let long = start .pre .1 in
     let counts = head-counts _ _ _ (start .pre .0) in
-    (omega arith, counts .labels .1, counts .roles)
+    (omega arith, counts .labels .1, firsts .first-things .ensures, counts .roles)
+
+-- after the levels of reading the state is as long as before
+still-long : (c : tie.After-put-levels) → 65536 ≤ length (c .put-levels .last .0)
+still-long c =
+    let grants = c .before .before .before .before .before .before .before .before .before .before in
+    let table = grants .before .before .before .before in
+    let length₃ = c .put-levels .last .1 in
+    let length₂ = grants .grant-lines .last .1 in
+    let length₁ = table .put-table .last .1 in
+    let long = table .before .before .before .before .before .before .pre .1 in
+    omega arith
 
 gather-requires-2 : tie.Need-gather-requires-2
 gather-requires-2 c κs =
     let levels = c .before .before .before in
-    let grants = levels .before .before .before .before .before .before .before .before in
-    let table = grants .before .before .before .before in
-    let start = table .before .before .before .before .before .before in
-    let length₃ = levels .put-levels .last .1 in
-    let length₂ = grants .grant-lines .last .1 in
-    let length₁ = table .put-table .last .1 in
-    let long = start .pre .1 in
+    let start = levels .before .before .before .before .before .before .before .before .before .before .before .before .before .before .before .before .before .before .before .before in
+    let long = still-long levels in
     (omega arith, omega arith, head-counts _ _ _ (start .pre .0) .cards)
 
 put-levels-requires-2 : tie.Need-put-levels-requires-2
 put-levels-requires-2 c κs =
-    let levels = c .before .before .before .before .before .before in
-    let grants = levels .before .before .before .before .before .before .before .before in
-    let table = grants .before .before .before .before in
-    let start = table .before .before .before .before .before .before in
-    let length₃ = levels .put-levels .last .1 in
-    let length₂ = grants .grant-lines .last .1 in
-    let length₁ = table .put-table .last .1 in
-    let long = start .pre .1 in
+    let levels = c .before .before .before .before .before .before .before in
+    let firsts = levels .before .before .before .before .before .before .before in
+    let start = firsts .before .before .before .before .before .before .before .before .before .before .before .before .before in
+    let long = still-long levels in
     let counts = head-counts _ _ _ (start .pre .0) in
-    (omega arith, counts .labels .1, counts .roles)
+    (omega arith, counts .labels .1, firsts .first-things .ensures, counts .roles)
 
 returns : tie.Need-returns
 returns c =
     let write-levels = c .before .before in
-    let writes = write-levels .before .before .before in
+    let writes = write-levels .before .before .before .before in
     let read-levels = writes .before .before .before .before in
-    let reads = read-levels .before .before .before in
+    let reads = read-levels .before .before .before .before in
     let turns = reads .before .before in
-    let grants = turns .before .before .before in
+    let grants = turns .before .before .before .before in
     let table = grants .before .before .before .before in
     let part = table .before .before in
     let start = part .before .before .before .before in
@@ -85,6 +90,7 @@ grant-all-spec =
     (λ c κs. search needs)
     (λ c κs. search needs)
     grant-lines-requires
+    (λ c κs. search needs)
     (λ c κs. search needs)
     gather-requires
     put-levels-requires

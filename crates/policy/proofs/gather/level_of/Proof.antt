@@ -1,13 +1,13 @@
 -- Free where the set is empty, undefined where there is no bound, and else the bound.
 use Prim.Native.Nat.{min}
-use mathlib.Core.Path.{_≡_}
+use mathlib.Core.Path.{_≡_, _∙_}
 use native.Mathlib.Omega.{arith}
 use borrow.Author.Needs.{needs}
 use denote.Ref.{now}
 use Rattle.search.proofs.Truth.{passed, failed}
-use Rattle.order.specs.Bound.{lub, converse}
+use Rattle.order.specs.Bound.{lub, converse, upper}
 use Rattle.order.specs.Table.{marks, mark}
-use Rattle.order.proofs.Bound.{lub-within}
+use Rattle.order.proofs.Bound.{lub-within, least-cut}
 use Rattle.policy.proofs.Gathering.{level-empty, level-undefined, level-bound}
 use Rattle.policy.proofs.gather.level_of.Statement.{statement}
 use Rattle.policy.proofs.gather.level_of.Tie as tie
@@ -17,10 +17,14 @@ returns c = level-empty _ _ _ (failed (c .before .any .ensures) (c .if1 .taken))
 
 -- the bound that was found
 found : (c : tie.After-greatest-lower) → let a = c .before .before .before .before .args in c .greatest-lower .result ≡ lub (a .n) (converse (mark (now (a .t)))) (marks (now (a .s)))
+unfolding lub
 found c =
-    let a = c .before .before .before .before .args in
+    let start = c .before .before .before .before in
+    let a = start .args in
+    let order = converse (mark (now (a .t))) in
     let q : min (a .n) 32 ≡ a .n = omega arith in
     rw q at (c .greatest-lower .ensures)
+    ∙ least-cut (a .n) 32 order (upper (a .n) order (marks (now (a .s)))) _ (search needs) (λ x w. rw (start .pre .1 x w))
 
 returns-2 : tie.Need-returns-2
 returns-2 c =

@@ -15,11 +15,11 @@ use Rattle.policy.proofs.gather.put_levels.Statement.{statement}
 use Rattle.policy.proofs.gather.put_levels.Tie as tie
 
 abbrev Inv-loop : tie.InvT-loop
-Inv-loop s₀ at t n roles g i₀ s i =
+Inv-loop s₀ at t n all roles g i₀ s i =
     (i ≤ roles) × Written at i (λ k. levelNumber (level n (converse (mark t)) (λ l. member g (rowOf 0 l) (k + 1)))) s₀ s
 
 abbrev μ-loop : tie.MeasureT-loop
-μ-loop s₀ at t n roles g i₀ s i = roles - i
+μ-loop s₀ at t n all roles g i₀ s i = roles - i
 
 loop-again : tie.Need-loop-again Inv-loop μ-loop
 loop-again c =
