@@ -1,5 +1,5 @@
 -- Tables of role sets that lines fill: one row changes at a time, and what the lines so far say adds up. Assumes nothing.
-use Prim.Native.Nat.{ℕ, _+_, _*_, _≤_}
+use Prim.Native.Nat.{ℕ, _+_, _-_, _*_, _≤_}
 use mathlib.Core.Path.{_≡_, refl, sym, ap, _∙_}
 use mathlib.Core.Logic.{_⊎_, inl, inr, ⊎-elim}
 use mathlib.Core.Bool.{Bool, false, _&&_, _||_, or-false, or-assoc, and-comm, and-false}
@@ -113,51 +113,40 @@ granted-more {said} {more} {xs} {ys} {zs} t u = record {
   rest = λ i out. u .rest i out ∙ t .rest i out;
 }
 
--- the seniors of a role joined into a card's row of one of the two tables
-module _ (base other role card : ℕ) (xs ys : List ℕ) (fits : 28688 ≤ length xs) (v : Among 128 role) (w : Among 512 card)
-    (p : Placed (rowOf base card) (joined xs (rowOf base card) (rowOf seniorsAt role)) xs ys) where
-  row-joined : base + 8192 ≤ 28688 → (o r : ℕ) → Among 512 o
-      → member ys (rowOf base o) r ≡ (member xs (rowOf base o) r || (eqb card o && member xs (rowOf seniorsAt role) r))
-  row-joined l o r u = elim (ℕ-discrete o card) [
-    | yes e ↦ rw (e, eq-eqb card card refl) (p .row (omega arith) r ∙ rw (whole-true xs (rowOf seniorsAt role) (omega arith)))
-    | no e ↦
-        rw (ne-eqb card o (λ q. e (sym q)))
-        (others-stay base 512 card _ xs ys p w o r u e ∙ sym (or-false (member xs (rowOf base o) r)))
-  ]
-
-  row-apart : (base + 8192 ≤ other) ⊎ (other + 8192 ≤ base) → (o r : ℕ) → Among 512 o → member ys (rowOf other o) r ≡ member xs (rowOf other o) r
-  row-apart far o r u =
-      row-kept xs ys (p .rest) (rowOf other o) r (⊎-elim (λ l. inr (omega arith)) (λ l. inl (omega arith)) far)
-
-  base-kept : readersAt ≤ base → base + 8192 ≤ 28688 → Kept readersAt 28688 xs ys
-  base-kept l m i out = p .rest i (λ k. let far = out (omega arith) in omega arith)
-
 -- what one line grants
 abbrev lineGrants : List ℕ → ℕ → ℕ → ℕ → Said
 lineGrants xs role card mode d o r = eqb card o && (eqb mode d && (among 128 role && member xs (rowOf seniorsAt role) r))
 
-module _ (role card mode : ℕ) (xs ys : List ℕ) (fits : 28688 ≤ length xs) (v : Among 128 role) (w : Among 512 card) where
-  -- in the mode's table, and in the other
-  here : (d o r : ℕ) → mode ≡ d → (eqb card o && member xs (rowOf seniorsAt role) r) ≡ lineGrants xs role card mode d o r
-  here d o r e = rw (eq-eqb mode d e, among-iff 128 role .1 v)
+-- where the table of a mode begins: that of the readers, or that of the writers
+abbrev pub modeAt : ℕ → ℕ
+modeAt d = readersAt + 8192 * (d - 1)
 
-  there : (d o r : ℕ) (b : Bool) → (mode ≡ d → ⊥) → b ≡ (b || lineGrants xs role card mode d o r)
-  there d o r b ne = rw (ne-eqb mode d ne, and-false (eqb card o)) (sym (or-false b))
+-- the seniors of a role joined into the card's row of the mode's table
+module _ (role card mode : ℕ) (xs ys : List ℕ) (fits : 28688 ≤ length xs) (v : Among 128 role) (w : Among 512 card) (m : Among 2 mode)
+    (p : Placed (rowOf (modeAt mode) card) (joined xs (rowOf (modeAt mode) card) (rowOf seniorsAt role)) xs ys) where
+  its-row : (r : ℕ) → member ys (rowOf (modeAt mode) card) r ≡ (member xs (rowOf (modeAt mode) card) r || lineGrants xs role card mode mode card r)
+  its-row r = rw (eq-eqb card card refl, eq-eqb mode mode refl, among-iff 128 role .1 v)
+      (p .row (omega arith) r ∙ rw (whole-true xs (rowOf seniorsAt role) (omega arith)))
 
-  pub granted-read : mode ≡ 1 → Placed (rowOf readersAt card) (joined xs (rowOf readersAt card) (rowOf seniorsAt role)) xs ys
-      → GrantedRows (lineGrants xs role card mode) xs ys
-  granted-read e p = record {
-    readers = λ o r u t. row-joined readersAt writersAt role card xs ys fits v w p (omega arith) o r u ∙ ap (λ b. member xs (rowOf readersAt o) r || b) (here 1 o r e);
-    writers = λ o r u t. row-apart readersAt writersAt role card xs ys fits v w p (inl (omega arith)) o r u ∙ there 2 o r _ (λ q. omega arith);
-    rest = base-kept readersAt writersAt role card xs ys fits v w p (omega arith) (omega arith);
-  }
+  -- another row of the two tables
+  other-row : (d o r : ℕ) → (rowOf (modeAt d) o + 16 ≤ rowOf (modeAt mode) card) ⊎ (rowOf (modeAt mode) card + 16 ≤ rowOf (modeAt d) o)
+      → lineGrants xs role card mode d o r ≡ false → member ys (rowOf (modeAt d) o) r ≡ (member xs (rowOf (modeAt d) o) r || lineGrants xs role card mode d o r)
+  other-row d o r far e = rw e (row-kept xs ys (p .rest) (rowOf (modeAt d) o) r far ∙ sym (or-false (member xs (rowOf (modeAt d) o) r)))
 
-  pub granted-write : mode ≡ 2 → Placed (rowOf writersAt card) (joined xs (rowOf writersAt card) (rowOf seniorsAt role)) xs ys
-      → GrantedRows (lineGrants xs role card mode) xs ys
-  granted-write e p = record {
-    readers = λ o r u t. row-apart writersAt readersAt role card xs ys fits v w p (inr (omega arith)) o r u ∙ there 1 o r _ (λ q. omega arith);
-    writers = λ o r u t. row-joined writersAt readersAt role card xs ys fits v w p (omega arith) o r u ∙ ap (λ b. member xs (rowOf writersAt o) r || b) (here 2 o r e);
-    rest = base-kept writersAt readersAt role card xs ys fits v w p (omega arith) (omega arith);
+  mode-rows : (d : ℕ) → Among 2 d → Unites (modeAt d) 512 (lineGrants xs role card mode d) xs ys
+  mode-rows d n o r u t = elim (ℕ-discrete mode d) [
+    | yes e ↦ elim (ℕ-discrete card o) [
+      | yes q ↦ rw (← e, ← q) (its-row r)
+      | no q ↦ other-row d o r (elim (decLt o card) [ yes l ↦ inl (omega arith) | no l ↦ inr (omega arith) ]) (rw (ne-eqb card o q))
+    ]
+    | no e ↦ other-row d o r (elim (decLt d mode) [ yes l ↦ inl (omega arith) | no l ↦ inr (omega arith) ]) (rw (ne-eqb mode d e, and-false (eqb card o)))
+  ]
+
+  pub granted : GrantedRows (lineGrants xs role card mode) xs ys
+  granted = record {
+    readers = mode-rows 1 (omega arith);
+    writers = mode-rows 2 (omega arith);
+    rest = λ i out. p .rest i (λ k. let far = out (omega arith) in omega arith);
   }
 
 -- numbers that are no role's, no card's or no mode's grant nothing

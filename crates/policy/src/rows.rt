@@ -65,7 +65,6 @@ fn grant(s: &mut [u8], role: usize, card: usize, mode: usize)
     }
     if mode == 2 {
         roleset::join(s, 20496 + 16 * (card - 1), 2064 + 16 * (role - 1));
-        return;
     }
 }
 

@@ -4,7 +4,7 @@ use borrow.Author.Needs.{needs}
 use denote.Ref.{now}
 use Rattle.search.specs.Search.{Among}
 use Rattle.search.proofs.Truth.{one-of, none-of}
-use Rattle.policy.proofs.Relating.{no-role, no-card, no-mode, granted-read, granted-write}
+use Rattle.policy.proofs.Relating.{no-role, no-card, no-mode, granted}
 use Rattle.policy.proofs.rows.grant.Statement.{statement}
 use Rattle.policy.proofs.rows.grant.Tie as tie
 
@@ -25,15 +25,15 @@ returns-3 : tie.Need-returns-3
 returns-3 c =
     let two = c .before .before .before .before .before in
     let a = two .before .before .before .before .before .args in
-    granted-read (a .role) (a .card) (a .mode) (now (a .s)) _ (search needs) (known two .0) (known two .1) (c .before .before .before .before .if3 .taken)
-    (c .before .before .join .ensures)
+    let mode = c .before .before .before .before .if3 .taken in
+    granted (a .role) (a .card) (a .mode) (now (a .s)) _ (search needs) (known two .0) (known two .1) (omega arith) (rw mode (c .before .before .join .ensures))
 
 returns-4 : tie.Need-returns-4
 returns-4 c =
     let two = c .before .before .before .before .before .before in
     let a = two .before .before .before .before .before .args in
-    granted-write (a .role) (a .card) (a .mode) (now (a .s)) _ (search needs) (known two .0) (known two .1) (c .before .before .before .before .if4 .taken)
-    (c .before .before .join2 .ensures)
+    let mode = c .before .before .before .before .if4 .taken in
+    granted (a .role) (a .card) (a .mode) (now (a .s)) _ (search needs) (known two .0) (known two .1) (omega arith) (rw mode (c .before .before .join2 .ensures))
 
 pub grant-spec : {M : Type 1} → statement M
 grant-spec =
