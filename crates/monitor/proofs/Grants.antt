@@ -8,12 +8,12 @@ use mathlib.Core.Option.{Option, none, some}
 use lib.ListN.{length}
 use borrow.Author.Tests.{le-leb}
 use Rattle.search.specs.Search.{Among}
-use Rattle.search.proofs.Truth.{and-iff, among-iff}
+use Rattle.search.proofs.Truth.{and-iff, and-both, among-iff}
 use Rattle.search.proofs.Found.{some-iff}
 use Rattle.order.specs.Closure.{PartialOrder}
 use Rattle.rolefile.specs.declared.Verdict.{Verdict}
 use Rattle.rolefile.specs.Said.{labels, roles, users, cards, assigned}
-use Rattle.policy.specs.Policy.{dominates, senior, may, rLevel, wLevel, passes}
+use Rattle.policy.specs.Policy.{dominates, senior, may}
 use Rattle.policy.specs.Accepted.{ReadsUnder, WritesOver, Accepted}
 use Rattle.policy.specs.Image.{Loaded}
 use Rattle.policy.proofs.Levels.{reads-under-iff, writes-over-iff}
@@ -29,12 +29,7 @@ use Rattle.monitor.proofs.Demand2.{answers}
 -- a role fits a label exactly where it reads under the label and writes over it
 pub fitting-by-file-iff : (f : List ℕ) → PartialOrder (labels f) (dominates f) → (l r : ℕ) → (fittingByFile f l r ≡ true) ↔ (ReadsUnder f l r × WritesOver f l r)
 unfolding fittingByFile
-fitting-by-file-iff f order l r =
-    let reads = reads-under-iff f order l r in
-    let writes = writes-over-iff f order l r in
-    let one = passes (dominates f l) (rLevel f r) in
-    let two = passes (λ a. dominates f a l) (wLevel f r) in
-    (λ h. let (a, b) = and-iff one two .0 h in (reads .0 a, writes .0 b), λ (a, b). and-iff one two .1 (reads .1 a, writes .1 b))
+fitting-by-file-iff f order l r = and-both (reads-under-iff f order l r) (writes-over-iff f order l r)
 
 module _ (f : List ℕ) (cs : List Call) where
   abbrev now : Sessions

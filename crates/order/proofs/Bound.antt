@@ -6,10 +6,10 @@ use mathlib.Core.Logic.{_↔_, _⊎_, inl, inr, ⊎-elim}
 use mathlib.Core.Bool.{Bool, true, false, _&&_, and-assoc}
 use native.Mathlib.Omega.{arith}
 use native.Mathlib.Decide.{decLt}
-use lib.Dec.{eqb, ltb, leb}
-use borrow.Author.Tests.{eq-eqb, eqb-true, ltb-true, lt-ltb, ltb-false, le-ltb}
+use lib.Dec.{ltb, leb}
+use borrow.Author.Tests.{ltb-true, lt-ltb, ltb-false, le-ltb}
 use Rattle.search.specs.Search.{every, first, implies, Among, Lowest}
-use Rattle.search.proofs.Truth.{or-iff, and-iff, implies-iff, untrue, both, same}
+use Rattle.search.proofs.Truth.{eqb-iff, ltb-iff, and-iff, and-both, or-both, implies-iff, untrue, both, same}
 use Rattle.search.proofs.Found.{every-at, every-of, every-agree, every-cut, first-yet, first-found, first-more, first-none, first-lowest, first-within, first-agree, first-cut}
 use Rattle.order.specs.Closure.{Relation, PartialOrder}
 use Rattle.order.specs.Bound.{upper, isLeast, least, lub, converse, pair, withoutBound, partnerWithoutBound, lowestWithoutBound, Upper, IsLub, Joined, AllJoined, FirstPair, FirstWithoutBound}
@@ -30,10 +30,7 @@ module _ (n : ℕ) (ge : Relation) (s : ℕ → Bool) where
 module _ (n : ℕ) (ge : Relation) (s : ℕ → Bool) where
   isLeast-iff : (c : ℕ) → (isLeast n ge s c ≡ true) ↔ ((s c ≡ true) × Upper n (converse ge) s c)
   unfolding isLeast
-  isLeast-iff c = (
-    λ h. let (p, q) = and-iff (s c) (upper n (converse ge) s c) .0 h in (p, upper-iff n (converse ge) s c .0 q),
-    λ (p, q). and-iff (s c) (upper n (converse ge) s c) .1 (p, upper-iff n (converse ge) s c .1 q),
-  )
+  isLeast-iff c = and-both (λ e. e, λ e. e) (upper-iff n (converse ge) s c)
 
 module _ (n : ℕ) (ge : Relation) (s : ℕ → Bool) where
   isLub-iff : (c : ℕ) → Among n c → (isLeast n ge (upper n ge s) c ≡ true) ↔ IsLub n ge s c
@@ -81,10 +78,7 @@ module _ (n : ℕ) (ge : Relation) (s : ℕ → Bool) where
 -- ---- the first pair without a least upper bound
 
 pub pair-iff : (a b x : ℕ) → (pair a b x ≡ true) ↔ ((x ≡ a) ⊎ (x ≡ b))
-pair-iff a b x = (
-  λ h. ⊎-elim (λ p. inl (eqb-true x a p)) (λ q. inr (eqb-true x b q)) (or-iff (eqb x a) (eqb x b) .0 h),
-  λ h. or-iff (eqb x a) (eqb x b) .1 (⊎-elim (λ p. inl (eq-eqb x a p)) (λ q. inr (eq-eqb x b q)) h),
-)
+pair-iff a b x = or-both (eqb-iff x a) (eqb-iff x b)
 
 module _ (n : ℕ) (ge : Relation) where
   -- the upper bounds of a pair
@@ -100,10 +94,7 @@ module _ (n : ℕ) (ge : Relation) where
 
   without-bound-iff : (a b : ℕ) → (withoutBound n ge a b ≡ true) ↔ ((a < b) × (lub n ge (pair a b) ≡ 0))
   unfolding withoutBound
-  without-bound-iff a b = (
-    λ h. let (p, q) = and-iff (ltb a b) (eqb (lub n ge (pair a b)) 0) .0 h in (ltb-true a b p, eqb-true (lub n ge (pair a b)) 0 q),
-    λ (l, z). and-iff (ltb a b) (eqb (lub n ge (pair a b)) 0) .1 (lt-ltb a b l, eq-eqb (lub n ge (pair a b)) 0 z),
-  )
+  without-bound-iff a b = and-both (ltb-iff a b) (eqb-iff (lub n ge (pair a b)) 0)
 
   -- what `withoutBound` tells of two in rising order
   together : (a b : ℕ) → a < b → withoutBound n ge a b ≡ false → Joined n ge a b

@@ -7,8 +7,7 @@ use mathlib.Core.List.{List}
 use mathlib.Core.Bool.{Bool}
 use native.Mathlib.Omega.{arith}
 use lib.Dec.{eqb}
-use borrow.Author.Tests.{eqb-true, eq-eqb}
-use Rattle.search.proofs.Truth.{either}
+use Rattle.search.proofs.Truth.{eqb-iff, either}
 use Rattle.order.specs.Closure.{Relation, path, closure, circle, PartialOrder}
 use Rattle.order.specs.Bound.{converse, lowestWithoutBound, partnerWithoutBound, AllJoined, FirstPair}
 use Rattle.order.proofs.Closure.{circle-finds, circle-misses, circle-none}
@@ -127,7 +126,7 @@ module _ (f : List ℕ) (o : PartialOrder (labels f) (dominates f)) where
   unfolding assignmentVerdict
   assignment-decides i =
       decides-as
-      (cond-decides (assign-decides (lineAt f i .a) (lineAt f i .b)) (eqb-true (lineAt f i .letter) A, eq-eqb (lineAt f i .letter) A) fine-decides)
+      (cond-decides (assign-decides (lineAt f i .a) (lineAt f i .b)) (eqb-iff (lineAt f i .letter) A) fine-decides)
       (λ (g, u). g, λ g. (g, λ n. tt))
       (λ x. (⊎-elim (λ r. r) (λ (n, none). absurd none), inl))
 

@@ -5,8 +5,8 @@ use mathlib.Core.Path.{_≡_, refl, sym, ap, _∙_}
 use mathlib.Core.Logic.{_↔_, _⊎_, inl, inr, ⊎-elim}
 use mathlib.Core.Bool.{Bool, true, false, cond, false≢true}
 use native.Mathlib.Omega.{arith}
-use borrow.Author.Tests.{eqb-true, eq-eqb}
 use Rattle.search.specs.Search.{Among, first, LowestOf}
+use Rattle.search.proofs.Truth.{eqb-iff}
 use Rattle.search.proofs.Found.{last-or, first-lowest-of}
 use Rattle.rolefile.specs.declared.Verdict.{Verdict}
 use Rattle.rolefile.specs.Form.{fine, unless, _then_, scan, found}
@@ -110,7 +110,7 @@ module _ {t : Bool} {P : Type 0} (e : (t ≡ true) ↔ P) (v : Verdict) (h : Ref
   unless-decides {w} k = rw (unless-then v w t h) (then-decides test-decides k)
 
 pub found-decides : (x : ℕ) (v : Verdict) → Refuses v → Decides (found x v) (x ≡ 0) (Fails (x ≡ 0) v)
-found-decides x v h = test-decides (eqb-true x 0, eq-eqb x 0) v h
+found-decides x v h = test-decides (eqb-iff x 0) v h
 
 -- a search for the lowest thing that has P, where the others have N
 module _ (n : ℕ) (p : ℕ → Bool) {G : Type 0} {P N : ℕ → Type 0} (none : (first n p ≡ 0) ↔ G) where

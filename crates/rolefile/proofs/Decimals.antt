@@ -7,11 +7,10 @@ use mathlib.Core.List.{List, [], _∷_, _++_, append-assoc, append-nil}
 use mathlib.Core.Bool.{Bool, true, false, _&&_, cond}
 use native.Mathlib.Omega.{arith}
 use native.Mathlib.Decide.{decLt}
-use lib.Dec.{leb}
 use lib.ListN.{length, replicate, length-append, length-replicate, replicate-append-replicate}
-use borrow.Author.Tests.{leb-true, le-leb, lt-ltb, le-ltb, eqb-true, ne-eqb}
+use borrow.Author.Tests.{lt-ltb, le-ltb, eqb-true, ne-eqb}
 use Rattle.search.specs.Search.{among}
-use Rattle.search.proofs.Truth.{and-iff, among-iff}
+use Rattle.search.proofs.Truth.{leb-iff, and-iff, and-both, among-iff}
 use Rattle.rolefile.specs.declared.Field.{Field}
 use Rattle.rolefile.specs.declared.Field.the-variants.{Blank, Number, Bad}
 use Rattle.rolefile.specs.Field.{isBlank, isDigit, column, columns, five, fieldAt}
@@ -19,10 +18,7 @@ use Rattle.rolefile.specs.Section.{figure}
 use Rattle.rolefile.specs.Decimal.{lastDigits, digits, padded, blanks}
 
 pub isDigit-iff : (b : ℕ) → (isDigit b ≡ true) ↔ ((48 ≤ b) × (b ≤ 57))
-isDigit-iff b = (
-  λ e. let s = and-iff (leb 48 b) (leb b 57) .0 e in (leb-true 48 b (s .0), leb-true b 57 (s .1)),
-  λ w. and-iff (leb 48 b) (leb b 57) .1 (le-leb 48 b (w .0), le-leb b 57 (w .1)),
-)
+isDigit-iff b = and-both (leb-iff 48 b) (leb-iff b 57)
 
 -- ---- the digits of n, by those of n / 10
 

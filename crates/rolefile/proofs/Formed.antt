@@ -1,16 +1,16 @@
 -- The tests of a role file's form as properties: a file has none of the refusals 1 to 6 just where it is well-formed, and else the one that is told.
 -- Assumes nothing.
-use Prim.Native.Nat.{ℕ, _-_, _%_, _≤_, _<_}
+use Prim.Native.Nat.{ℕ, _-_, _%_, _<_}
 use mathlib.Core.Path.{_≡_, refl}
-use mathlib.Core.Logic.{_↔_, _⊎_, inl, inr, ⊎-elim}
+use mathlib.Core.Logic.{_↔_, _⊎_, inl, inr}
 use mathlib.Core.List.{List}
-use mathlib.Core.Bool.{Bool, true, false, not, _&&_, _||_}
+use mathlib.Core.Bool.{Bool, true, false, not}
 use native.Mathlib.Omega.{arith}
-use lib.Dec.{leb, ltb, eqb}
+use lib.Dec.{eqb}
 use lib.ListN.{length}
-use borrow.Author.Tests.{eqb-true, eq-eqb, leb-true, le-leb, ltb-true, lt-ltb, not-true, not-false}
-use Rattle.search.specs.Search.{Among, first, implies}
-use Rattle.search.proofs.Truth.{and-iff, or-iff, implies-iff, among-iff, untrue, both}
+use borrow.Author.Tests.{eqb-true, eq-eqb, not-true, not-false}
+use Rattle.search.specs.Search.{Among, first}
+use Rattle.search.proofs.Truth.{eqb-iff, leb-iff, ltb-iff, and-both, or-both, implies-both, among-iff, untrue, both}
 use Rattle.search.proofs.Found.{first-none}
 use Rattle.rolefile.specs.declared.Line.{Line}
 use Rattle.rolefile.specs.declared.Verdict.{Verdict}
@@ -23,30 +23,6 @@ use Rattle.rolefile.proofs.Verdicts.{Clean, then-joined}
 use Rattle.rolefile.proofs.Decides.{Decides, Fails, Else, Earliest, decides-as, decides-fine, decides-clean, decides-when}
 use Rattle.rolefile.proofs.Decides.{then-decides, cond-decides, test-decides, unless-decides, search-decides, scan-decides}
 use Rattle.rolefile.proofs.Counts.{count-one}
-
--- ---- tests and what they tell
-
-eqb-iff : (a b : ℕ) → (eqb a b ≡ true) ↔ (a ≡ b)
-eqb-iff a b = (eqb-true a b, eq-eqb a b)
-
-leb-iff : (a b : ℕ) → (leb a b ≡ true) ↔ (a ≤ b)
-leb-iff a b = (leb-true a b, le-leb a b)
-
-ltb-iff : (a b : ℕ) → (ltb a b ≡ true) ↔ (a < b)
-ltb-iff a b = (ltb-true a b, lt-ltb a b)
-
-module _ {a b : Bool} {P Q : Type 0} (p : (a ≡ true) ↔ P) (q : (b ≡ true) ↔ Q) where
-  and-both : ((a && b) ≡ true) ↔ (P × Q)
-  and-both = (λ e. let (x, y) = and-iff a b .0 e in (p .0 x, q .0 y), λ (x, y). and-iff a b .1 (p .1 x, q .1 y))
-
-  or-both : ((a || b) ≡ true) ↔ (P ⊎ Q)
-  or-both = (
-    λ e. ⊎-elim (λ x. inl (p .0 x)) (λ y. inr (q .0 y)) (or-iff a b .0 e),
-    λ s. or-iff a b .1 (⊎-elim (λ x. inl (p .1 x)) (λ y. inr (q .1 y)) s),
-  )
-
-  implies-both : (implies a b ≡ true) ↔ (P → Q)
-  implies-both = (λ e x. q .0 (implies-iff a b .0 e (p .1 x)), λ h. implies-iff a b .1 (λ x. q .1 (h (p .0 x))))
 
 -- ---- 1
 

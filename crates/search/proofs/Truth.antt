@@ -1,12 +1,12 @@
 -- Tests that are true: what a conjunction, a disjunction, an implication and a range test tell, two tests that say the same, and what holds
 -- whichever way a test goes.
 -- Assumes nothing.
-use Prim.Native.Nat.{ℕ}
+use Prim.Native.Nat.{ℕ, _≤_, _<_}
 use mathlib.Core.Path.{_≡_, refl, sym, _∙_}
 use mathlib.Core.Logic.{_↔_, _⊎_, inl, inr, ⊎-elim}
 use mathlib.Core.Bool.{Bool, true, false, not, _&&_, _||_, cond, false≢true, true≢false}
-use lib.Dec.{leb, eqb}
-use borrow.Author.Tests.{leb-true, le-leb, eqb-true, eq-eqb, not-true, not-false}
+use lib.Dec.{leb, ltb, eqb}
+use borrow.Author.Tests.{leb-true, le-leb, ltb-true, lt-ltb, eqb-true, eq-eqb, not-true, not-false}
 use Rattle.search.specs.Search.{among, implies, Among}
 
 pub or-iff : (a b : Bool) → ((a || b) ≡ true) ↔ ((a ≡ true) ⊎ (b ≡ true))
@@ -30,11 +30,31 @@ pub implies-iff : (a b : Bool) → (implies a b ≡ true) ↔ (a ≡ true → b 
 implies-iff true b = (λ e h. e, λ h. h refl)
 implies-iff false b = (λ e h. absurd (false≢true h), λ h. refl)
 
+-- what tests tell, and so what they tell together
+pub eqb-iff : (a b : ℕ) → (eqb a b ≡ true) ↔ (a ≡ b)
+eqb-iff a b = (eqb-true a b, eq-eqb a b)
+
+pub leb-iff : (a b : ℕ) → (leb a b ≡ true) ↔ (a ≤ b)
+leb-iff a b = (leb-true a b, le-leb a b)
+
+pub ltb-iff : (a b : ℕ) → (ltb a b ≡ true) ↔ (a < b)
+ltb-iff a b = (ltb-true a b, lt-ltb a b)
+
+module _ {a b : Bool} {P Q : Type 0} (p : (a ≡ true) ↔ P) (q : (b ≡ true) ↔ Q) where
+  pub and-both : ((a && b) ≡ true) ↔ (P × Q)
+  and-both = (λ e. let (x, y) = and-iff a b .0 e in (p .0 x, q .0 y), λ (x, y). and-iff a b .1 (p .1 x, q .1 y))
+
+  pub or-both : ((a || b) ≡ true) ↔ (P ⊎ Q)
+  or-both = (
+    λ e. ⊎-elim (λ x. inl (p .0 x)) (λ y. inr (q .0 y)) (or-iff a b .0 e),
+    λ s. or-iff a b .1 (⊎-elim (λ x. inl (p .1 x)) (λ y. inr (q .1 y)) s),
+  )
+
+  pub implies-both : (implies a b ≡ true) ↔ (P → Q)
+  implies-both = (λ e x. q .0 (implies-iff a b .0 e (p .1 x)), λ h. implies-iff a b .1 (λ x. q .1 (h (p .0 x))))
+
 pub among-iff : (n a : ℕ) → (among n a ≡ true) ↔ Among n a
-among-iff n a = (
-  λ e. let s = and-iff (leb 1 a) (leb a n) .0 e in (leb-true 1 a (s .0), leb-true a n (s .1)),
-  λ w. and-iff (leb 1 a) (leb a n) .1 (le-leb 1 a (w .0), le-leb a n (w .1)),
-)
+among-iff n a = and-both (leb-iff 1 a) (leb-iff a n)
 
 -- what is not true is false, and nothing is both
 pub untrue : (a : Bool) → (a ≡ true → ⊥) → a ≡ false
