@@ -4,7 +4,7 @@ use Prim.Native.Nat.{ℕ, zero, suc, _≤_}
 use mathlib.Core.Path.{_≡_, refl}
 use mathlib.Core.Logic.{_↔_, inl, inr, ⊎-elim}
 use mathlib.Core.List.{List}
-use mathlib.Core.Bool.{Bool, true, false, cond, false≢true, true≢false}
+use mathlib.Core.Bool.{Bool, true, false, cond, false≢true, true≢false, not-eq-not}
 use native.Mathlib.Omega.{arith}
 use Rattle.search.specs.Search.{some}
 use Rattle.search.proofs.Truth.{untrue, both}
@@ -57,11 +57,7 @@ module _ (n : ℕ) (ge : Relation) (s : ℕ → Bool) where
       go Undefined t e = t
 
   pub defined-iff : (isDefined (level n ge s) ≡ true) ↔ (UndefinedLevel n ge s → ⊥)
-  defined-iff = (λ e b. both e (undefined-iff .1 b), λ h. go (isDefined (level n ge s)) (λ e. h (undefined-iff .0 e)))
-    where
-      go : (b : Bool) → (b ≡ false → ⊥) → b ≡ true
-      go true h = refl
-      go false h = absurd (h refl)
+  defined-iff = (λ e b. both e (undefined-iff .1 b), λ h. not-eq-not .0 (λ e. h (undefined-iff .0 e)))
 
   -- it can be told whether a set is boundless
   pub without-bound : ((UndefinedLevel n ge s → ⊥) → ⊥) → UndefinedLevel n ge s

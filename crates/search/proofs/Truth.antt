@@ -4,7 +4,8 @@
 use Prim.Native.Nat.{ℕ, _≤_, _<_}
 use mathlib.Core.Path.{_≡_, refl, sym, _∙_}
 use mathlib.Core.Logic.{_↔_, _⊎_, inl, inr, ⊎-elim}
-use mathlib.Core.Bool.{Bool, true, false, not, _&&_, _||_, cond, false≢true, true≢false}
+use mathlib.Core.Bool.{Bool, true, false, not, _&&_, _||_, cond, false≢true, true≢false, not-eq-not}
+pub use mathlib.Core.Bool.{and-eq-true-iff as and-iff}
 use lib.Dec.{leb, ltb, eqb}
 use borrow.Author.Tests.{leb-true, le-leb, ltb-true, lt-ltb, eqb-true, eq-eqb, not-true, not-false}
 use Rattle.search.specs.Search.{among, implies, Among}
@@ -12,10 +13,6 @@ use Rattle.search.specs.Search.{among, implies, Among}
 pub or-iff : (a b : Bool) → ((a || b) ≡ true) ↔ ((a ≡ true) ⊎ (b ≡ true))
 or-iff true b = (λ e. inl refl, λ s. refl)
 or-iff false b = (λ e. inr e, λ s. ⊎-elim (λ e. absurd (false≢true e)) (λ e. e) s)
-
-pub and-iff : (a b : Bool) → ((a && b) ≡ true) ↔ ((a ≡ true) × (b ≡ true))
-and-iff true b = (λ e. (refl, e), λ s. s .1)
-and-iff false b = (λ e. absurd (false≢true e), λ s. s .0)
 
 -- the second part of a conjunction matters only where the first holds
 pub and-when : (a : Bool) {b c : Bool} → (a ≡ true → b ≡ c) → (a && b) ≡ (a && c)
@@ -58,8 +55,7 @@ among-iff n a = and-both (leb-iff 1 a) (leb-iff a n)
 
 -- what is not true is false, and nothing is both
 pub untrue : (a : Bool) → (a ≡ true → ⊥) → a ≡ false
-untrue true h = absurd (h refl)
-untrue false h = refl
+untrue a h = not-eq-not .0 h
 
 pub both : {a : Bool} → a ≡ true → a ≡ false → ⊥
 both p q = true≢false (sym p ∙ q)
