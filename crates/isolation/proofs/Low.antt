@@ -10,7 +10,7 @@ use native.Mathlib.Decide.{ℕ-discrete, decLt}
 use lib.ListN.{length, getD, take, drop, length-drop}
 use lib.Seq.{length-take-le, getD-take, getD-drop, ext-getD}
 use Rattle.search.specs.Search.{Among}
-use Rattle.search.proofs.Truth.{and-iff, untrue, both}
+use Rattle.search.proofs.Truth.{and-iff, untrue, both, false-iff}
 use Rattle.search.proofs.Found.{some-iff}
 use Rattle.rolefile.specs.Said.{labels, roles, cards, cardLabel}
 use Rattle.policy.specs.Policy.{dominates, may}
@@ -23,7 +23,7 @@ use Rattle.monitor.proofs.Frames.{written-in, written-out}
 use Rattle.monitor.proofs.Wrote.{inside}
 use Rattle.monitor.proofs.Orderly.{Orderly, admitted, part-done, both-ways}
 use Rattle.monitor.proofs.Places.{put-at}
-use Rattle.isolation.specs.TwoRuns.{Open, grants, track, under, shared, SameCards}
+use Rattle.isolation.specs.TwoRuns.{Open, track, under, shared, SameCards}
 use Rattle.isolation.proofs.Levels.{label-of-card, reads-below, writes-above}
 use Rattle.isolation.proofs.Tracking.{labelOf, Fits, free, placeOf, next-other, track-other, grants-iff}
 
@@ -66,7 +66,7 @@ module _ (f : List ℕ) (L : ℕ) (t : Open) (s₁ s₂ : Sessions) (fits₁ : F
       by zero e = put-at s₁ p _ p refl ∙ sym (put-at s₂ p _ p refl)
       by (suc n) e =
           let z = same-number 0 (opens p u l) refl in
-          let refused = untrue (grants f t p u l) (λ g. let w = grants-iff f t s₁ known fits₁ p u l .0 g in omega arith) in
+          let refused = false-iff (grants-iff f t s₁ known fits₁ p u l) .1 (λ w. omega arith) in
           same p (rw refused at k)
   here known (closes p) h k = absurd (false≢true (rw (put-at t p none p refl) at k))
   here known (takes p r) h k = rw (same-number 0 (takes p r) h) (changed-here p (takeRule f s₂ p r) (holding r) (same p h))

@@ -7,7 +7,7 @@ use mathlib.Core.Bool.{true, _&&_, cond}
 use mathlib.Core.Option.{Option, none, some, Option·map}
 use native.Mathlib.Omega.{arith}
 use Rattle.search.specs.Search.{among}
-use Rattle.search.proofs.Truth.{and-iff, among-iff, untrue, either}
+use Rattle.search.proofs.Truth.{and-iff, among-iff, false-iff, either}
 use Rattle.rolefile.specs.Said.{labels, users, clearance}
 use Rattle.policy.specs.Policy.{dominates}
 use Rattle.monitor.specs.Calls.{unless, ifDone}
@@ -113,7 +113,7 @@ module _ (f : List ℕ) (t : Open) (s : Sessions) (known : Orderly f s) (fits : 
     where
       by : (n : ℕ) → openRule f s p u l ≡ n → Fits (cond (grants f t p u l) (put t p (some l)) t) (ifDone n (put s p (some (sessionOf u l))) s)
       by zero e = rw (grants-iff p u l .1 e) (put-fits p (some (sessionOf u l)))
-      by (suc n) e = rw (untrue (grants f t p u l) (λ g. let z = grants-iff p u l .0 g in omega arith)) fits
+      by (suc n) e = rw (false-iff (grants-iff p u l) .1 (λ z. omega arith)) fits
   fits-track (closes p) = by (closeRule s p) refl
     where
       by : (n : ℕ) → closeRule s p ≡ n → Fits (put t p none) (ifDone n (put s p none) s)

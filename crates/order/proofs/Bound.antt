@@ -9,7 +9,7 @@ use native.Mathlib.Decide.{decLt}
 use lib.Dec.{ltb, leb}
 use borrow.Author.Tests.{ltb-true, lt-ltb, ltb-false, le-ltb}
 use Rattle.search.specs.Search.{every, first, implies, Among, Lowest}
-use Rattle.search.proofs.Truth.{eqb-iff, ltb-iff, and-iff, and-both, or-both, implies-iff, untrue, both, same}
+use Rattle.search.proofs.Truth.{eqb-iff, ltb-iff, and-iff, and-both, or-both, implies-iff, untrue, both, false-iff, same}
 use Rattle.search.proofs.Found.{every-at, every-of, every-agree, every-cut, first-yet, first-found, first-more, first-none, first-lowest, first-within, first-agree, first-cut}
 use Rattle.order.specs.Closure.{Relation, PartialOrder}
 use Rattle.order.specs.Bound.{upper, isLeast, least, lub, converse, pair, withoutBound, partnerWithoutBound, lowestWithoutBound, Upper, IsLub, Joined, AllJoined, FirstPair, FirstWithoutBound}
@@ -45,8 +45,8 @@ module _ (n : ℕ) (ge : Relation) (s : ℕ → Bool) where
   pub lub-none : (lub n ge s ≡ 0) ↔ ((c : ℕ) → IsLub n ge s c → ⊥)
   unfolding lub least
   lub-none = (
-    λ q c b. both (isLub-iff c (b .inside) .1 b) (first-none (isLeast n ge (upper n ge s)) n .0 q c (b .inside)),
-    λ none. first-none (isLeast n ge (upper n ge s)) n .1 (λ c w. untrue (isLeast n ge (upper n ge s) c) (λ h. none c (isLub-iff c w .0 h))),
+    λ q c b. false-iff (isLub-iff c (b .inside)) .0 (first-none (isLeast n ge (upper n ge s)) n .0 q c (b .inside)) b,
+    λ none. first-none (isLeast n ge (upper n ge s)) n .1 (λ c w. false-iff (isLub-iff c w) .1 (none c)),
   )
 
   -- and else one

@@ -9,7 +9,7 @@ use native.Mathlib.Numerals.{add-one}
 use lib.Dec.{eqb}
 use borrow.Author.Tests.{eq-eqb, eqb-true}
 use Rattle.search.specs.Search.{Among}
-use Rattle.search.proofs.Truth.{or-iff, and-iff, untrue, both}
+use Rattle.search.proofs.Truth.{or-iff, and-iff, untrue, both, false-iff}
 use Rattle.search.proofs.Found.{last-or, first-none, first-agree}
 use Rattle.order.specs.Table.{Rows}
 use Rattle.order.specs.Bound.{converse}
@@ -112,7 +112,7 @@ module _ (e : Relation) where
     circle-finds a w = path-iff a a w
 
     pub circle-misses : (a : ℕ) → Among n a → (path n e a a ≡ false) ↔ (OnCircle n e a → ⊥)
-    circle-misses a w = (λ q c. both (circle-finds a w .1 c) q, λ h. untrue (path n e a a) (λ p. h (circle-finds a w .0 p)))
+    circle-misses a w = false-iff (circle-finds a w)
 
     closure-reflexive : (a : ℕ) → Among n a → closure n e a a ≡ true
     closure-reflexive a w = closure-iff a a w .1 here

@@ -1,7 +1,7 @@
 -- Tables of role sets that lines fill: one row changes at a time, and what the lines so far say adds up. Assumes nothing.
 use Prim.Native.Nat.{ℕ, _+_, _-_, _*_, _≤_}
 use mathlib.Core.Path.{_≡_, refl, sym, ap, _∙_}
-use mathlib.Core.Logic.{_⊎_, inl, inr, ⊎-elim}
+use mathlib.Core.Logic.{_⊎_, inl, inr}
 use mathlib.Core.Bool.{Bool, false, _&&_, _||_, or-false, or-assoc, and-comm, and-false}
 use mathlib.Core.List.{List}
 use native.Mathlib.Omega.{arith}
@@ -10,7 +10,7 @@ use lib.Dec.{eqb}
 use lib.ListN.{length}
 use borrow.Author.Tests.{eq-eqb, ne-eqb, eqb-true}
 use Rattle.search.specs.Search.{among, Among}
-use Rattle.search.proofs.Truth.{and-iff, and-when, and-right, among-iff, untrue, same}
+use Rattle.search.proofs.Truth.{and-iff, and-when, and-right, among-iff, false-iff, same}
 use Rattle.search.proofs.Found.{some-more}
 use Rattle.roleset.specs.Row.{member, rowOf, added, joined, Kept, Placed}
 use Rattle.roleset.proofs.Rows.{row-kept, whole-true}
@@ -153,7 +153,7 @@ module _ (role card mode : ℕ) (xs ys : List ℕ) (fits : 28688 ≤ length xs) 
 module _ (role card mode : ℕ) (xs : List ℕ) where
   pub no-role : (Among 128 role → ⊥) → GrantedRows (lineGrants xs role card mode) xs xs
   no-role h = granted-none _ xs (λ d o r u t.
-      and-right (eqb card o) (and-right (eqb mode d) (rw (untrue (among 128 role) (λ e. h (among-iff 128 role .0 e))))))
+      and-right (eqb card o) (and-right (eqb mode d) (rw (false-iff (among-iff 128 role) .1 h))))
 
   pub no-card : (Among 512 card → ⊥) → GrantedRows (lineGrants xs role card mode) xs xs
   no-card h = granted-none _ xs (λ d o r u t. rw (ne-eqb card o (λ e. h (rw e t))))

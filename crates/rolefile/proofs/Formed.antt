@@ -10,7 +10,7 @@ use lib.Dec.{eqb}
 use lib.ListN.{length}
 use borrow.Author.Tests.{eqb-true, eq-eqb, not-true, not-false}
 use Rattle.search.specs.Search.{Among, first}
-use Rattle.search.proofs.Truth.{eqb-iff, leb-iff, ltb-iff, and-both, or-both, implies-both, among-iff, untrue, both}
+use Rattle.search.proofs.Truth.{eqb-iff, leb-iff, ltb-iff, and-both, or-both, implies-both, among-iff, false-iff}
 use Rattle.search.proofs.Found.{first-none}
 use Rattle.rolefile.specs.declared.Line.{Line}
 use Rattle.rolefile.specs.declared.Verdict.{Verdict}
@@ -149,8 +149,8 @@ module _ (f : List ℕ) (k : ℕ) where
 
       has : (x : ℕ) → Among n x → (bad x ≡ true) ↔ (One f k x → ⊥)
       has x w =
-          let t = eqb (count (lines f) (about f k x)) 1 in
-          (λ e o. both (one-iff x .1 o) (not-true t e), λ h. rw (untrue t (λ e. h (one-iff x .0 e))))
+          let none = false-iff (one-iff x) in
+          (λ e. none .0 (not-true (eqb (count (lines f) (about f k x)) 1) e), λ h. rw (none .1 h))
 
       hasNot : (x : ℕ) → Among n x → (bad x ≡ false) ↔ One f k x
       hasNot x w = (λ e. one-iff x .0 (not-false (eqb (count (lines f) (about f k x)) 1) e), λ o. rw (one-iff x .1 o))
