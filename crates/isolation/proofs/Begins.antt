@@ -2,7 +2,7 @@
 use Prim.Native.Nat.{ℕ, zero, suc, _+_, _*_, _-_, _/_, _%_, _^_, _≤_, _<_}
 use mathlib.Core.Path.{_≡_, refl, sym, ap, _∙_}
 use mathlib.Core.List.{List, [], _∷_}
-use mathlib.Core.Bool.{Bool, true, false, _&&_, cond}
+use mathlib.Core.Bool.{Bool, false, _&&_, cond}
 use native.Mathlib.Omega.{arith}
 use native.Mathlib.Decide.{ℕ-discrete, decLt}
 use lib.Bits.{bitOr}
@@ -10,7 +10,7 @@ use lib.Dec.{leb, eqb}
 use lib.ListN.{length, getD, replicate, List·getD-eq-default}
 use borrow.Author.Tests.{le-leb, lt-leb, eq-eqb, ne-eqb}
 use Rattle.search.specs.Search.{Among}
-use Rattle.search.proofs.Truth.{among-iff, either}
+use Rattle.search.proofs.Truth.{among-iff, either, either-by}
 use Rattle.roleset.specs.Row.{rowOf, bit, member}
 use Rattle.roleset.proofs.Bits.{bit-zero, bit-on}
 use Rattle.rolefile.specs.Form.{fine}
@@ -57,15 +57,13 @@ module _ (s : ℕ → Bool) where
   unfolding packed
   low-bit zero m j l = absurd (omega arith)
   low-bit (suc n) m j l = elim (ℕ-discrete j n) [
-    | yes e ↦ rw e (last (s n) refl)
+    | yes e ↦ rw e (either-by (λ x. bit x n ≡ s n) (s n) _ _
+        (λ h. bit-on (packed n s) n (omega arith) n ∙ rw (eq-eqb n n refl) (sym h))
+        (λ h. high-bit n (omega arith) n (omega arith) ∙ sym h))
     | no e ↦
         let h = low-bit n (omega arith) j (omega arith) in
         either (λ x. bit x j ≡ s j) (s n) _ _ (bit-on (packed n s) n (omega arith) j ∙ rw (ne-eqb j n e) h) h
   ]
-    where
-      last : (b : Bool) → s n ≡ b → bit (cond b (bitOr (packed n s) (1 * 2 ^ n % 256)) (packed n s)) n ≡ s n
-      last true e = bit-on (packed n s) n (omega arith) n ∙ rw (eq-eqb n n refl) (sym e)
-      last false e = high-bit n (omega arith) n (omega arith) ∙ sym e
 
 -- ---- bytes by tables: size bytes from `at` on are g's, the others are the rest's
 

@@ -10,7 +10,7 @@ use lib.Bits.{bitOr, bitXor, or-lt, xor-lt}
 use lib.ListN.{length, getD, set, length-set}
 use lib.Seq.{getD-set-same, getD-set-other}
 use Rattle.search.specs.Search.{among, Among}
-use Rattle.search.proofs.Truth.{either}
+use Rattle.search.proofs.Truth.{either, either-by}
 use Rattle.roleset.specs.Row.{member, Placed, added, removed}
 use Rattle.roleset.proofs.Bits.{shifted}
 use Rattle.roleset.proofs.Rows.{added-placed, removed-placed, placed-once, unwritten}
@@ -46,11 +46,9 @@ module _ (xs : List ℕ) (at r : ℕ) (fits : at + 16 ≤ length xs) (w : Among 
   less held = cond held (set xs i (bitXor (getD xs i 0) (2 ^ k))) xs
 
   pub less-placed : Placed at (removed xs at r) xs (less (member xs at r))
-  less-placed = by (member xs at r) refl
-    where
-      by : (b : Bool) → member xs at r ≡ b → Placed at (removed xs at r) xs (less b)
-      by true h = rw (shifted k small) at (removed-placed xs at r fits w h)
-      by false h = unwritten (λ l. none-less h)
+  less-placed =
+      either-by (Placed at (removed xs at r) xs) (member xs at r) _ xs
+      (λ h. rw (shifted k small) at (removed-placed xs at r fits w h)) (λ h. unwritten (λ l. none-less h))
 
   -- one byte at most is written
   pub length-less : (b : Bool) → length (less b) ≡ length xs

@@ -1,13 +1,12 @@
 -- Rows of tests whose answers are those of calls, and what it tells that a state knows a number. Assumes nothing.
 use Prim.Native.Nat.{ℕ, _≤_}
-use mathlib.Core.Path.{_≡_, refl}
+use mathlib.Core.Path.{_≡_}
 use mathlib.Core.List.{List}
-use mathlib.Core.Logic.{_⊎_, inl, inr}
 use mathlib.Core.Bool.{Bool, true, false, not, _&&_}
 use native.Mathlib.Omega.{arith}
 use lib.ListN.{length}
 use Rattle.search.specs.Search.{among, Among}
-use Rattle.search.proofs.Truth.{and-iff, among-iff, passed, failed}
+use Rattle.search.proofs.Truth.{and-iff, among-iff, passed, failed, either-by}
 use Rattle.policy.specs.Tables.{word}
 use Rattle.monitor.specs.Session.{sound, entitled, fitting}
 use Rattle.monitor.specs.Review.{known, isRole, isUser, isCard, knownCount, entitledTo, mayOpen, mayTake}
@@ -27,13 +26,6 @@ pub ruleset tests = (fails, holds)
 pub wider : (m n : ℕ) {x : ℕ} → m ≤ n → Among m x → Among n x
 wider m n l a = omega arith
 
-sound-or : (xs : List ℕ) → (sound xs ≡ true) ⊎ (sound xs ≡ false)
-sound-or xs = which (sound xs)
-  where
-    which : (b : Bool) → (b ≡ true) ⊎ (b ≡ false)
-    which true = inl refl
-    which false = inr refl
-
 module _ (xs : List ℕ) where
   inside : (at x : ℕ) → known xs at x ≡ true → Sound xs × Among (word xs at) x
   inside at x h = let a = and-iff _ _ .0 h in (sound-of xs (a .0), among-iff _ _ .0 (a .1))
@@ -42,10 +34,7 @@ module _ (xs : List ℕ) where
   long at x h = inside at x h .0 .long
 
   few : (n at : ℕ) → (Sound xs → word xs at ≤ n) → knownCount xs at ≤ n
-  few n at most = elim (sound-or xs) [
-    | inl e ↦ rw e (most (sound-of xs e))
-    | inr e ↦ rw e (omega arith)
-  ]
+  few n at most = either-by (λ k. k ≤ n) (sound xs) (word xs at) 0 (λ e. most (sound-of xs e)) (λ e. omega arith)
 
   pub few-labels : knownCount xs 0 ≤ 32
   few-labels = few 32 0 (λ s. s .labels .1)

@@ -1,14 +1,14 @@
 -- What the lines of a file say is about labels, roles and cards that the file counts, and so is what follows from it. Assumes nothing.
 use Prim.Native.Nat.{ℕ, zero, suc, _<_}
-use mathlib.Core.Path.{_≡_, refl}
+use mathlib.Core.Path.{_≡_}
 use mathlib.Core.Logic.{_⊎_, inl, inr, ⊎-elim}
 use mathlib.Core.List.{List}
-use mathlib.Core.Bool.{Bool, true, false, _&&_, cond}
+use mathlib.Core.Bool.{Bool, true, _&&_}
 use native.Mathlib.Omega.{arith}
 use lib.Dec.{eqb}
 use borrow.Author.Tests.{eqb-true}
 use Rattle.search.specs.Search.{Among}
-use Rattle.search.proofs.Truth.{or-iff, and-iff, both}
+use Rattle.search.proofs.Truth.{or-iff, and-iff, both, either-by}
 use Rattle.search.proofs.Found.{some-iff, last-or}
 use Rattle.order.specs.Closure.{Relation, via, path, closure}
 use Rattle.rolefile.specs.Line.{H, D, S, O, A, lineAt, lines}
@@ -42,11 +42,9 @@ last-of : (n : ℕ) (p : ℕ → Bool) (v : ℕ → ℕ) (Q : ℕ → Type 0) �
     → (i : ℕ) → Among n i → p i ≡ true → Q (last n p v)
 unfolding last
 last-of zero p v Q h i w e = absurd (omega arith)
-last-of (suc n) p v Q h i w e = by (p (suc n)) refl (λ u. last-of n p v Q (λ j x. h j (omega arith)) i u e)
-  where
-    by : (b : Bool) → p (suc n) ≡ b → (Among n i → Q (last n p v)) → Q (cond b (v (suc n)) (last n p v))
-    by true k earlier = h (suc n) (omega arith) k
-    by false k earlier = earlier (⊎-elim (λ same. absurd (both e (rw same k))) (λ u. u) (last-or n i w))
+last-of (suc n) p v Q h i w e =
+    either-by Q (p (suc n)) (v (suc n)) (last n p v) (h (suc n) (omega arith))
+    (λ k. last-of n p v Q (λ j x. h j (omega arith)) i (⊎-elim (λ same. absurd (both e (rw same k))) (λ u. u) (last-or n i w)) e)
 
 module _ (f : List ℕ) (good : GoodLines f) where
   said-known : (k x y z : ℕ) → H < k → says f k x y z ≡ true → Among (firstLimit (header f) k) x × Among (secondLimit (header f) k) y

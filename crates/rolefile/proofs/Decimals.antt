@@ -10,7 +10,7 @@ use native.Mathlib.Decide.{decLt}
 use lib.ListN.{length, replicate, length-append, length-replicate, replicate-append-replicate}
 use borrow.Author.Tests.{lt-ltb, le-ltb, eqb-true, ne-eqb}
 use Rattle.search.specs.Search.{among}
-use Rattle.search.proofs.Truth.{leb-iff, and-iff, and-both, among-iff}
+use Rattle.search.proofs.Truth.{leb-iff, and-iff, and-both, among-iff, either-by}
 use Rattle.rolefile.specs.declared.Field.{Field}
 use Rattle.rolefile.specs.declared.Field.the-variants.{Blank, Number, Bad}
 use Rattle.rolefile.specs.Field.{isBlank, isDigit, column, columns, five, fieldAt}
@@ -93,14 +93,13 @@ shows-more cs Blank b (k, e) = go (isBlank b) (isDigit b) refl refl
     go true d p q = (k + 1, rw (e, eqb-true b 32 p) (replicate-append-replicate k 1 32))
     go false true p q = (k, omega (arith, isDigit-iff b .0 q), rw (e, shown-first b q))
     go false false p q = tt
-shows-more cs (Number n) b (k, l, e) = go (isDigit b && among 9999 n) refl
-  where
-    go : (t : Bool) → (isDigit b && among 9999 n) ≡ t → Shows (cs ++ (b ∷ [])) (cond t (Number (10 * n + (b - 48))) Bad)
-    go true p =
-        let (d, a) = and-iff (isDigit b) (among 9999 n) .0 p in
-        let w = among-iff 9999 n .0 a in
-        (k, omega (arith, isDigit-iff b .0 d), rw (e, shown-next n b (w .0) d, append-assoc))
-    go false p = tt
+shows-more cs (Number n) b (k, l, e) =
+    either-by (Shows (cs ++ (b ∷ []))) (isDigit b && among 9999 n) (Number (10 * n + (b - 48))) Bad
+    (λ p.
+    let (d, a) = and-iff (isDigit b) (among 9999 n) .0 p in
+    let w = among-iff 9999 n .0 a in
+    (k, omega (arith, isDigit-iff b .0 d), rw (e, shown-next n b (w .0) d, append-assoc)))
+    (λ p. tt)
 shows-more cs Bad b s = tt
 
 shows-all : (done cs : List ℕ) (f : Field) → Shows done f → Shows (done ++ cs) (columns f cs)
@@ -212,11 +211,9 @@ worth-more Blank v b w = go (isBlank b) (isDigit b) refl refl
     go true d p q = omega (arith, eqb-true b 32 p)
     go false true p q = omega (arith, isDigit-iff b .0 q)
     go false false p q = tt
-worth-more (Number n) v b w = go (isDigit b && among 9999 n) refl
-  where
-    go : (t : Bool) → (isDigit b && among 9999 n) ≡ t → Worth (cond t (Number (10 * n + (b - 48))) Bad) (10 * v + b % 16)
-    go true p = omega (arith, isDigit-iff b .0 (and-iff (isDigit b) (among 9999 n) .0 p .0))
-    go false p = tt
+worth-more (Number n) v b w =
+    either-by (λ f. Worth f (10 * v + b % 16)) (isDigit b && among 9999 n) (Number (10 * n + (b - 48))) Bad
+    (λ p. omega (arith, isDigit-iff b .0 (and-iff (isDigit b) (among 9999 n) .0 p .0))) (λ p. tt)
 worth-more Bad v b w = tt
 
 -- the figures v and then those of the columns bs

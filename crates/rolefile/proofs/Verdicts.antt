@@ -9,6 +9,7 @@ use native.Mathlib.Numerals.{add-one}
 use lib.Dec.{eqb}
 use borrow.Author.Tests.{eqb-true, eqb-false, ne-eqb}
 use Rattle.search.specs.Search.{Among}
+use Rattle.search.proofs.Truth.{either-by}
 use Rattle.search.proofs.Found.{last-or}
 use Rattle.rolefile.specs.declared.Verdict.{Verdict}
 use Rattle.rolefile.specs.Form.{fine, unless, _then_, scan}
@@ -28,11 +29,10 @@ module _ (v w : Verdict) where
   then-stop h = rw (ne-eqb (v .number) 0 h)
 
   pub then-zero : ((v then w) .number ≡ 0) ↔ ((v .number ≡ 0) × (w .number ≡ 0))
-  then-zero = go (eqb (v .number) 0) refl
-    where
-      go : (t : Bool) → eqb (v .number) 0 ≡ t → (unless t v w .number ≡ 0) ↔ ((v .number ≡ 0) × (w .number ≡ 0))
-      go true q = (λ e. (eqb-true (v .number) 0 q, e), λ s. s .1)
-      go false q = (λ e. absurd (eqb-false (v .number) 0 q e), λ s. absurd (eqb-false (v .number) 0 q (s .0)))
+  then-zero =
+      either-by (λ u. (u .number ≡ 0) ↔ ((v .number ≡ 0) × (w .number ≡ 0))) (eqb (v .number) 0) w v
+      (λ q. (λ e. (eqb-true (v .number) 0 q, e), λ s. s .1))
+      (λ q. (λ e. absurd (eqb-false (v .number) 0 q e), λ s. absurd (eqb-false (v .number) 0 q (s .0))))
 
   pub unless-zero : (t : Bool) → Refuses v → (unless t v w .number ≡ 0) ↔ ((t ≡ true) × (w .number ≡ 0))
   unless-zero true h = (λ e. (refl, e), λ s. s .1)

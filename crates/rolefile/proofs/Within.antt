@@ -8,9 +8,9 @@ use native.Mathlib.Omega.{arith}
 use native.Mathlib.Nat.{add-zero, add-suc, eq-or-lt-of-le}
 use borrow.Author.Tests.{eqb-true}
 use Rattle.search.specs.Search.{Among, some}
-use Rattle.search.proofs.Truth.{untrue}
+use Rattle.search.proofs.Truth.{untrue, either-by}
 use Rattle.rolefile.specs.declared.Verdict.{Verdict}
-use Rattle.rolefile.specs.Form.{fine, unless, _then_, scan, count}
+use Rattle.rolefile.specs.Form.{fine, _then_, scan, count}
 use Rattle.rolefile.specs.Said.{last}
 use Rattle.rolefile.proofs.Verdicts.{Clean, scan-clean}
 
@@ -45,11 +45,7 @@ module _ {X : Type 0} (s t : ℕ → X) where
 -- ---- each search
 
 then-fine : (v : Verdict) → Clean v → (v then fine) ≡ v
-then-fine v clean = go (eqb (v .number) 0) refl
-  where
-    go : (t : Bool) → eqb (v .number) 0 ≡ t → unless t v fine ≡ v
-    go true e = sym (clean (eqb-true (v .number) 0 e))
-    go false e = refl
+then-fine v clean = either-by (λ w. w ≡ v) (eqb (v .number) 0) fine v (λ e. sym (clean (eqb-true (v .number) 0 e))) (λ e. refl)
 
 module _ (n j m : ℕ) (fits : j + m ≤ n) where
   -- q finds only things within, and says of them what p says

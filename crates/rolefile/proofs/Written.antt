@@ -12,7 +12,7 @@ use lib.ListN.{length, getD, take, drop}
 use lib.Seq.{take-at, drop-at, drop-cons}
 use borrow.Author.Tests.{eqb-true, eq-eqb, leb-true, le-leb}
 use Rattle.search.specs.Search.{every, Among}
-use Rattle.search.proofs.Truth.{and-iff}
+use Rattle.search.proofs.Truth.{and-iff, either-by}
 use Rattle.search.proofs.Found.{every-at}
 use Rattle.rolefile.specs.declared.Field.{Field}
 use Rattle.rolefile.specs.declared.Field.the-variants.{Blank, Number, Bad}
@@ -29,11 +29,7 @@ abbrev Named : ℕ → ℕ → Type 0
 Named b k = 1 ≤ k → (b ≡ letterByte k) × (k ≤ 7)
 
 named-next : (b x k rest : ℕ) → (b ≡ x → Named b k) → Named b rest → Named b (cond (eqb b x) k rest)
-named-next b x k rest is other = go (eqb b x) refl
-  where
-    go : (t : Bool) → eqb b x ≡ t → Named b (cond t k rest)
-    go true e = is (eqb-true b x e)
-    go false e = other
+named-next b x k rest is other = either-by (Named b) (eqb b x) k rest (λ e. is (eqb-true b x e)) (λ e. other)
 
 named : (b : ℕ) → Named b (letterOf b)
 unfolding letterOf letterByte

@@ -85,7 +85,10 @@ same false b f g = sym (untrue b (λ e. false≢true (g e)))
 pub eqb-swap : (a b : ℕ) → eqb a b ≡ eqb b a
 eqb-swap a b = same (eqb a b) (eqb b a) (λ e. eq-eqb b a (sym (eqb-true a b e))) (λ e. eq-eqb a b (sym (eqb-true b a e)))
 
--- what holds of two things holds of the one that a test picks
+-- what holds of two things, each where a test picks it, holds of the one that it picks
+pub either-by : {A : Type 0} (P : A → Type 0) (b : Bool) (x y : A) → (b ≡ true → P x) → (b ≡ false → P y) → P (cond b x y)
+either-by P true x y p q = p refl
+either-by P false x y p q = q refl
+
 pub either : {A : Type 0} (P : A → Type 0) (b : Bool) (x y : A) → P x → P y → P (cond b x y)
-either P true x y p q = p
-either P false x y p q = q
+either P b x y p q = either-by P b x y (λ e. p) (λ e. q)
