@@ -9,18 +9,11 @@ use native.Mathlib.Decide.{decLt}
 use lib.Dec.{ltb, leb}
 use borrow.Author.Tests.{ltb-true, lt-ltb, ltb-false, le-ltb}
 use Rattle.search.specs.Search.{every, first, implies, Among, Lowest}
-use Rattle.search.proofs.Truth.{eqb-iff, ltb-iff, and-iff, and-both, or-both, implies-iff, untrue, both, false-iff, same}
-use Rattle.search.proofs.Found.{every-at, every-of, every-agree, every-cut, first-yet, first-found, first-more, first-none, first-lowest, first-within, first-agree, first-cut}
+use Rattle.search.proofs.Truth.{eqb-iff, ltb-iff, and-iff, and-both, or-both, untrue, both, false-iff, same}
+use Rattle.search.proofs.Found.{every-agree, every-in, every-cut, first-yet, first-found, first-more, first-none, first-lowest, first-within, first-agree, first-cut}
 use Rattle.order.specs.Closure.{Relation, PartialOrder}
 use Rattle.order.specs.Bound.{upper, isLeast, least, lub, converse, pair, withoutBound, partnerWithoutBound, lowestWithoutBound, Upper, IsLub, Joined, AllJoined, FirstPair, FirstWithoutBound}
 use Rattle.order.proofs.Closure.{Agree}
-
--- every thing of a set has p
-every-in : (n : ℕ) (s p : ℕ → Bool) → (every n (λ x. implies (s x) (p x)) ≡ true) ↔ ((x : ℕ) → Among n x → s x ≡ true → p x ≡ true)
-every-in n s p = (
-  λ h x w. implies-iff (s x) (p x) .0 (every-at (λ x. implies (s x) (p x)) n h x w),
-  λ h. every-of (λ x. implies (s x) (p x)) n (λ x w. implies-iff (s x) (p x) .1 (h x w)),
-)
 
 module _ (n : ℕ) (ge : Relation) (s : ℕ → Bool) where
   pub upper-iff : (c : ℕ) → (upper n ge s c ≡ true) ↔ Upper n ge s c

@@ -180,6 +180,13 @@ module _ (p q : ℕ → Bool) where
   first-agree zero h = refl
   first-agree (suc n) h = rw (first-agree n (λ a w. h a (omega arith)), h (suc n) (omega arith))
 
+-- every thing of a set has p
+pub every-in : (n : ℕ) (s p : ℕ → Bool) → (every n (λ x. implies (s x) (p x)) ≡ true) ↔ ((x : ℕ) → Among n x → s x ≡ true → p x ≡ true)
+every-in n s p = (
+  λ h x w. implies-iff (s x) (p x) .0 (every-at (λ x. implies (s x) (p x)) n h x w),
+  λ h. every-of (λ x. implies (s x) (p x)) n (λ x w. implies-iff (s x) (p x) .1 (h x w)),
+)
+
 -- a search among n that can find nothing past m is one among m
 module _ (m n : ℕ) (l : m ≤ n) where
   pub first-cut : (p q : ℕ → Bool) → ((a : ℕ) → Among n a → q a ≡ (leb a m && p a)) → first n q ≡ first m p
@@ -205,15 +212,12 @@ module _ (m n : ℕ) (l : m ≤ n) where
       → every n (λ a. implies (t a) (p a)) ≡ every m (λ a. implies (s a) (p a))
   every-cut s t p h =
       same (every n (λ a. implies (t a) (p a))) (every m (λ a. implies (s a) (p a)))
-      (λ e. every-of (λ a. implies (s a) (p a)) m (λ a w.
-      implies-iff (s a) (p a) .1 (λ k.
-      implies-iff (t a) (p a) .0 (every-at (λ a. implies (t a) (p a)) n e a (omega arith))
-      (h a (omega arith) ∙ and-iff (leb a m) (s a) .1 (le-leb a m (w .1), k)))))
-      (λ e. every-of (λ a. implies (t a) (p a)) n (λ a w.
-      implies-iff (t a) (p a) .1 (λ k.
+      (λ e. every-in m s p .1 (λ a w k.
+      every-in n t p .0 e a (omega arith) (h a (omega arith) ∙ and-iff (leb a m) (s a) .1 (le-leb a m (w .1), k))))
+      (λ e. every-in n t p .1 (λ a w k.
       let (i, j) = and-iff (leb a m) (s a) .0 (sym (h a w) ∙ k) in
       let b = leb-true a m i in
-      implies-iff (s a) (p a) .0 (every-at (λ a. implies (s a) (p a)) m e a (omega arith)) j)))
+      every-in m s p .0 e a (omega arith) j))
 
 -- a search among m + n things that finds nothing among the first m is one among the others
 module _ (p : ℕ → Bool) (m n : ℕ) (vain : first m p ≡ 0) where
