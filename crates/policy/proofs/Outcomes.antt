@@ -53,15 +53,16 @@ verdict-decides f =
 module _ (f : List ℕ) where
   meant : (v : Verdict) → Refusal f v → Outcome f v
   meant v (inl (inl (h, e))) = rw e (badSize h)
-  meant v (inl (inr (s, inl (k, w, low, r)))) = let (n, l, e) = r in rw e (badLine s w low l)
+  meant v (inl (inr (s, inl (k, low)))) = let (n, l, e) = low .holds in rw e (badLine s (low .inside) (low .lower) l)
   meant v (inl (inr (s, inr (g, inl (u, l, e))))) = rw e (badUser s g l)
   meant v (inl (inr (s, inr (g, inr (us, (o, l, e)))))) = rw e (badCard s g us l)
   meant v (inr (w, inl (a, l, e))) = rw e (labelCircle w l)
   meant v (inr (w, inr (d, inl (a, b, p, e)))) = rw e (noBound w d p)
   meant v (inr (w, inr (d, inr (j, inl (r, l, e))))) =
       rw e (roleCircle (record { form = w; dominance = d; joins = j }) l)
-  meant v (inr (w, inr (d, inr (j, inr (s, (i, inside, low, (l, (n, r, e)))))))) =
-      rw e (badAssignment (record { form = w; dominance = d; joins = j }) s inside l low r)
+  meant v (inr (w, inr (d, inr (j, inr (s, (i, low)))))) =
+      let (l, (n, r, e)) = low .holds in
+      rw e (badAssignment (record { form = w; dominance = d; joins = j }) s (low .inside) l (low .lower) r)
 
   pub outcome : Outcome f (verdict f)
   outcome = ⊎-elim (λ a. rw (verdict-decides f .good a) (accepted a)) (meant (verdict f)) (verdict-decides f .told)
@@ -75,7 +76,7 @@ module _ (f : List ℕ) where
       only : {v : Verdict} → Outcome f v → v ≡ verdict f
       only (accepted a) = sym (verdict-decides f .good a)
       only (badSize h) = refused (inl (inl (h, refl)))
-      only (badLine {n} {k} s w low l) = refused (inl (inr (s, inl (k, w, low, (n, l, refl)))))
+      only (badLine {n} {k} s w low l) = refused (inl (inr (s, inl (k, record { inside = w; holds = (n, l, refl); lower = low }))))
       only (badUser {u} s g l) = refused (inl (inr (s, inr (g, inl (u, l, refl)))))
       only (badCard {o} s g us l) = refused (inl (inr (s, inr (g, inr (us, (o, l, refl))))))
       only (labelCircle {a} w l) = refused (inr (w, inl (a, l, refl)))
@@ -83,7 +84,7 @@ module _ (f : List ℕ) where
       only (roleCircle {r} o l) =
           refused (inr (o .form, inr (o .dominance, inr (o .joins, inl (r, l, refl)))))
       only (badAssignment {n} {i} o s w l low r) =
-          refused (inr (o .form, inr (o .dominance, inr (o .joins, inr (s, (i, w, low, (l, (n, r, refl))))))))
+          refused (inr (o .form, inr (o .dominance, inr (o .joins, inr (s, (i, record { inside = w; holds = (l, (n, r, refl)); lower = low }))))))
 
   pub accepted-iff : (verdict f .number ≡ 0) ↔ Accepted f
   accepted-iff = decides-zero (verdict-decides f)

@@ -1,13 +1,13 @@
 -- What a check decides: `Decides v G R`, its verdict v is fine where G holds; else v refuses, R tells why, and R tells of no other verdict.
 -- So checks that follow one another are read part by part. Assumes nothing.
-use Prim.Native.Nat.{ℕ, zero, suc, _<_}
+use Prim.Native.Nat.{ℕ, zero, suc}
 use mathlib.Core.Path.{_≡_, refl, sym, ap, _∙_}
 use mathlib.Core.Logic.{_↔_, _⊎_, inl, inr, ⊎-elim}
 use mathlib.Core.Bool.{Bool, true, false, cond, false≢true}
 use native.Mathlib.Omega.{arith}
 use Rattle.search.specs.Search.{Among, first, LowestOf}
 use Rattle.search.proofs.Truth.{eqb-iff}
-use Rattle.search.proofs.Found.{last-or, first-lowest-of}
+use Rattle.search.proofs.Found.{last-or, lowest-more, first-lowest-of}
 use Rattle.rolefile.specs.declared.Verdict.{Verdict}
 use Rattle.rolefile.specs.Form.{fine, unless, _then_, scan, found}
 use Rattle.rolefile.proofs.Verdicts.{Refuses, Clean, then-next, then-stop, unless-then}
@@ -25,9 +25,9 @@ Fails P v x = (P → ⊥) × (x ≡ v)
 abbrev pub Else : (Verdict → Type 0) → Type 0 → (Verdict → Type 0) → Verdict → Type 0
 Else R G Q x = R x ⊎ (G × Q x)
 
--- k is the first of 1 to n that refuses, and R k tells why
+-- the first of 1 to n that refuses, and why
 abbrev pub Earliest : (ℕ → Type 0) → (ℕ → Verdict → Type 0) → ℕ → Verdict → Type 0
-Earliest G R n x = (k : ℕ) × Among n k × ((j : ℕ) → Among n j → j < k → G j) × R k x
+Earliest G R n x = (k : ℕ) × LowestOf n (λ k. R k x) G k
 
 module _ {v : Verdict} {G : Type 0} {R : Verdict → Type 0} (d : Decides v G R) where
   pub decides-zero : (v .number ≡ 0) ↔ G
@@ -129,7 +129,7 @@ module _ (n : ℕ) (p : ℕ → Bool) {G : Type 0} {P N : ℕ → Type 0} (none 
 module _ {v : ℕ → Verdict} {G : ℕ → Type 0} {R : ℕ → Verdict → Type 0} (d : (k : ℕ) → Decides (v k) (G k) (R k)) where
   pub scan-decides : (n : ℕ) → Decides (scan n v) ((k : ℕ) → Among n k → G k) (Earliest G R n)
   unfolding scan
-  scan-decides zero = record { told = inl (λ k w. absurd (omega arith)); good = λ g. refl; bad = λ x (k, w, low, r). absurd (omega arith) }
+  scan-decides zero = record { told = inl (λ k w. absurd (omega arith)); good = λ g. refl; bad = λ x (k, low). let w = low .inside in absurd (omega arith) }
   scan-decides (suc n) =
       decides-as (then-decides (scan-decides n) (λ g. d (suc n))) (
         λ (g, l) k w. ⊎-elim (λ i. rw i l) (g k) (last-or n k w),
@@ -137,10 +137,10 @@ module _ {v : ℕ → Verdict} {G : ℕ → Type 0} {R : ℕ → Verdict → Typ
       )
       (λ x. (
         ⊎-elim
-            (λ (k, w, low, r). (k, omega arith, λ j u l. low j (omega arith) l, r))
-            (λ (g, r). (suc n, omega arith, λ j u l. g j (omega arith), r)),
-        λ (k, w, low, r). ⊎-elim
-            (λ i. inr (λ j u. low j (omega arith) (omega arith), rw i at r))
-            (λ u. inl (k, u, λ j y l. low j (omega arith) l, r))
-            (last-or n k w),
+            (λ (k, low). (k, lowest-more (omega arith) low))
+            (λ (g, r). (suc n, record { inside = omega arith; holds = r; lower = λ j u l. g j (omega arith) })),
+        λ (k, low). ⊎-elim
+            (λ i. inr (λ j u. low .lower j (omega arith) (omega arith), rw i at (low .holds)))
+            (λ u. inl (k, record { inside = u; holds = low .holds; lower = λ j y l. low .lower j (omega arith) l }))
+            (last-or n k (low .inside)),
       ))

@@ -17,6 +17,12 @@ use Rattle.search.proofs.Truth.{or-iff, and-iff, implies-iff, untrue, b
 pub last-or : (n a : ℕ) → Among (suc n) a → (a ≡ suc n) ⊎ Among n a
 last-or n a w = ⊎-elim (λ e. inl e) (λ l. inr (omega arith)) (eq-or-lt-of-le (w .1))
 
+-- the lowest of the things 1 to m is the lowest of more of them
+pub lowest-more : {m n a : ℕ} {P N : ℕ → Type 0} → m ≤ n → LowestOf m P N a → LowestOf n P N a
+lowest-more l low =
+    let w = low .inside in
+    record { inside = omega arith; holds = low .holds; lower = λ b v k. low .lower b (omega arith) k }
+
 module _ (p : ℕ → Bool) where
   some-witness : (n : ℕ) → some n p ≡ true → (a : ℕ) × Among n a × (p a ≡ true)
   unfolding some
@@ -71,9 +77,7 @@ module _ (p : ℕ → Bool) where
       next : (a : ℕ) → Finds n a → (b : Bool) → p (suc n) ≡ b → Finds (suc n) (orElse a (cond b (suc n) 0))
       next zero none true e = record { inside = omega arith; holds = e; lower = λ b w l. none b (omega arith) }
       next zero none false e = λ b w. ⊎-elim (λ i. rw i e) (none b) (last-or n b w)
-      next (suc a) low b e =
-          let w = low .inside in
-          record { inside = omega arith; holds = low .holds; lower = λ c v l. low .lower c (omega arith) l }
+      next (suc a) low b e = lowest-more (omega arith) low
 
   -- and nothing else is such an answer
   finds-first : (n a : ℕ) → Finds n a → a ≡ first n p
@@ -146,9 +150,7 @@ module _ (p : ℕ → Bool) where
     where
       go : (a : ℕ) → Finds m a → (a ≡ 0 → ⊥) → a ≡ first n p
       go zero none some = absurd (some refl)
-      go (suc a) low some =
-          let w = low .inside in
-          finds-first n (suc a) (record { inside = omega arith; holds = low .holds; lower = λ b v k. low .lower b (omega arith) k })
+      go (suc a) low some = finds-first n (suc a) (lowest-more l low)
 
   pub first-yet : first 0 p ≡ 0
   unfolding first
