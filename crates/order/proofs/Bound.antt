@@ -6,13 +6,13 @@ use mathlib.Core.Logic.{_↔_, _⊎_, inl, inr, ⊎-elim}
 use mathlib.Core.Bool.{Bool, true, false, _&&_, and-assoc}
 use native.Mathlib.Omega.{arith}
 use native.Mathlib.Decide.{decLt}
-use lib.Dec.{ltb, leb}
+use lib.Dec.{leb}
 use borrow.Author.Tests.{ltb-true, lt-ltb, ltb-false, le-ltb}
 use Rattle.search.specs.Search.{every, first, implies, Among, Lowest}
 use Rattle.search.proofs.Truth.{eqb-iff, ltb-iff, and-iff, and-both, or-both, untrue, both, false-iff, same}
-use Rattle.search.proofs.Found.{every-agree, every-in, every-cut, first-yet, first-found, first-more, first-none, first-lowest, first-within, first-agree, first-cut}
+use Rattle.search.proofs.Found.{every-agree, every-in, every-cut, first-found, first-more, first-none, first-lowest, first-within, first-agree, first-cut}
 use Rattle.order.specs.Closure.{Relation, PartialOrder}
-use Rattle.order.specs.Bound.{upper, isLeast, least, lub, converse, pair, withoutBound, partnerWithoutBound, lowestWithoutBound, Upper, IsLub, Joined, AllJoined, FirstPair, FirstWithoutBound}
+use Rattle.order.specs.Bound.{upper, isLeast, least, lub, converse, pair, withoutBound, partnerWithoutBound, someWithoutBound, lowestWithoutBound, Upper, IsLub, Joined, AllJoined, FirstPair, FirstWithoutBound}
 use Rattle.order.proofs.Closure.{Agree}
 
 module _ (n : ℕ) (ge : Relation) (s : ℕ → Bool) where
@@ -127,11 +127,8 @@ module _ (n : ℕ) (ge : Relation) where
     },
   )
 
-  pub some-without : ℕ → Bool
-  some-without a = ltb 0 (partnerWithoutBound n ge a)
-
   pub lowest-without-none : PartialOrder n ge → (lowestWithoutBound n ge ≡ 0) ↔ AllJoined n ge
-  unfolding lowestWithoutBound some-without
+  unfolding lowestWithoutBound
   lowest-without-none o = (
     λ q a b v w. elim (decLt a b) [
       | yes l ↦ rising q a b v w l
@@ -140,17 +137,17 @@ module _ (n : ℕ) (ge : Relation) where
         | no m ↦ let i : a ≡ b = omega arith in rw (← i) (joined-self o a v)
       ]
     ],
-    λ h. first-none some-without n .1 (λ a v. le-ltb 0 (partnerWithoutBound n ge a) (omega (arith, partnerWithoutBound-none a .1 (λ b w l. h a b v w)))),
+    λ h. first-none (someWithoutBound n ge) n .1 (λ a v. le-ltb 0 (partnerWithoutBound n ge a) (omega (arith, partnerWithoutBound-none a .1 (λ b w l. h a b v w)))),
   )
     where
-      rising : first n some-without ≡ 0 → (a b : ℕ) → Among n a → Among n b → a < b → Joined n ge a b
-      rising q a b v w l = partnerWithoutBound-none a .0 (omega (arith, ltb-false 0 (partnerWithoutBound n ge a) (first-none some-without n .0 q a v))) b w l
+      rising : first n (someWithoutBound n ge) ≡ 0 → (a b : ℕ) → Among n a → Among n b → a < b → Joined n ge a b
+      rising q a b v w l = partnerWithoutBound-none a .0 (omega (arith, ltb-false 0 (partnerWithoutBound n ge a) (first-none (someWithoutBound n ge) n .0 q a v))) b w l
 
   pub lowest-without-first : (a : ℕ) → 1 ≤ a → lowestWithoutBound n ge ≡ a → FirstPair n ge a (partnerWithoutBound n ge a)
-  unfolding lowestWithoutBound partnerWithoutBound some-without
-  lowest-without-first a l q = go (first-lowest some-without n a l .0 q)
+  unfolding lowestWithoutBound partnerWithoutBound
+  lowest-without-first a l q = go (first-lowest (someWithoutBound n ge) n a l .0 q)
     where
-      pairs : Lowest n some-without a → Lowest n (withoutBound n ge a) (partnerWithoutBound n ge a) → FirstPair n ge a (partnerWithoutBound n ge a)
+      pairs : Lowest n (someWithoutBound n ge) a → Lowest n (withoutBound n ge a) (partnerWithoutBound n ge a) → FirstPair n ge a (partnerWithoutBound n ge a)
       pairs low h = record {
         lower = low .inside;
         higher = h .inside;
@@ -160,7 +157,7 @@ module _ (n : ℕ) (ge : Relation) where
         sooner = λ y w k m. together a y k (h .lower y w m);
       }
 
-      go : Lowest n some-without a → FirstPair n ge a (partnerWithoutBound n ge a)
+      go : Lowest n (someWithoutBound n ge) a → FirstPair n ge a (partnerWithoutBound n ge a)
       go low = pairs low (first-lowest (withoutBound n ge a) n (partnerWithoutBound n ge a) (ltb-true 0 (partnerWithoutBound n ge a) (low .holds)) .0 refl)
 
 -- ---- an order sees only its things
@@ -173,39 +170,29 @@ least-cut m n ge s t l h =
     rw (every-cut m n l s t (λ x. ge x c) h, h c w) (and-assoc (leb c m) (s c) (every m (λ x. implies (s x) (ge x c)))))
 
 module _ (n : ℕ) (f g : Relation) (h : Agree n n f g) where
-  implied : (s : ℕ → Bool) (p q : ℕ → Bool) → ((x : ℕ) → Among n x → p x ≡ q x) → every n (λ x. implies (s x) (p x)) ≡ every n (λ x. implies (s x) (q x))
-  implied s p q e = every-agree (λ x. implies (s x) (p x)) (λ x. implies (s x) (q x)) n (λ x w. rw (e x w))
-
-  pub lub-agree : (s : ℕ → Bool) → lub n f s ≡ lub n g s
+  -- one order, and one set, by two names
+  pub lub-agree : (s t : ℕ → Bool) → ((x : ℕ) → Among n x → s x ≡ t x) → lub n f s ≡ lub n g t
   unfolding lub least isLeast upper
-  lub-agree s =
-      first-agree (isLeast n f (upper n f s)) (isLeast n g (upper n g s)) n (λ c w.
+  lub-agree s t e =
+      first-agree (isLeast n f (upper n f s)) (isLeast n g (upper n g t)) n (λ c w.
       rw (
-        implied s (f c) (g c) (λ x v. h c x w v),
-        every-agree (λ x. implies (upper n f s x) (f x c)) (λ x. implies (upper n g s x) (g x c)) n
-            (λ x v. rw (implied s (f x) (g x) (λ y u. h x y v u), h x c v w)),
+        bounds c w,
+        every-agree (λ x. implies (upper n f s x) (f x c)) (λ x. implies (upper n g t x) (g x c)) n (λ x v. rw (bounds x v, h x c v w)),
       ))
+    where
+      bounds : (c : ℕ) → Among n c → every n (λ x. implies (s x) (f c x)) ≡ every n (λ x. implies (t x) (g c x))
+      bounds c w = every-agree (λ x. implies (s x) (f c x)) (λ x. implies (t x) (g c x)) n (λ x v. rw (e x v, h c x w v))
 
   partnerWithoutBound-agree : (a : ℕ) → partnerWithoutBound n f a ≡ partnerWithoutBound n g a
   unfolding partnerWithoutBound withoutBound
-  partnerWithoutBound-agree a = first-agree (withoutBound n f a) (withoutBound n g a) n (λ b w. rw (lub-agree (pair a b)))
+  partnerWithoutBound-agree a = first-agree (withoutBound n f a) (withoutBound n g a) n (λ b w. rw (lub-agree (pair a b) (pair a b) (λ x v. refl)))
 
   lowest-without-agree : lowestWithoutBound n f ≡ lowestWithoutBound n g
   unfolding lowestWithoutBound
-  lowest-without-agree = first-agree (λ a. ltb 0 (partnerWithoutBound n f a)) (λ a. ltb 0 (partnerWithoutBound n g a)) n (λ a w. rw (partnerWithoutBound-agree a))
+  lowest-without-agree = first-agree (someWithoutBound n f) (someWithoutBound n g) n (λ a w. rw (partnerWithoutBound-agree a))
 
   pub first-without-agree : (a b : ℕ) → FirstWithoutBound n f a b → FirstWithoutBound n g a b
   first-without-agree a b h = record { lower = h .lower ∙ lowest-without-agree; higher = rw (← (partnerWithoutBound-agree a)) (h .higher) }
-
--- and of a set only which things are in it
-pub lub-same-set : (n : ℕ) (ge : Relation) (s t : ℕ → Bool) → ((x : ℕ) → Among n x → s x ≡ t x) → lub n ge s ≡ lub n ge t
-unfolding lub least isLeast upper
-lub-same-set n ge s t h =
-    first-agree (isLeast n ge (upper n ge s)) (isLeast n ge (upper n ge t)) n (λ c w.
-    rw (bounds c, every-agree (λ x. implies (upper n ge s x) (ge x c)) (λ x. implies (upper n ge t x) (ge x c)) n (λ x v. rw (bounds x))))
-  where
-    bounds : (c : ℕ) → every n (λ x. implies (s x) (ge c x)) ≡ every n (λ x. implies (t x) (ge c x))
-    bounds c = every-agree (λ x. implies (s x) (ge c x)) (λ x. implies (t x) (ge c x)) n (λ x w. rw (h x w))
 
 pub lub-within : (n : ℕ) (ge : Relation) (s : ℕ → Bool) → lub n ge s ≤ n
 unfolding lub least
@@ -214,22 +201,18 @@ lub-within n ge s = first-within (isLeast n ge (upper n ge s)) n
 -- what a search answers that tries the things in turn
 module _ (n : ℕ) (ge : Relation) where
   abbrev pub NoneWithout : ℕ → Type 0
-  NoneWithout i = first i (some-without n ge) ≡ 0
-
-  pub none-without-yet : NoneWithout 0
-  none-without-yet = first-yet (some-without n ge)
+  NoneWithout i = first i (someWithoutBound n ge) ≡ 0
 
   pub none-without-more : (i h : ℕ) → NoneWithout i → h ≡ partnerWithoutBound n ge (i + 1) → h ≤ 0 → NoneWithout (i + 1)
-  unfolding some-without
-  none-without-more i h none e z = first-more (some-without n ge) i none (le-ltb 0 (partnerWithoutBound n ge (i + 1)) (omega arith))
+  none-without-more i h none e z = first-more (someWithoutBound n ge) i none (le-ltb 0 (partnerWithoutBound n ge (i + 1)) (omega arith))
 
   pub without-found : (i h : ℕ) → i < n → NoneWithout i → h ≡ partnerWithoutBound n ge (i + 1) → 0 < h → FirstWithoutBound n ge (i + 1) h
-  unfolding lowestWithoutBound some-without
+  unfolding lowestWithoutBound
   without-found i h l none e p = record {
-    lower = first-found (some-without n ge) n i l none (lt-ltb 0 (partnerWithoutBound n ge (i + 1)) (omega arith));
+    lower = first-found (someWithoutBound n ge) n i l none (lt-ltb 0 (partnerWithoutBound n ge (i + 1)) (omega arith));
     higher = rw (lt-ltb 0 (i + 1) (omega arith)) e;
   }
 
   pub none-without : NoneWithout n → FirstWithoutBound n ge 0 0
-  unfolding lowestWithoutBound some-without
+  unfolding lowestWithoutBound
   none-without none = record { lower = sym none; higher = refl }

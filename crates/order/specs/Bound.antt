@@ -43,8 +43,12 @@ withoutBound n ge a b = ltb a b && eqb (lub n ge (pair a b)) 0
 unfoldable pub partnerWithoutBound : ℕ → Relation → ℕ → ℕ
 partnerWithoutBound n ge a = first n (withoutBound n ge a)
 
+-- a has no least upper bound with some thing after it
+abbrev pub someWithoutBound : ℕ → Relation → ℕ → Bool
+someWithoutBound n ge a = ltb 0 (partnerWithoutBound n ge a)
+
 unfoldable pub lowestWithoutBound : ℕ → Relation → ℕ
-lowestWithoutBound n ge = first n (λ a. ltb 0 (partnerWithoutBound n ge a))
+lowestWithoutBound n ge = first n (someWithoutBound n ge)
 
 -- what a search for the first pair answers: its lower and its higher thing, or 0 and 0
 pub record FirstWithoutBound (n : ℕ) (ge : Relation) (a b : ℕ) : Type 0 where

@@ -15,7 +15,8 @@ use Rattle.roleset.specs.Row.{rowOf, whole, member, united, Placed}
 use Rattle.roleset.proofs.Rows.{whole-true}
 use Rattle.order.specs.Closure.{Relation}
 use Rattle.order.specs.Bound.{lub}
-use Rattle.order.proofs.Bound.{lub-same-set}
+use Rattle.order.proofs.Closure.{Agree}
+use Rattle.order.proofs.Bound.{lub-agree}
 use Rattle.policy.specs.Policy.{levelAt, level, levelNumber}
 use Rattle.policy.specs.Tables.{byteOf, cardLabelsAt, gathered}
 use Rattle.policy.proofs.Relating.{others-stay}
@@ -69,6 +70,7 @@ module _ (n : ℕ) (ge : Relation) (s : ℕ → Bool) where
   level-bound zero e q ne = absurd (ne refl)
   level-bound (suc b) e q ne = bounded (suc b) e q
 
-pub level-same-set : (n : ℕ) (ge : Relation) (s t : ℕ → Bool) → ((l : ℕ) → Among n l → s l ≡ t l) → level n ge s ≡ level n ge t
+-- one order, and one set, by two names
+pub level-agree : (n : ℕ) (ge le : Relation) (s t : ℕ → Bool) → Agree n n ge le → ((l : ℕ) → Among n l → s l ≡ t l) → level n ge s ≡ level n le t
 unfolding level
-level-same-set n ge s t h = rw (some-agree s t n h, lub-same-set n ge s t h)
+level-agree n ge le s t order set = rw (some-agree s t n set, lub-agree n ge le order s t set)

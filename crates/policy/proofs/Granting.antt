@@ -19,7 +19,6 @@ use Rattle.order.specs.Closure.{Relation}
 use Rattle.order.specs.Bound.{converse}
 use Rattle.order.specs.Table.{mark}
 use Rattle.order.proofs.Closure.{Agree}
-use Rattle.order.proofs.Bound.{lub-agree}
 use Rattle.rolefile.specs.declared.Line.{Line}
 use Rattle.rolefile.specs.Line.{P}
 use Rattle.rolefile.specs.Form.{header}
@@ -36,7 +35,7 @@ use Rattle.policy.specs.Stages.{Ready, Zeros, Closed, Granting}
 use Rattle.policy.proofs.Readying.{good-of, counts-of, section-p, one-within, limits-p}
 use Rattle.policy.proofs.Inside.{Between, closure-between, above-between}
 use Rattle.policy.proofs.Builds.{seniors-stay, permitting-stays}
-use Rattle.policy.proofs.Gathering.{level-empty, level-same-set}
+use Rattle.policy.proofs.Gathering.{level-empty, level-agree}
 
 -- ---- permissions
 
@@ -117,10 +116,6 @@ may-at-is f xs few label d at allows l r w =
     (cards f) (λ o v.
     let u : Among 512 o = omega arith in
     rw (label o u, allows o r u w) (and-comm (eqb (cardLabel f o) l) (may f d r o)))
-
-level-agree : (n : ℕ) (ge le : Relation) (s t : ℕ → Bool) → Agree n n ge le → ((l : ℕ) → Among n l → s l ≡ t l) → level n ge s ≡ level n le t
-unfolding level
-level-agree n ge le s t order set = level-same-set n ge s t set ∙ rw (lub-agree n ge le order t)
 
 -- a number past the roles is no role's, and so may do nothing
 module _ (f : List ℕ) (between : Between (roles f) (above f)) (r : ℕ) (past : roles f < r) where

@@ -6,9 +6,10 @@ use mathlib.Core.List.{List}
 use native.Mathlib.Omega.{arith}
 use borrow.Author.Needs.{needs}
 use Rattle.search.specs.Search.{Among}
+use Rattle.search.proofs.Found.{first-yet}
 use Rattle.order.specs.Bound.{converse, FirstWithoutBound}
 use Rattle.order.specs.Table.{mark}
-use Rattle.order.proofs.Bound.{NoneWithout, none-without-yet, none-without-more, without-found, none-without, first-without-agree}
+use Rattle.order.proofs.Bound.{NoneWithout, none-without-more, without-found, none-without, first-without-agree}
 use Rattle.order.proofs.bounds.first_pair.Statement.{statement}
 use Rattle.order.proofs.bounds.first_pair.Tie as tie
 
@@ -54,7 +55,7 @@ first-pair-spec =
     μ-loop
     (λ c κs. search needs)
     (λ c κs. search needs)
-    (λ c. (search needs, search needs, none-without-yet _ _))
+    (λ c. (search needs, search needs, first-yet _))
     (λ c κs. search needs)
     (λ c. search needs)
     returns

@@ -1,6 +1,6 @@
 -- Each turn stores the level of one role more.
 use Prim.Native.Nat.{_+_, _≤_, _-_}
-use mathlib.Core.Path.{ap, _∙_}
+use mathlib.Core.Path.{refl, ap, _∙_}
 use native.Mathlib.Omega.{arith}
 use borrow.Author.Needs.{needs}
 use denote.Ref.{now}
@@ -10,7 +10,7 @@ use Rattle.order.specs.Bound.{converse}
 use Rattle.order.specs.Table.{mark}
 use Rattle.policy.specs.Policy.{level, levelNumber}
 use Rattle.policy.proofs.Noted.{all-stored}
-use Rattle.policy.proofs.Gathering.{level-same-set}
+use Rattle.policy.proofs.Gathering.{level-agree}
 use Rattle.policy.proofs.gather.put_levels.Statement.{statement}
 use Rattle.policy.proofs.gather.put_levels.Tie as tie
 
@@ -28,7 +28,7 @@ loop-again c =
       search needs,
       write-more (w .inv .1) (search needs)
           (c .level-of .ensures
-          ∙ ap levelNumber (level-same-set _ (converse (mark (now t))) _ _ (λ l v. c .before .before .labels-of .ensures l (omega arith)))),
+          ∙ ap levelNumber (level-agree _ (converse (mark (now t))) _ _ _ (λ a b v w. refl) (λ l v. c .before .before .labels-of .ensures l (omega arith)))),
     )
 
 returns : tie.Need-returns Inv-loop μ-loop
