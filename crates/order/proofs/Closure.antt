@@ -13,14 +13,14 @@ use Rattle.search.proofs.Truth.{or-iff, and-iff, untrue, both, false-iff}
 use Rattle.search.proofs.Found.{last-or, first-none, first-agree}
 use Rattle.order.specs.Table.{Rows}
 use Rattle.order.specs.Bound.{converse}
-use Rattle.order.specs.Closure.{Relation, via, path, closure, circle, Reach, here, step, OnCircle, PartialOrder, Irreflexive, round}
+use Rattle.order.specs.Closure.{Relation, via, path, closure, circle, Reach, here, step, Onto, OnCircle, PartialOrder, Irreflexive, round}
 
 -- a path past one thing more: one that was there, or two that meet in it
 module _ (e : Relation) (k a b : ℕ) where
-  abbrev Ways : Type 0
+  abbrev pub Ways : Type 0
   Ways = (via e k a b ≡ true) ⊎ ((via e k a (suc k) ≡ true) × (via e k (suc k) b ≡ true))
 
-  ways : via e (suc k) a b ≡ true → Ways
+  pub ways : via e (suc k) a b ≡ true → Ways
   unfolding via
   ways h =
       ⊎-elim
@@ -74,11 +74,7 @@ module _ (e : Relation) where
     onward here s = s
     onward (step p w r) s = step p w (onward r s)
 
-    -- c is reached from a by one step or more, the first of them to b
-    abbrev Onto : ℕ → ℕ → Type 0
-    Onto a c = (b : ℕ) × Among n b × (e a b ≡ true) × Reach n e b c
-
-    sound : (k a b : ℕ) → k ≤ n → Among n b → via e k a b ≡ true → Onto a b
+    sound : (k a b : ℕ) → k ≤ n → Among n b → via e k a b ≡ true → Onto n e a b
     unfolding via
     sound zero a b l w p = (b, w, p, here)
     sound (suc k) a b l w p =
@@ -94,13 +90,16 @@ module _ (e : Relation) where
     complete {a} {b} p w here = single n a b p
     complete {a} {b} {c} p w (step q v r) = meeting n a b c w (single n a b p) (complete q v r)
 
-    path-iff : (a c : ℕ) → Among n c → (path n e a c ≡ true) ↔ Onto a c
+    pub path-iff : (a c : ℕ) → Among n c → (path n e a c ≡ true) ↔ Onto n e a c
     path-iff a c w = (sound n a c (omega arith) w, λ (b, v, p, r). complete p v r)
+
+    pub same-or-path : (a b : ℕ) → closure n e a b ≡ true → (a ≡ b) ⊎ (path n e a b ≡ true)
+    same-or-path a b h = ⊎-elim (λ q. inl (eqb-true a b q)) (λ q. inr q) (or-iff (eqb a b) (path n e a b) .0 h)
 
     -- the closure is what steps reach
     pub closure-iff : (a b : ℕ) → Among n b → (closure n e a b ≡ true) ↔ Reach n e a b
     closure-iff a b w = (
-      λ h. ⊎-elim (λ q. rw (eqb-true a b q) here) (λ q. let (m, v, p, r) = path-iff a b w .0 q in step p v r) (or-iff (eqb a b) (path n e a b) .0 h),
+      λ h. ⊎-elim (λ q. rw q here) (λ q. let (m, v, p, r) = path-iff a b w .0 q in step p v r) (same-or-path a b h),
       λ r. of r w,
     )
       where
@@ -108,11 +107,8 @@ module _ (e : Relation) where
         of (here {a}) w = or-iff (eqb a a) (path n e a a) .1 (inl (eq-eqb a a refl))
         of (step {a} {b} {c} p v r) w = or-iff (eqb a c) (path n e a c) .1 (inr (complete p v r))
 
-    pub circle-finds : (a : ℕ) → Among n a → (path n e a a ≡ true) ↔ OnCircle n e a
-    circle-finds a w = path-iff a a w
-
     pub circle-misses : (a : ℕ) → Among n a → (path n e a a ≡ false) ↔ (OnCircle n e a → ⊥)
-    circle-misses a w = false-iff (circle-finds a w)
+    circle-misses a w = false-iff (path-iff a a w)
 
     closure-reflexive : (a : ℕ) → Among n a → closure n e a a ≡ true
     closure-reflexive a w = closure-iff a a w .1 here
@@ -122,9 +118,6 @@ module _ (e : Relation) where
 
     closure-step : (a b : ℕ) → Among n b → e a b ≡ true → closure n e a b ≡ true
     closure-step a b w p = closure-iff a b w .1 (step p w here)
-
-    same-or-path : (a b : ℕ) → closure n e a b ≡ true → (a ≡ b) ⊎ (path n e a b ≡ true)
-    same-or-path a b h = ⊎-elim (λ q. inl (eqb-true a b q)) (λ q. inr q) (or-iff (eqb a b) (path n e a b) .0 h)
 
     -- a partial order is a closure without a circle
     pub circle-none : (circle n e ≡ 0) ↔ (PartialOrder n (closure n e) × Irreflexive n e)

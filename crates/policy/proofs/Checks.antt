@@ -10,7 +10,7 @@ use lib.Dec.{eqb}
 use Rattle.search.proofs.Truth.{eqb-iff, either}
 use Rattle.order.specs.Closure.{Relation, path, closure, circle, PartialOrder}
 use Rattle.order.specs.Bound.{converse, lowestWithoutBound, partnerWithoutBound, AllJoined, FirstPair}
-use Rattle.order.proofs.Closure.{circle-finds, circle-misses, circle-none}
+use Rattle.order.proofs.Closure.{path-iff, circle-misses, circle-none}
 use Rattle.order.proofs.Bound.{lowest-without-none, lowest-without-first}
 use Rattle.rolefile.specs.declared.Verdict.{Verdict}
 use Rattle.rolefile.specs.Line.{A, lineAt}
@@ -36,7 +36,7 @@ circle-decides n e number =
       λ z. let (o, i) = circle-none e n .0 z in record { order = o; strict = i },
       λ g. circle-none e n .1 (g .order, g .strict),
     )
-    (circle-finds e n) (circle-misses e n)
+    (λ a. path-iff e n a a) (circle-misses e n)
     (λ a. refusal (suc number) a 0) (λ a. omega arith)
 
 -- ---- 12

@@ -10,7 +10,8 @@ use borrow.Author.Tests.{eqb-true}
 use Rattle.search.specs.Search.{Among}
 use Rattle.search.proofs.Truth.{or-iff, and-iff, both, either-by}
 use Rattle.search.proofs.Found.{some-iff, last-or}
-use Rattle.order.specs.Closure.{Relation, via, path, closure}
+use Rattle.order.specs.Closure.{Relation, via, closure}
+use Rattle.order.proofs.Closure.{ways, same-or-path}
 use Rattle.rolefile.specs.Line.{H, D, S, O, A, lineAt, lines}
 use Rattle.rolefile.specs.Form.{header, firstLimit, secondLimit, about}
 use Rattle.rolefile.specs.Said.{labels, roles, users, is, says, over, above, assigned, last, labelBy, cardLabel}
@@ -26,16 +27,11 @@ module _ (n : ℕ) (e : Relation) (between : Between n e) where
   unfolding via
   path-between zero a b h = between a b h
   path-between (suc k) a b h =
-      ⊎-elim
-      (path-between k a b)
-      (λ q.
-      let (l, r) = and-iff (via e k a (suc k)) (via e k (suc k) b) .0 q in
-      (path-between k a (suc k) l .0, path-between k (suc k) b r .1))
-      (or-iff (via e k a b) (via e k a (suc k) && via e k (suc k) b) .0 h)
+      ⊎-elim (path-between k a b) (λ (l, r). (path-between k a (suc k) l .0, path-between k (suc k) b r .1)) (ways e k a b h)
 
   -- what is none of them is closed with itself alone
   pub closure-between : (a b : ℕ) → closure n e a b ≡ true → (a ≡ b) ⊎ (Among n a × Among n b)
-  closure-between a b h = ⊎-elim (λ q. inl (eqb-true a b q)) (λ q. inr (path-between n a b q)) (or-iff (eqb a b) (path n e a b) .0 h)
+  closure-between a b h = ⊎-elim inl (λ q. inr (path-between n a b q)) (same-or-path e n a b h)
 
 -- what holds of the value at each that is so holds of the last one's
 last-of : (n : ℕ) (p : ℕ → Bool) (v : ℕ → ℕ) (Q : ℕ → Type 0) → ((i : ℕ) → Among n i → p i ≡ true → Q (v i))

@@ -12,7 +12,7 @@ use Rattle.search.specs.Search.{Among}
 use Rattle.search.proofs.Found.{some-agree, first-none, first-lowest-of}
 use Rattle.roleset.specs.Row.{member, rowOf}
 use Rattle.order.specs.Closure.{path, OnCircle}
-use Rattle.order.proofs.Closure.{circle-finds, circle-misses, circle-agree}
+use Rattle.order.proofs.Closure.{path-iff, circle-misses, circle-agree}
 use Rattle.rolefile.specs.Form.{header}
 use Rattle.rolefile.specs.Said.{labels, roles, cards}
 use Rattle.rolefile.specs.WellFormed.{GoodCounts, WellFormed}
@@ -78,7 +78,7 @@ module _ (f : List ℕ) where
   pub flow-circle-iff : (a : ℕ) → 1 ≤ a → (flowCircle f ≡ a) ↔ LowestOnCircle (roles f) (flows f) a
   unfolding flowCircle
   flow-circle-iff =
-      first-lowest-of (λ a. path (roles f) (flows f) a a) (roles f) (circle-finds (flows f) (roles f)) (circle-misses (flows f) (roles f))
+      first-lowest-of (λ a. path (roles f) (flows f) a a) (roles f) (λ a. path-iff (flows f) (roles f) a a) (circle-misses (flows f) (roles f))
 
   pub no-circle-iff : (flowCircle f ≡ 0) ↔ ((a : ℕ) → Among (roles f) a → OnCircle (roles f) (flows f) a → ⊥)
   unfolding flowCircle
