@@ -11,7 +11,7 @@ use native.Mathlib.Decide.{decLt}
 use lib.Count.{under, trailingZeros}
 use lib.Dec.{eqb, eqb·zero-suc, eqb·suc-zero, eqb·suc-suc}
 use lib.Pow.{pow-pos, shl-exact, shr-shr, field, mod-mod-pow}
-use lib.Bits.{bitAnd, bitOr, bitXor, and-shr, and-mod, and-lt, and-le-l, and-le-r, or-shr, or-mod, or-add-and, xor-shr, xor-mod}
+use lib.Bits.{bitAnd, bitOr, bitXor, and-block, and-shr, and-mod, and-lt, and-le-l, and-le-r, or-shr, or-mod, or-add-and, xor-shr, xor-mod}
 use borrow.Author.Tests.{eqb-true, eq-eqb}
 use Rattle.roleset.specs.Row.{bit, littleEndian}
 
@@ -126,12 +126,8 @@ or-none x y =
 -- `&` of two numbers whose lowest bytes are x and y
 and-low : (x y u v : ℕ) → x < 256 → y < 256 → bitAnd (x + 256 * u) (y + 256 * v) ≡ bitAnd x y + 256 * bitAnd u v
 and-low x y u v l m =
-    let x-low : (x + 256 * u) % 256 ≡ x = omega arith in
-    let y-low : (y + 256 * v) % 256 ≡ y = omega arith in
-    let x-high : (x + 256 * u) / 256 ≡ u = omega arith in
-    let y-high : (y + 256 * v) / 256 ≡ v = omega arith in
-    let low = and-mod (x + 256 * u) (y + 256 * v) 8 ∙ ap₂ bitAnd x-low y-low in
-    let high = and-shr (x + 256 * u) (y + 256 * v) 8 ∙ ap₂ bitAnd x-high y-high in
+    let turned : (x u : ℕ) → x + 256 * u ≡ u * 256 + x = λ x u. omega arith in
+    let split = ap₂ bitAnd (turned x u) (turned y v) ∙ and-block 8 u v x y l m in
     omega arith
 
 -- two numbers share no bit where no byte of one shares a bit with that of the other
