@@ -1,7 +1,7 @@
 -- Each accepted file has a state that a load of it may leave, so that no claim about such states is empty: its bytes are written down, table by table. Assumes nothing.
 use Prim.Native.Nat.{ℕ, zero, suc, _+_, _*_, _-_, _/_, _%_, _^_, _≤_, _<_}
 use mathlib.Core.Path.{_≡_, refl, sym, ap, _∙_}
-use mathlib.Core.List.{List, [], _∷_}
+use mathlib.Core.List.{List, _∷_}
 use mathlib.Core.Bool.{Bool, false, _&&_, cond}
 use native.Mathlib.Omega.{arith}
 use native.Mathlib.Decide.{ℕ-discrete, decLt}
@@ -11,7 +11,7 @@ use lib.ListN.{length, getD, replicate, List·getD-eq-default}
 use borrow.Author.Tests.{le-leb, lt-leb, eq-eqb, ne-eqb}
 use Rattle.search.specs.Search.{Among}
 use Rattle.search.proofs.Truth.{among-iff, either, either-by}
-use Rattle.roleset.specs.Row.{rowOf, bit, member}
+use Rattle.roleset.specs.Row.{rowOf, bit, member, roleByte, roleBit}
 use Rattle.roleset.proofs.Bits.{bit-zero, bit-on}
 use Rattle.rolefile.specs.Form.{fine}
 use Rattle.rolefile.specs.Said.{labels, roles, users, cards, clearance, cardLabel, assigned}
@@ -200,11 +200,11 @@ module _ (f : List ℕ) where
       → (x r : ℕ) → Among size x → Among 128 r → member state (rowOf start x) r ≡ said x r
   unfolding member rows
   member-row start size said fits told x r v w =
-      let i = rowOf start x + (r - 1) / 8 in
+      let i = rowOf start x + roleByte r in
       let row : (i - start) / 16 + 1 ≡ x = omega arith in
-      let role : 8 * ((i - start) % 16) + (r - 1) % 8 + 1 ≡ r = omega arith in
-      rw (among-iff 128 r .1 w, at i (omega arith), told i (omega arith) (omega arith), low-bit (λ j. said ((i - start) / 16 + 1) (8 * ((i - start) % 16) + j + 1)) 8 (omega arith) ((r - 1) % 8) (omega arith))
-      (ap (λ (y : ℕ). said y (8 * ((i - start) % 16) + (r - 1) % 8 + 1)) row ∙ ap (said x) role)
+      let role : 8 * ((i - start) % 16) + roleBit r + 1 ≡ r = omega arith in
+      rw (among-iff 128 r .1 w, at i (omega arith), told i (omega arith) (omega arith), low-bit (λ j. said ((i - start) / 16 + 1) (8 * ((i - start) % 16) + j + 1)) 8 (omega arith) (roleBit r) (omega arith))
+      (ap (λ (y : ℕ). said y (8 * ((i - start) % 16) + roleBit r + 1)) row ∙ ap (said x) role)
 
   word-of : (i n : ℕ) → i + 1 < 8 → counts i ≡ n % 256 → counts (i + 1) ≡ n / 256 → getD state i 0 + 256 * getD state (i + 1) 0 ≡ n
   word-of i n l low high = rw (count i (omega arith), count (i + 1) l, low, high) (omega arith)

@@ -1,5 +1,5 @@
 -- A row with one role more, or one less, is the row with one byte changed: `Placed` leaves no other choice. Assumes nothing.
-use Prim.Native.Nat.{ℕ, _+_, _-_, _/_, _%_, _^_, _≤_, _<_}
+use Prim.Native.Nat.{ℕ, _+_, _^_, _≤_, _<_}
 use mathlib.Core.Path.{_≡_, refl, sym}
 use mathlib.Core.Bool.{Bool, true, false, cond, or-false, and-true, and-false}
 use mathlib.Core.List.{List}
@@ -11,7 +11,7 @@ use lib.ListN.{length, getD, set, length-set}
 use lib.Seq.{getD-set-same, getD-set-other}
 use Rattle.search.specs.Search.{among, Among}
 use Rattle.search.proofs.Truth.{either, either-by}
-use Rattle.roleset.specs.Row.{member, Placed, added, removed}
+use Rattle.roleset.specs.Row.{member, Placed, added, removed, roleByte, roleBit}
 use Rattle.roleset.proofs.Bits.{shifted}
 use Rattle.roleset.proofs.Rows.{added-placed, removed-placed, placed-once, unwritten}
 use Rattle.monitor.specs.Session.{heldAt}
@@ -23,10 +23,10 @@ shifted-byte k l = rw (← shifted k l) (omega arith)
 -- the row with the byte of role r written
 module _ (xs : List ℕ) (at r : ℕ) (fits : at + 16 ≤ length xs) (w : Among 128 r) where
   abbrev i : ℕ
-  i = at + (r - 1) / 8
+  i = at + roleByte r
 
   abbrev k : ℕ
-  k = (r - 1) % 8
+  k = roleBit r
 
   small : k < 8
   small = omega arith

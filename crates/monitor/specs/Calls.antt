@@ -1,6 +1,6 @@
 -- What each session call answers and leaves, in the order of "Who can cause which number": "Other calls check in order of number, each as far
 -- as it applies to that call". Assumes nothing.
-use Prim.Native.Nat.{ℕ, zero, suc, _+_, _*_, _-_, _/_, _%_, _^_}
+use Prim.Native.Nat.{ℕ, zero, suc, _+_, _*_, _-_, _^_}
 use mathlib.Core.Path.{_≡_}
 use mathlib.Core.List.{List, [], _∷_, _++_}
 use mathlib.Core.Bool.{Bool, not, cond}
@@ -9,7 +9,7 @@ use lib.Bits.{bitOr, bitXor}
 use lib.Dec.{leb}
 use lib.ListN.{length, getD, set, take, drop, replicate}
 use Rattle.search.specs.Search.{among}
-use Rattle.roleset.specs.Row.{member}
+use Rattle.roleset.specs.Row.{roleByte, roleBit, member}
 use Rattle.policy.specs.Tables.{readersAt, writersAt, flowsIn, circleIn}
 use Rattle.monitor.specs.Session.{sound, labelsIn, rolesIn, usersIn, cardsIn, placeAt, heldAt, inUse, userAt, labelAt, cleared, entitled, fitting, gives}
 
@@ -84,18 +84,15 @@ takeNumber xs p r =
 unfoldable pub dropNumber : List ℕ → ℕ → ℕ → ℕ
 dropNumber xs p r = atSession xs p (unless (among (rolesIn xs) r) 25 0)
 
--- the byte of the held roles in which role r has its bit, and that bit
+-- the byte of the held roles in which role r has its bit
 abbrev pub roleAt : ℕ → ℕ → ℕ
-roleAt p r = heldAt p + (r - 1) / 8
-
-abbrev pub roleBit : ℕ → ℕ
-roleBit r = 2 ^ ((r - 1) % 8)
+roleAt p r = heldAt p + roleByte r
 
 unfoldable pub taken : List ℕ → ℕ → ℕ → List ℕ
-taken xs p r = set xs (roleAt p r) (bitOr (getD xs (roleAt p r) 0) (roleBit r))
+taken xs p r = set xs (roleAt p r) (bitOr (getD xs (roleAt p r) 0) (2 ^ roleBit r))
 
 unfoldable pub dropped : List ℕ → ℕ → ℕ → List ℕ
-dropped xs p r = cond (member xs (heldAt p) r) (set xs (roleAt p r) (bitXor (getD xs (roleAt p r) 0) (roleBit r))) xs
+dropped xs p r = cond (member xs (heldAt p) r) (set xs (roleAt p r) (bitXor (getD xs (roleAt p r) 0) (2 ^ roleBit r))) xs
 
 abbrev pub takeState : List ℕ → ℕ → ℕ → List ℕ
 takeState xs p r = ifDone (takeNumber xs p r) (taken xs p r) xs

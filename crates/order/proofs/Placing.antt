@@ -1,7 +1,7 @@
 -- A table of role sets in a list of bytes, changed row by row from the front: what a turn does, and what the table is at the end. Assumes nothing.
 use Prim.Native.Nat.{ℕ, _+_, _*_, _-_, _≤_, _<_}
 use mathlib.Core.Path.{_≡_, refl, _∙_}
-use mathlib.Core.Logic.{inl, inr}
+use mathlib.Core.Logic.{inr}
 use mathlib.Core.Bool.{Bool, false, _&&_, or-comm}
 use mathlib.Core.List.{List}
 use native.Mathlib.Nat.{add-sub-cancel}
@@ -12,8 +12,8 @@ use lib.Dec.{eqb, leb}
 use borrow.Author.Tests.{leb-false}
 use Rattle.search.specs.Search.{Among}
 use Rattle.search.proofs.Truth.{among-iff, eqb-swap}
-use Rattle.roleset.specs.Row.{whole, member, added, unitedWhere, Placed, PlacedRows}
-use Rattle.roleset.proofs.Rows.{row-kept, whole-true}
+use Rattle.roleset.specs.Row.{rowOf, whole, member, added, unitedWhere, Placed, PlacedRows}
+use Rattle.roleset.proofs.Rows.{row-kept, rows-apart, whole-true}
 use Rattle.order.specs.Closure.{Relation, via, round, reflexive}
 use Rattle.order.specs.Table.{related, Tabled}
 use Rattle.order.proofs.Closure.{RowSet, rows-none, rows-more, rounds-none, rounds-more}
@@ -41,7 +41,7 @@ module _ (at : ℕ) (h : Relation) (xs : List ℕ) (fits : at + 2048 ≤ length 
       row = record {
         own = λ b w. rw (add-sub-cancel i 1) (p .row (omega arith) b ∙ new b w);
         others = λ a b v ne w.
-            row-kept ys zs (p .rest) (at + 16 * (a - 1)) b (elim (decLt (a - 1) i) [ yes k ↦ inl (omega arith) | no k ↦ inr (omega arith) ]);
+            row-kept ys zs (p .rest) (rowOf at a) b (rw (add-sub-cancel i 1) at (rows-apart at (i + 1) a (omega arith) (v .0) ne));
       }
 
   -- rows that are as h says already need no turn

@@ -12,7 +12,7 @@ use borrow.Author.Tests.{le-leb, lt-leb, leb-false, not-true, eq-eqb, ne-eqb}
 use Rattle.search.specs.Search.{Among, Lowest, some, first}
 use Rattle.search.proofs.Truth.{and-iff}
 use Rattle.search.proofs.Found.{first-agree, first-none, first-lowest, first-within}
-use Rattle.roleset.specs.Row.{rowOf, whole, member, removed, united, nextMember, Placed}
+use Rattle.roleset.specs.Row.{rowOf, whole, member, removed, united, memberAfter, nextMember, Placed}
 use Rattle.roleset.proofs.Rows.{whole-true}
 use Rattle.order.specs.Closure.{Relation, path, loop, circle}
 use Rattle.order.specs.Table.{related, Tabled}
@@ -82,8 +82,7 @@ module _ (h : Relation) (t u : List ℕ) (i : ℕ) (long : 2048 ≤ length t) (s
 pub next-taken : (xs row : List ℕ) (at i : ℕ) {w : ℕ} → at + 16 ≤ length xs → 16 ≤ length row
     → ((r : ℕ) → member row 0 r ≡ (whole xs at && member xs at r)) → w ≡ cond (whole row 0) (nextMember row 0 i) 0 → w ≡ nextMember xs at i
 next-taken xs row at i l m same e =
-    e ∙ rw (whole-true row 0 m) (first-agree (λ r. not (leb r i) && member row 0 r) (λ r. not (leb r i) && member xs at r) 128
-    (λ r w. rw (same r, whole-true xs at l)))
+    e ∙ rw (whole-true row 0 m) (first-agree (memberAfter row 0 i) (memberAfter xs at i) 128 (λ r w. rw (same r, whole-true xs at l)))
 
 -- card o + 1 is passed from one writer to the next: i is the last that has had its turn, and w the next one, or 0
 pub record Turn (t u xs : List ℕ) (o i w : ℕ) : Type 0 where
@@ -103,7 +102,7 @@ module _ {t u xs : List ℕ} {o i w : ℕ} (turn : Turn t u xs o i w) where
   Writes = member xs (writersAt + 16 * o)
 
   abbrev Later : ℕ → Bool
-  Later r = not (leb r i) && Writes r
+  Later = memberAfter xs (writersAt + 16 * o) i
 
   next-writer : first 128 Later ≡ w
   next-writer = sym (turn .next)

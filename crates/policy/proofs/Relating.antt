@@ -13,14 +13,10 @@ use Rattle.search.specs.Search.{among, Among}
 use Rattle.search.proofs.Truth.{and-iff, and-when, and-right, among-iff, false-iff, same}
 use Rattle.search.proofs.Found.{some-more}
 use Rattle.roleset.specs.Row.{member, rowOf, added, joined, Kept, Placed}
-use Rattle.roleset.proofs.Rows.{row-kept, whole-true}
+use Rattle.roleset.proofs.Rows.{row-kept, rows-apart, whole-true}
 use Rattle.order.specs.Closure.{Relation}
 use Rattle.rolefile.specs.Section.{one, two, three}
 use Rattle.policy.specs.Tables.{seniorsAt, readersAt, writersAt, pairs, grantedByLines, Related, GrantedRows, Unites}
-
--- two rows of one table do not overlap
-rows-apart : (at x y : ℕ) → 1 ≤ x → 1 ≤ y → (y ≡ x → ⊥) → (rowOf at y + 16 ≤ rowOf at x) ⊎ (rowOf at x + 16 ≤ rowOf at y)
-rows-apart at x y v w ne = elim (decLt y x) [ yes l ↦ inl (omega arith) | no l ↦ inr (omega arith) ]
 
 -- where one row of a table is placed, the others stay
 module _ (at size x : ℕ) (s : ℕ → Bool) (xs ys : List ℕ) (p : Placed (rowOf at x) s xs ys) (w : Among size x) where
@@ -137,7 +133,7 @@ module _ (role card mode : ℕ) (xs ys : List ℕ) (fits : 28688 ≤ length xs) 
   mode-rows d n o r u t = elim (ℕ-discrete mode d) [
     | yes e ↦ elim (ℕ-discrete card o) [
       | yes q ↦ rw (← e, ← q) (its-row r)
-      | no q ↦ other-row d o r (elim (decLt o card) [ yes l ↦ inl (omega arith) | no l ↦ inr (omega arith) ]) (rw (ne-eqb card o q))
+      | no q ↦ other-row d o r (rw e (rows-apart (modeAt d) card o (w .0) (u .0) (λ i. q (sym i)))) (rw (ne-eqb card o q))
     ]
     | no e ↦ other-row d o r (elim (decLt d mode) [ yes l ↦ inl (omega arith) | no l ↦ inr (omega arith) ]) (rw (ne-eqb mode d e, and-false (eqb card o)))
   ]

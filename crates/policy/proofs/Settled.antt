@@ -9,8 +9,7 @@ use lib.ListN.{getD}
 use lib.Seq.{ext-getD}
 use Rattle.search.specs.Search.{Among}
 use Rattle.roleset.specs.Row.{member, rowOf}
-use Rattle.roleset.proofs.Bits.{same-bits}
-use Rattle.roleset.proofs.Rows.{bit-member}
+use Rattle.roleset.proofs.Rows.{same-row}
 use Rattle.rolefile.specs.declared.Verdict.{Verdict}
 use Rattle.policy.specs.Tables.{dominanceAt, clearancesAt, cardLabelsAt, rLevelsAt, wLevelsAt, seniorsAt, assignedAt, readersAt, writersAt, markAt}
 use Rattle.policy.specs.Tables.{stateSize, word, byteOf}
@@ -56,10 +55,8 @@ module _ (ys zs : List ℕ) (ys-bytes : (i : ℕ) → getD ys i 0 < 256) (zs-byt
         let x = (i - at) / 16 + 1 in
         let k = (i - at) % 16 in
         let w : Among size x = omega arith in
-        moved i (rowOf at x + k) (omega arith) (same-bits 8 _ _ (ys-bytes (rowOf at x + k)) (zs-bytes (rowOf at x + k)) (λ j n.
-        let r = 8 * k + j + 1 in
-        let v : Among 128 r = omega arith in
-        bit-member ys (rowOf at x) k j (omega arith) n ∙ p x r w v ∙ sym (q x r w v) ∙ sym (bit-member zs (rowOf at x) k j (omega arith) n)));
+        moved i (rowOf at x + k) (omega arith)
+        (same-row zs ys (rowOf at x) (rowOf at x) zs-bytes ys-bytes (λ r v. p x r w v ∙ sym (q x r w v)) k (omega arith));
   }
 
   module _ (f : List ℕ) (p : Image f ys) (q : Image f zs) where

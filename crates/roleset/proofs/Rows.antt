@@ -1,6 +1,6 @@
 -- Rows as sets: what a row holds after its bytes are changed, and that `Placed` settles every byte and leaves the other rows alone.
 -- Assumes nothing.
-use Prim.Native.Nat.{ℕ, _+_, _-_, _*_, _/_, _%_, _^_, _≤_, _<_}
+use Prim.Native.Nat.{ℕ, _+_, _-_, _*_, _%_, _^_, _≤_, _<_}
 use mathlib.Core.Path.{_≡_, refl, sym, ap, _∙_}
 use mathlib.Core.Logic.{_⊎_, inl, inr, ⊎-elim}
 use mathlib.Core.Bool.{Bool, true, false, _&&_, cond, or-true, or-false, and-true, and-false}
@@ -15,18 +15,11 @@ use borrow.Author.Count.{below-more}
 use borrow.Author.Tests.{le-leb, eq-eqb, ne-eqb}
 use Rattle.search.specs.Search.{among, Among}
 use Rattle.search.proofs.Truth.{and-iff, and-when, among-iff, both}
-use Rattle.roleset.specs.Row.{bit, whole, member, added, removed, Kept, Placed, PlacedRows}
+use Rattle.roleset.specs.Row.{bit, rowOf, roleByte, roleBit, whole, member, added, removed, Kept, Placed, PlacedRows}
 use Rattle.roleset.proofs.Bits.{bit-zero, bit-on, bit-off, same-bits}
 
 pub whole-true : (xs : List ℕ) (at : ℕ) → at + 16 ≤ length xs → whole xs at ≡ true
 whole-true xs at = le-leb (at + 16) (length xs)
-
--- where role r stands in a row
-abbrev byteOf : ℕ → ℕ
-byteOf r = (r - 1) / 8
-
-abbrev bitOf : ℕ → ℕ
-bitOf r = (r - 1) % 8
 
 module _ (xs : List ℕ) (at : ℕ) where
   pub member-role : (r : ℕ) → member xs at r ≡ true → Among 128 r
@@ -35,22 +28,22 @@ module _ (xs : List ℕ) (at : ℕ) where
 
   -- a row whose bytes are known
   member-of : (f : ℕ → ℕ) → ((k : ℕ) → k < 16 → getD xs (at + k) 0 ≡ f k)
-      → (r : ℕ) → member xs at r ≡ (among 128 r && bit (f (byteOf r)) (bitOf r))
+      → (r : ℕ) → member xs at r ≡ (among 128 r && bit (f (roleByte r)) (roleBit r))
   unfolding member
   member-of f h r =
-      and-when (among 128 r) (λ e. let w = among-iff 128 r .0 e in ap (λ (x : ℕ). bit x (bitOf r)) (h (byteOf r) (omega arith)))
+      and-when (among 128 r) (λ e. let w = among-iff 128 r .0 e in ap (λ (x : ℕ). bit x (roleBit r)) (h (roleByte r) (omega arith)))
 
   -- the other way round: a row's bits are its members
   pub bit-member : (k j : ℕ) → k < 16 → j < 8 → bit (getD xs (at + k) 0) j ≡ member xs at (8 * k + j + 1)
   unfolding member
   bit-member k j l m =
-      let byte : byteOf (8 * k + j + 1) ≡ k = omega arith in
-      let place : bitOf (8 * k + j + 1) ≡ j = omega arith in
+      let byte : roleByte (8 * k + j + 1) ≡ k = omega arith in
+      let place : roleBit (8 * k + j + 1) ≡ j = omega arith in
       rw (among-iff 128 (8 * k + j + 1) .1 (omega arith), byte, place)
 
   -- a row whose bytes are 0 is empty
   pub zero-row : ((k : ℕ) → k < 16 → getD xs (at + k) 0 ≡ 0) → (r : ℕ) → member xs at r ≡ false
-  zero-row h r = member-of (λ k. 0) h r ∙ rw (bit-zero (bitOf r)) (and-false (among 128 r))
+  zero-row h r = member-of (λ k. 0) h r ∙ rw (bit-zero (roleBit r)) (and-false (among 128 r))
 
 pub zero-rows : (n at r : ℕ) → at + 16 ≤ n → member (replicate n 0) at r ≡ false
 zero-rows n at r l = zero-row (replicate n 0) at (λ k m. getD-replicate n (at + k) 0 0 (omega arith)) r
@@ -61,10 +54,21 @@ pub same-bytes : (xs ys : List ℕ) (a b : ℕ) → ((k : ℕ) → k < 16 → ge
 unfolding member
 same-bytes xs ys a b = member-of ys b (λ k. getD xs (a + k) 0)
 
+-- and two rows that hold the same roles are of the same bytes
+pub same-row : (xs ys : List ℕ) (a b : ℕ) → ((i : ℕ) → getD xs i 0 < 256) → ((i : ℕ) → getD ys i 0 < 256)
+    → ((r : ℕ) → Among 128 r → member ys b r ≡ member xs a r) → (k : ℕ) → k < 16 → getD ys (b + k) 0 ≡ getD xs (a + k) 0
+same-row xs ys a b xs-bytes ys-bytes h k l =
+    same-bits 8 _ _ (ys-bytes (b + k)) (xs-bytes (a + k))
+    (λ j m. bit-member ys b k j l m ∙ h (8 * k + j + 1) (omega arith) ∙ sym (bit-member xs a k j l m))
+
 -- a row apart from the bytes that have changed
 pub row-kept : {a b : ℕ} (xs ys : List ℕ) → Kept a b xs ys → (at r : ℕ) → (at + 16 ≤ a) ⊎ (b ≤ at) → member ys at r ≡ member xs at r
 row-kept xs ys kept at r apart =
     same-bytes xs ys at at (λ k l. kept (at + k) (λ m. ⊎-elim (λ n. omega arith) (λ n. omega arith) apart)) r
+
+-- two rows of one table do not overlap
+pub rows-apart : (at x y : ℕ) → 1 ≤ x → 1 ≤ y → (y ≡ x → ⊥) → (rowOf at y + 16 ≤ rowOf at x) ⊎ (rowOf at x + 16 ≤ rowOf at y)
+rows-apart at x y v w ne = elim (decLt y x) [ yes l ↦ inl (omega arith) | no l ↦ inr (omega arith) ]
 
 -- a byte is one of the row's 16 or outside it
 inside-or : (at i : ℕ) → ((k : ℕ) × (k < 16) × (i ≡ at + k)) ⊎ (at ≤ i → at + 16 ≤ i)
@@ -78,9 +82,7 @@ module _ (at : ℕ) (s : ℕ → Bool) (xs ys zs : List ℕ) (p : Placed at s xs
     (ys-long : length ys ≡ length xs) (zs-long : length zs ≡ length xs)
     (ys-bytes : (i : ℕ) → getD ys i 0 < 256) (zs-bytes : (i : ℕ) → getD zs i 0 < 256) where
   row-byte : at + 16 ≤ length xs → (k : ℕ) → k < 16 → getD ys (at + k) 0 ≡ getD zs (at + k) 0
-  row-byte fits k l =
-      same-bits 8 _ _ (ys-bytes (at + k)) (zs-bytes (at + k))
-      (λ j m. bit-member ys at k j l m ∙ p .row fits _ ∙ sym (q .row fits _) ∙ sym (bit-member zs at k j l m))
+  row-byte fits = same-row zs ys at at zs-bytes ys-bytes (λ r w. p .row fits r ∙ sym (q .row fits r))
 
   other-byte : Kept at (at + 16) zs ys
   other-byte i o = p .rest i o ∙ sym (q .rest i o)
@@ -126,45 +128,45 @@ rows-more {at} {i} {s} {t} {xs} {ys} {zs} fits long p q new = record {
 
 -- one byte is written, in which the bit of one role becomes b
 module _ (xs : List ℕ) (at role byte : ℕ) (b : Bool) (fits : at + 16 ≤ length xs) (w : Among 128 role)
-    (new : (j : ℕ) → bit byte j ≡ cond (eqb j (bitOf role)) b (bit (getD xs (at + byteOf role) 0) j)) where
-  here : member (set xs (at + byteOf role) byte) at role ≡ b
+    (new : (j : ℕ) → bit byte j ≡ cond (eqb j (roleBit role)) b (bit (getD xs (at + roleByte role) 0) j)) where
+  here : member (set xs (at + roleByte role) byte) at role ≡ b
   unfolding member
   here =
-      rw (among-iff 128 role .1 w, getD-set-same xs (at + byteOf role) byte 0 (omega arith))
-      (new (bitOf role) ∙ rw (eq-eqb (bitOf role) (bitOf role) refl))
+      rw (among-iff 128 role .1 w, getD-set-same xs (at + roleByte role) byte 0 (omega arith))
+      (new (roleBit role) ∙ rw (eq-eqb (roleBit role) (roleBit role) refl))
 
-  there : (r : ℕ) → (r ≡ role → ⊥) → member (set xs (at + byteOf role) byte) at r ≡ member xs at r
+  there : (r : ℕ) → (r ≡ role → ⊥) → member (set xs (at + roleByte role) byte) at r ≡ member xs at r
   unfolding member
-  there r other = and-when (among 128 r) (λ e. let v = among-iff 128 r .0 e in elim (ℕ-discrete (byteOf r) (byteOf role)) [
+  there r other = and-when (among 128 r) (λ e. let v = among-iff 128 r .0 e in elim (ℕ-discrete (roleByte r) (roleByte role)) [
     | yes i ↦
-        rw (i, getD-set-same xs (at + byteOf role) byte 0 (omega arith))
-        (new (bitOf r) ∙ rw (ne-eqb (bitOf r) (bitOf role) (λ j. other (omega arith))))
-    | no i ↦ rw (getD-set-other xs (at + byteOf role) (at + byteOf r) byte 0 (λ j. i (omega arith)))
+        rw (i, getD-set-same xs (at + roleByte role) byte 0 (omega arith))
+        (new (roleBit r) ∙ rw (ne-eqb (roleBit r) (roleBit role) (λ j. other (omega arith))))
+    | no i ↦ rw (getD-set-other xs (at + roleByte role) (at + roleByte r) byte 0 (λ j. i (omega arith)))
   ])
 
   one-written : {s : ℕ → Bool} → b ≡ s role → ((r : ℕ) → (r ≡ role → ⊥) → member xs at r ≡ s r)
-      → Placed at s xs (set xs (at + byteOf role) byte)
+      → Placed at s xs (set xs (at + roleByte role) byte)
   one-written e h = record {
     row = λ l r. elim (ℕ-discrete r role) [ yes i ↦ rw i (here ∙ e) | no i ↦ there r i ∙ h r i ];
-    rest = λ i o. getD-set-other xs (at + byteOf role) i byte 0 (λ j. omega (arith, o (omega arith)));
+    rest = λ i o. getD-set-other xs (at + roleByte role) i byte 0 (λ j. omega (arith, o (omega arith)));
     none = λ l. absurd (omega arith);
   }
 
 -- one role more, by setting its bit, and one less, by flipping it where it is set
 module _ (xs : List ℕ) (at r : ℕ) (fits : at + 16 ≤ length xs) (w : Among 128 r) where
   abbrev byte : ℕ
-  byte = getD xs (at + byteOf r) 0
+  byte = getD xs (at + roleByte r) 0
 
-  pub added-placed : Placed at (added xs at r) xs (set xs (at + byteOf r) (bitOr byte (1 * 2 ^ bitOf r % 256)))
+  pub added-placed : Placed at (added xs at r) xs (set xs (at + roleByte r) (bitOr byte (1 * 2 ^ roleBit r % 256)))
   added-placed =
-      one-written xs at r _ true fits w (bit-on byte (bitOf r) (omega arith))
+      one-written xs at r _ true fits w (bit-on byte (roleBit r) (omega arith))
       (rw (among-iff 128 r .1 w, eq-eqb r r refl) (sym (or-true (member xs at r))))
       (λ q n. rw (among-iff 128 r .1 w, ne-eqb q r n) (sym (or-false (member xs at q))))
 
-  pub removed-placed : member xs at r ≡ true → Placed at (removed xs at r) xs (set xs (at + byteOf r) (bitXor byte (1 * 2 ^ bitOf r % 256)))
+  pub removed-placed : member xs at r ≡ true → Placed at (removed xs at r) xs (set xs (at + roleByte r) (bitXor byte (1 * 2 ^ roleBit r % 256)))
   unfolding member
   removed-placed h =
-      one-written xs at r _ false fits w (bit-off byte (bitOf r) (omega arith) (and-iff (among 128 r) (bit byte (bitOf r)) .0 h .1))
+      one-written xs at r _ false fits w (bit-off byte (roleBit r) (omega arith) (and-iff (among 128 r) (bit byte (roleBit r)) .0 h .1))
       (rw (eq-eqb r r refl) (sym (and-false (member xs at r))))
       (λ q n. rw (ne-eqb q r n) (sym (and-true (member xs at q))))
 
@@ -194,7 +196,7 @@ module _ {at : ℕ} {f : ℕ → ℕ} {xs : List ℕ} where
   }
 
   pub write-all : {s : ℕ → Bool} {i : ℕ} {ys : List ℕ} → Written at i f xs ys → i ≡ 16 → at + 16 ≤ length xs
-      → ((r : ℕ) → (among 128 r && bit (f (byteOf r)) (bitOf r)) ≡ s r) → Placed at s xs ys
+      → ((r : ℕ) → (among 128 r && bit (f (roleByte r)) (roleBit r)) ≡ s r) → Placed at s xs ys
   write-all {s} {i} {ys} w l fits h = record {
     row = λ m r. member-of ys at f (λ k n. w .done k (omega arith)) r ∙ h r;
     rest = λ k o. w .rest k (λ m. omega (arith, o m));

@@ -1,4 +1,4 @@
--- Sets of roles 1 to 128, each a row of 16 bytes of a list: role r is bit (r - 1) % 8 of the row's byte (r - 1) / 8.
+-- Sets of roles 1 to 128, each a row of 16 bytes of a list: role r is bit `roleBit r` of the row's byte `roleByte r`.
 --     whole xs at               the row at `at` lies wholly in xs
 --     rowOf at x                where the row of thing x begins, in a table of rows at `at`
 --     member xs at r            the row of xs at `at` holds role r
@@ -25,17 +25,31 @@ bit x j = eqb (x / 2 ^ j % 2) 1
 abbrev pub rowOf : ℕ → ℕ → ℕ
 rowOf at x = at + 16 * (x - 1)
 
+-- where role r stands in a row
+abbrev pub roleByte : ℕ → ℕ
+roleByte r = (r - 1) / 8
+
+abbrev pub roleBit : ℕ → ℕ
+roleBit r = (r - 1) % 8
+
 abbrev pub whole : List ℕ → ℕ → Bool
 whole xs at = leb (at + 16) (length xs)
 
 unfoldable pub member : List ℕ → ℕ → ℕ → Bool
-member xs at r = among 128 r && bit (getD xs (at + (r - 1) / 8) 0) ((r - 1) % 8)
+member xs at r = among 128 r && bit (getD xs (at + roleByte r) 0) (roleBit r)
 
 unfoldable pub common : List ℕ → ℕ → ℕ → Bool
 common xs a b = whole xs a && whole xs b && some 128 (λ r. member xs a r && member xs b r)
 
+-- bit b of x, counted from 1, is set and comes after `after`; the row holds such a role
+abbrev pub bitAfter : ℕ → ℕ → ℕ → Bool
+bitAfter x after b = not (leb b after) && bit x (b - 1)
+
+abbrev pub memberAfter : List ℕ → ℕ → ℕ → ℕ → Bool
+memberAfter xs at after r = not (leb r after) && member xs at r
+
 abbrev pub nextMember : List ℕ → ℕ → ℕ → ℕ
-nextMember xs at after = first 128 (λ r. not (leb r after) && member xs at r)
+nextMember xs at after = first 128 (memberAfter xs at after)
 
 -- the set in the row at `at` with a role where `on`, and with it; a number that is no role's changes nothing
 abbrev pub addedWhere : List ℕ → ℕ → ℕ → Bool → ℕ → Bool

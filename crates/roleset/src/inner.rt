@@ -1,11 +1,11 @@
 // The same for a row that is known to lie in the slice, and the tests that tell.
 ghost use mathlib.Core.Path.{_≡_};
-ghost use mathlib.Core.Bool.{true, not, _&&_};
+ghost use mathlib.Core.Bool.{true, _&&_};
 ghost use Prim.Native.Nat.{ℕ, _+_, _-_, _*_, _≤_};
 ghost use lib.Dec.{leb};
 ghost use lib.ListN.{length, getD};
 ghost use Rattle.search.specs.Search.{among, some, first, Among};
-ghost use Rattle.roleset.specs.Row.{bit, member, nextMember, Placed, PlacedRows, added, removed, united, unitedWhere, littleEndian};
+ghost use Rattle.roleset.specs.Row.{member, bitAfter, nextMember, Placed, PlacedRows, added, removed, united, unitedWhere, littleEndian};
 
 // Whether the row at `at` lies wholly in `len` bytes.
 pub fn lies(len: usize, at: usize) -> bool
@@ -109,7 +109,7 @@ pub fn meet(s: &[u8], a: usize, t: &[u8], b: usize) -> bool
 
 // The lowest bit above the first `after` that is set in x, or 0; bits are counted from 1.
 fn lowest_above(x: u64, after: usize) -> usize
-    ensures { λ r. ⌜ r ≡ first 64 (λ b. not (leb b after) && bit x (b - 1)) ⌝ }
+    ensures { λ r. ⌜ r ≡ first 64 (bitAfter x after) ⌝ }
 {
     if 64 <= after {
         return 0;

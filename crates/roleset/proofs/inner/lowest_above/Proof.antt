@@ -1,38 +1,34 @@
 -- The first bits are passed by a shift, and the lowest of the rest stands above its trailing zeros.
 use Prim.Native.Nat.{ℕ, _+_, _-_, _/_, _^_, _≤_, _<_}
 use mathlib.Core.Path.{_≡_, sym, _∙_}
-use mathlib.Core.Bool.{Bool, false, not, _&&_}
+use mathlib.Core.Bool.{false}
 use native.Mathlib.Omega.{arith}
 use native.Mathlib.Decide.{decLt}
 use lib.Count.{trailingZeros}
-use lib.Dec.{leb}
 use lib.Pow.{shr-lt}
 use borrow.Author.Needs.{needs}
 use borrow.Author.Tests.{le-leb, lt-leb}
 use Rattle.search.specs.Search.{first, Among}
 use Rattle.search.proofs.Found.{first-none, first-lowest}
-use Rattle.roleset.specs.Row.{bit}
+use Rattle.roleset.specs.Row.{bit, bitAfter}
 use Rattle.roleset.proofs.Bits.{bit-zero, bit-shr, trailing-clear, trailing-set, trailing-within}
 use Rattle.roleset.proofs.inner.lowest_above.Statement.{statement}
 use Rattle.roleset.proofs.inner.lowest_above.Tie as tie
 
 module _ (x after : ℕ) where
-  abbrev Above : ℕ → Bool
-  Above b = not (leb b after) && bit x (b - 1)
-
   abbrev rest : ℕ
   rest = x / 2 ^ after
 
-  passed : (b : ℕ) → b ≤ after → Above b ≡ false
+  passed : (b : ℕ) → b ≤ after → bitAfter x after b ≡ false
   passed b l = rw (le-leb b after l)
 
-  ahead : (b : ℕ) → after < b → Above b ≡ bit rest (b - 1 - after)
+  ahead : (b : ℕ) → after < b → bitAfter x after b ≡ bit rest (b - 1 - after)
   ahead b l =
       let place : after + (b - 1 - after) ≡ b - 1 = omega arith in
       rw (lt-leb b after l, bit-shr x after (b - 1 - after), place)
 
-  none-above : ((b : ℕ) → Among 64 b → after < b → bit rest (b - 1 - after) ≡ false) → first 64 Above ≡ 0
-  none-above h = first-none Above 64 .1 (λ b w. elim (decLt after b) [ yes l ↦ ahead b l ∙ h b w l | no l ↦ passed b (omega arith) ])
+  none-above : ((b : ℕ) → Among 64 b → after < b → bit rest (b - 1 - after) ≡ false) → first 64 (bitAfter x after) ≡ 0
+  none-above h = first-none (bitAfter x after) 64 .1 (λ b w. elim (decLt after b) [ yes l ↦ ahead b l ∙ h b w l | no l ↦ passed b (omega arith) ])
 
   module _ (fits : x < 2 ^ 64) (l : after < 64) (some : rest ≡ 0 → ⊥) where
     within : after + trailingZeros 64 rest < 64
@@ -40,12 +36,12 @@ module _ (x after : ℕ) where
         let width : 64 - after + after ≡ 64 = omega arith in
         omega (arith, trailing-within 64 (64 - after) rest (shr-lt (64 - after) after (rw width fits)) some)
 
-    lowest : first 64 Above ≡ after + trailingZeros 64 rest + 1
+    lowest : first 64 (bitAfter x after) ≡ after + trailingZeros 64 rest + 1
     lowest =
         let zeros = trailingZeros 64 rest in
         let place : after + zeros + 1 - 1 - after ≡ zeros = omega arith in
         let low = within in
-        first-lowest Above 64 (after + zeros + 1) (omega arith) .1 (record {
+        first-lowest (bitAfter x after) 64 (after + zeros + 1) (omega arith) .1 (record {
           inside = omega arith;
           holds = ahead (after + zeros + 1) (omega arith) ∙ rw place (trailing-set 64 rest (omega arith));
           lower = λ b w k. elim (decLt after b) [

@@ -1,5 +1,5 @@
 -- The halves share no bit exactly where no byte of one row shares a bit with that of the other, and so no role.
-use Prim.Native.Nat.{ℕ, _+_, _-_, _*_, _/_, _%_, _<_}
+use Prim.Native.Nat.{ℕ, _+_, _-_, _*_, _<_}
 use mathlib.Core.Path.{_≡_, sym, ap, _∙_}
 use mathlib.Core.Logic.{_↔_}
 use mathlib.Core.List.{List}
@@ -14,7 +14,7 @@ use borrow.Author.Tests.{eqb-true, eq-eqb, not-true}
 use Rattle.search.specs.Search.{some}
 use Rattle.search.proofs.Truth.{same}
 use Rattle.search.proofs.Found.{None, some-none}
-use Rattle.roleset.specs.Row.{bit, member, littleEndian}
+use Rattle.roleset.specs.Row.{bit, roleByte, roleBit, member, littleEndian}
 use Rattle.roleset.proofs.Bits.{and-none, or-none, bytes-apart}
 use Rattle.roleset.proofs.Rows.{bit-member}
 use Rattle.roleset.proofs.inner.meet.Statement.{statement}
@@ -64,8 +64,8 @@ module _ (xs ys : List ℕ) (a b : ℕ) (bytes : (i : ℕ) → getD xs i 0 < 256
   rows-apart : Apart ↔ None Shared 128
   rows-apart = (
     λ h r w.
-        let k = (r - 1) / 8 in
-        let j = (r - 1) % 8 in
+        let k = roleByte r in
+        let j = roleBit r in
         let place : 8 * k + j + 1 ≡ r = omega arith in
         rw place at (sym (byte-shares k j (omega arith) (omega arith)) ∙ byte-apart k .0 (h k (omega arith)) j (omega arith)),
     λ none k l. byte-apart k .1 (λ j m. byte-shares k j l m ∙ none (8 * k + j + 1) (omega arith)),

@@ -1,8 +1,7 @@
 -- A half's bits are its members, so the first half is searched and, where it has none, the second.
-use Prim.Native.Nat.{ℕ, _+_, _-_, _/_, _%_, _≤_, _<_}
+use Prim.Native.Nat.{ℕ, _+_, _-_, _≤_, _<_}
 use mathlib.Core.Path.{_≡_, sym, _∙_}
 use mathlib.Core.List.{List}
-use mathlib.Core.Bool.{Bool, not, _&&_}
 use native.Mathlib.Omega.{arith}
 use lib.Dec.{leb}
 use lib.ListN.{getD}
@@ -11,13 +10,10 @@ use borrow.Author.Tests.{leb-true, le-leb}
 use Rattle.search.specs.Search.{first, Among}
 use Rattle.search.proofs.Truth.{among-iff, same}
 use Rattle.search.proofs.Found.{first-agree, first-sooner, first-never, first-later, first-within}
-use Rattle.roleset.specs.Row.{bit, member, littleEndian}
+use Rattle.roleset.specs.Row.{bit, roleByte, roleBit, member, bitAfter, memberAfter, littleEndian}
 use Rattle.roleset.proofs.Bits.{bit-byte}
 use Rattle.roleset.proofs.inner.next.Statement.{statement}
 use Rattle.roleset.proofs.inner.next.Tie as tie
-
-abbrev Above : List ℕ → ℕ → ℕ → ℕ → Bool
-Above xs at after r = not (leb r after) && member xs at r
 
 module _ (xs : List ℕ) (at after : ℕ) (bytes : (i : ℕ) → getD xs i 0 < 256) where
   abbrev Half : ℕ → ℕ
@@ -30,11 +26,11 @@ module _ (xs : List ℕ) (at after : ℕ) (bytes : (i : ℕ) → getD xs i 0 < 2
   high-bit : (b : ℕ) → Among 64 b → bit (Half (at + 8)) (b - 1) ≡ member xs at (64 + b)
   unfolding member
   high-bit b w =
-      let byte : at + (64 + b - 1) / 8 ≡ at + 8 + (b - 1) / 8 = omega arith in
-      let place : (64 + b - 1) % 8 ≡ (b - 1) % 8 = omega arith in
+      let byte : at + roleByte (64 + b) ≡ at + 8 + roleByte b = omega arith in
+      let place : roleBit (64 + b) ≡ roleBit b = omega arith in
       bit-byte 8 _ (λ k. bytes (at + 8 + k)) (b - 1) (omega arith) ∙ rw (among-iff 128 (64 + b) .1 (omega arith), byte, place)
 
-  low-half : first 64 (λ b. not (leb b after) && bit (Half at) (b - 1)) ≡ first 64 (Above xs at after)
+  low-half : first 64 (bitAfter (Half at) after) ≡ first 64 (memberAfter xs at after)
   low-half = first-agree _ _ 64 (λ b w. rw (low-bit b w))
 
   passed : (b : ℕ) → Among 64 b → leb b (after - 64) ≡ leb (64 + b) after
@@ -43,10 +39,10 @@ module _ (xs : List ℕ) (at after : ℕ) (bytes : (i : ℕ) → getD xs i 0 < 2
       (λ e. le-leb (64 + b) after (omega (arith, leb-true b (after - 64) e)))
       (λ e. le-leb b (after - 64) (omega (arith, leb-true (64 + b) after e)))
 
-  high-half : first 64 (λ b. not (leb b (after - 64)) && bit (Half (at + 8)) (b - 1)) ≡ first 64 (λ b. Above xs at after (64 + b))
+  high-half : first 64 (bitAfter (Half (at + 8)) (after - 64)) ≡ first 64 (λ b. memberAfter xs at after (64 + b))
   high-half = first-agree _ _ 64 (λ b w. rw (passed b w, high-bit b w))
 
-low : (c : tie.After-lowest-above) → let a = c .before .before .before .args in c .lowest-above .result ≡ first 64 (Above (a .s .now) (a .at) (a .after))
+low : (c : tie.After-lowest-above) → let a = c .before .before .before .args in c .lowest-above .result ≡ first 64 (memberAfter (a .s .now) (a .at) (a .after))
 low c =
     let a = c .before .before .before .args in
     rw (c .before .half .ensures) at (c .lowest-above .ensures)
@@ -54,7 +50,7 @@ low c =
 
 high : (c : tie.After-lowest-above2)
     → let a = c .before .before .before .before .before .before .before .args in
-    c .lowest-above2 .result ≡ first 64 (λ b. Above (a .s .now) (a .at) (a .after) (64 + b))
+    c .lowest-above2 .result ≡ first 64 (λ b. memberAfter (a .s .now) (a .at) (a .after) (64 + b))
 high c =
     let known = c .before .before .before .before .before .before in
     let a = known .before .args in
