@@ -52,10 +52,10 @@ verdict-decides f =
 
 module _ (f : List ℕ) where
   meant : (v : Verdict) → Refusal f v → Outcome f v
-  meant v (inl (inl (h, e))) = rw e (badSize h)
-  meant v (inl (inr (s, inl (k, low)))) = let (n, l, e) = low .holds in rw e (badLine s (low .inside) (low .lower) l)
-  meant v (inl (inr (s, inr (g, inl (u, l, e))))) = rw e (badUser s g l)
-  meant v (inl (inr (s, inr (g, inr (us, (o, l, e)))))) = rw e (badCard s g us l)
+  meant v (inl (inl (inl (h, e)))) = rw e (badSize h)
+  meant v (inl (inl (inr (s, (k, low))))) = let (n, l, e) = low .holds in rw e (badLine s (low .inside) (low .lower) l)
+  meant v (inl (inr ((s, g), inl (u, l, e)))) = rw e (badUser s g l)
+  meant v (inl (inr ((s, g), inr (us, (o, l, e))))) = rw e (badCard s g us l)
   meant v (inr (w, inl (a, l, e))) = rw e (labelCircle w l)
   meant v (inr (w, inr (d, inl (a, b, p, e)))) = rw e (noBound w d p)
   meant v (inr (w, inr (d, inr (j, inl (r, l, e))))) =
@@ -75,10 +75,10 @@ module _ (f : List ℕ) where
     where
       only : {v : Verdict} → Outcome f v → v ≡ verdict f
       only (accepted a) = sym (verdict-decides f .good a)
-      only (badSize h) = refused (inl (inl (h, refl)))
-      only (badLine {n} {k} s w low l) = refused (inl (inr (s, inl (k, record { inside = w; holds = (n, l, refl); lower = low }))))
-      only (badUser {u} s g l) = refused (inl (inr (s, inr (g, inl (u, l, refl)))))
-      only (badCard {o} s g us l) = refused (inl (inr (s, inr (g, inr (us, (o, l, refl))))))
+      only (badSize h) = refused (inl (inl (inl (h, refl))))
+      only (badLine {n} {k} s w low l) = refused (inl (inl (inr (s, (k, record { inside = w; holds = (n, l, refl); lower = low })))))
+      only (badUser {u} s g l) = refused (inl (inr ((s, g), inl (u, l, refl))))
+      only (badCard {o} s g us l) = refused (inl (inr ((s, g), inr (us, (o, l, refl)))))
       only (labelCircle {a} w l) = refused (inr (w, inl (a, l, refl)))
       only (noBound {a} {b} w d p) = refused (inr (w, inr (d, inl (a, b, p, refl))))
       only (roleCircle {r} o l) =

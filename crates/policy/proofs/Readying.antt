@@ -8,28 +8,24 @@ use native.Mathlib.Decide.{ℕ-discrete}
 use Rattle.search.specs.Search.{Among}
 use Rattle.rolefile.specs.declared.Line.{Line}
 use Rattle.rolefile.specs.Line.{H, D, S, U, O, P, A, lineAt, lines}
-use Rattle.rolefile.specs.Form.{fine, refusal, unless, sized, header, firstLimit, secondLimit, scan, lineVerdict, linesVerdict}
+use Rattle.rolefile.specs.Form.{header, firstLimit, secondLimit, linesVerdict}
 use Rattle.rolefile.specs.Said.{labels, roles}
 use Rattle.rolefile.specs.Section.{one, two}
 use Rattle.rolefile.specs.WellFormed.{Sized, GoodCounts, GoodNumbers, GoodLines}
 use Rattle.rolefile.specs.Decimal.{letterByte}
-use Rattle.rolefile.proofs.Verdicts.{then-zero, unless-zero, scan-zero}
-use Rattle.rolefile.proofs.Formed.{sized-iff, header-counts, line-iff, line-clean}
+use Rattle.rolefile.proofs.Decides.{decides-zero}
+use Rattle.rolefile.proofs.Formed.{header-counts, lines-decides}
 use Rattle.rolefile.proofs.Sections.{part, Cut, Section, cut-first, cut-next, section-of, told}
 use Rattle.policy.specs.declared.build.Parts.{Parts}
 use Rattle.policy.specs.Stages.{Laid, Ready}
 
 -- what no refusal among 1 to 5 means
 module _ (f : List ℕ) (e : linesVerdict f .number ≡ 0) where
-  both : (unless (sized f) (refusal 1 0 0) fine .number ≡ 0) × (scan (lines f) (lineVerdict f) .number ≡ 0)
-  unfolding linesVerdict
-  both = then-zero (unless (sized f) (refusal 1 0 0) fine) (scan (lines f) (lineVerdict f)) .0 e
-
   sized-of : Sized f
-  sized-of = sized-iff f .0 (unless-zero (refusal 1 0 0) fine (sized f) (λ z. omega arith) .0 (both .0) .0)
+  sized-of = decides-zero (lines-decides f) .0 e .0
 
   pub good-of : GoodLines f
-  good-of k w = line-iff f k .0 (line-clean f k (scan-zero (lineVerdict f) (lines f) .0 (both .1) k w))
+  good-of = decides-zero (lines-decides f) .0 e .1
 
   some-line : 1 ≤ lines f
   some-line = let s = sized-of in omega (arith, s .some, s .whole)

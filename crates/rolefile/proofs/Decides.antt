@@ -10,7 +10,7 @@ use Rattle.search.proofs.Truth.{eqb-iff}
 use Rattle.search.proofs.Found.{last-or, lowest-more, first-lowest-of}
 use Rattle.rolefile.specs.declared.Verdict.{Verdict}
 use Rattle.rolefile.specs.Form.{fine, unless, _then_, scan, found}
-use Rattle.rolefile.proofs.Verdicts.{Refuses, Clean, then-next, then-stop, unless-then}
+use Rattle.rolefile.proofs.Verdicts.{Refuses, then-next, then-stop, unless-then}
 
 pub record Decides (v : Verdict) (G : Type 0) (R : Verdict → Type 0) : Type 0 where
   pub told : G ⊎ R v
@@ -35,9 +35,6 @@ module _ {v : Verdict} {G : Type 0} {R : Verdict → Type 0} (d : Decides v G R)
 
   pub decides-fine : (v ≡ fine) ↔ G
   decides-fine = (λ e. decides-zero .0 (rw e), d .good)
-
-  pub decides-clean : Clean v
-  decides-clean e = d .good (decides-zero .0 e)
 
   -- the same check in other words
   pub decides-as : {H : Type 0} {Q : Verdict → Type 0} → (G ↔ H) → ((x : Verdict) → R x ↔ Q x) → Decides v H Q

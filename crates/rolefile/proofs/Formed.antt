@@ -16,11 +16,10 @@ use Rattle.rolefile.specs.declared.Line.{Line}
 use Rattle.rolefile.specs.declared.Verdict.{Verdict}
 use Rattle.rolefile.specs.Line.{H, U, O, P, lineAt, lines}
 use Rattle.rolefile.specs.Form.{refusal, sized, header, goodCounts, firstLimit, secondLimit, ranged, before, rises}
-use Rattle.rolefile.specs.Form.{headVerdict, bodyVerdict, lineVerdict, count, about, unlabelled, found, unlabelledVerdict, linesVerdict, formVerdict, fine, unless, scan}
+use Rattle.rolefile.specs.Form.{headVerdict, bodyVerdict, lineVerdict, count, about, unlabelled, found, unlabelledVerdict, linesVerdict, formVerdict}
 use Rattle.rolefile.specs.Said.{users, cards}
 use Rattle.rolefile.specs.WellFormed.{Sized, GoodCounts, GoodNumbers, Before, Rises, GoodHead, GoodBody, GoodLine, GoodLines, LineRefused, noHeader, badCounts, malformed, badNumbers, unordered, One, OneEach, LowestUnlabelled, WellFormed}
-use Rattle.rolefile.proofs.Verdicts.{Clean, then-joined}
-use Rattle.rolefile.proofs.Decides.{Decides, Fails, Else, Earliest, decides-as, decides-fine, decides-clean, decides-when}
+use Rattle.rolefile.proofs.Decides.{Decides, Fails, Else, Earliest, decides-as, decides-when}
 use Rattle.rolefile.proofs.Decides.{then-decides, cond-decides, test-decides, unless-decides, search-decides, scan-decides}
 use Rattle.rolefile.proofs.Counts.{count-one}
 
@@ -123,11 +122,13 @@ module _ (f : List ℕ) (k : ℕ) where
 pub header-counts : (f : List ℕ) → Sized f → GoodLines f → GoodCounts (header f)
 header-counts f s good = good 1 (omega (arith, s .some, s .whole)) .head refl .counts
 
-pub line-iff : (f : List ℕ) (k : ℕ) → (lineVerdict f k ≡ fine) ↔ GoodLine f k
-line-iff f k = decides-fine (line-decides f k)
+-- 1 to 5 together
+abbrev LinesRefusal : List ℕ → Verdict → Type 0
+LinesRefusal f = Else (Fails (Sized f) (refusal 1 0 0)) (Sized f) (Earliest (GoodLine f) (LineRefusal f) (lines f))
 
-pub line-clean : (f : List ℕ) (k : ℕ) → Clean (lineVerdict f k)
-line-clean f k = decides-clean (line-decides f k)
+pub lines-decides : (f : List ℕ) → Decides (linesVerdict f) (Sized f × GoodLines f) (LinesRefusal f)
+unfolding linesVerdict
+lines-decides f = then-decides (test-decides (sized-iff f) (refusal 1 0 0) (omega arith)) (λ s. scan-decides (line-decides f) (lines f))
 
 -- ---- 6
 
@@ -163,20 +164,17 @@ module _ (f : List ℕ) (k : ℕ) where
 -- why a file is refused for its form
 abbrev pub FormRefusal : List ℕ → Verdict → Type 0
 FormRefusal f =
-    Else (Fails (Sized f) (refusal 1 0 0)) (Sized f)
-    (Else (Earliest (GoodLine f) (LineRefusal f) (lines f)) (GoodLines f)
+    Else (LinesRefusal f) (Sized f × GoodLines f)
     (Else (λ v. (u : ℕ) × LowestUnlabelled f U (users f) u × (v ≡ refusal 6 1 u)) (OneEach f U (users f))
-    (λ v. (o : ℕ) × LowestUnlabelled f O (cards f) o × (v ≡ refusal 6 2 o))))
+    (λ v. (o : ℕ) × LowestUnlabelled f O (cards f) o × (v ≡ refusal 6 2 o)))
 
 pub form-decides : (f : List ℕ) → Decides (formVerdict f) (WellFormed f) (FormRefusal f)
-unfolding formVerdict linesVerdict unlabelledVerdict
+unfolding formVerdict unlabelledVerdict
 form-decides f =
-    rw (then-joined (unless (sized f) (refusal 1 0 0) fine) (scan (lines f) (lineVerdict f)) (unlabelledVerdict f))
-    (decides-when
-    (then-decides (test-decides (sized-iff f) (refusal 1 0 0) (omega arith)) (λ s.
-    then-decides (scan-decides (line-decides f) (lines f)) (λ g.
+    decides-when
+    (then-decides (lines-decides f) (λ g.
     then-decides (unlabelled-decides f U (users f) 1) (λ u.
-    unlabelled-decides f O (cards f) 2)))) (
-      λ (s, (g, (u, o))). record { sized = s; good = g; user = u; card = o },
-      λ w. (w .sized, (w .good, (w .user, w .card))),
-    ))
+    unlabelled-decides f O (cards f) 2))) (
+      λ ((s, g), (u, o)). record { sized = s; good = g; user = u; card = o },
+      λ w. ((w .sized, w .good), (w .user, w .card)),
+    )

@@ -2,7 +2,7 @@
 use Prim.Native.Nat.{ℕ, zero, suc, _+_, _<_, _≤_}
 use mathlib.Core.Path.{_≡_, refl, sym, _∙_}
 use mathlib.Core.Logic.{_↔_, ⊎-elim}
-use mathlib.Core.Bool.{Bool, true, false, false≢true}
+use mathlib.Core.Bool.{Bool, true, false}
 use native.Mathlib.Nat.{eq-or-lt-of-le}
 use native.Mathlib.Omega.{arith}
 use native.Mathlib.Numerals.{add-one}
@@ -10,7 +10,6 @@ use lib.Dec.{eqb}
 use borrow.Author.Tests.{eqb-true, eqb-false, ne-eqb}
 use Rattle.search.specs.Search.{Among}
 use Rattle.search.proofs.Truth.{either-by}
-use Rattle.search.proofs.Found.{last-or}
 use Rattle.rolefile.specs.declared.Verdict.{Verdict}
 use Rattle.rolefile.specs.Form.{fine, unless, _then_, scan}
 
@@ -34,10 +33,6 @@ module _ (v w : Verdict) where
       (λ q. (λ e. (eqb-true (v .number) 0 q, e), λ s. s .1))
       (λ q. (λ e. absurd (eqb-false (v .number) 0 q e), λ s. absurd (eqb-false (v .number) 0 q (s .0))))
 
-  pub unless-zero : (t : Bool) → Refuses v → (unless t v w .number ≡ 0) ↔ ((t ≡ true) × (w .number ≡ 0))
-  unless-zero true h = (λ e. (refl, e), λ s. s .1)
-  unless-zero false h = (λ e. absurd (h e), λ s. absurd (false≢true (s .0)))
-
   pub unless-then : (t : Bool) → Refuses v → unless t v w ≡ (unless t v fine then w)
   unless-then true h = refl
   unless-then false h = sym (then-stop h)
@@ -54,28 +49,6 @@ unless-clean true v h k e = k e
 unless-clean false v h k e = absurd (h e)
 
 module _ (v : ℕ → Verdict) where
-  pub scan-zero : (n : ℕ) → (scan n v .number ≡ 0) ↔ ((k : ℕ) → Among n k → v k .number ≡ 0)
-  unfolding scan
-  scan-zero zero = (λ e k w. absurd (omega arith), λ h. refl)
-  scan-zero (suc n) = (
-    λ e k w.
-        let (p, q) = then-zero (scan n v) (v (suc n)) .0 e in
-        ⊎-elim (λ i. rw i q) (scan-zero n .0 p k) (last-or n k w),
-    λ h. then-zero (scan n v) (v (suc n)) .1 (scan-zero n .1 (λ k w. h k (omega arith)), h (suc n) (omega arith)),
-  )
-
-  -- the refusal of the lowest k that refuses
-  scan-first : (n k : ℕ) → Among n k → Refuses (v k) → ((j : ℕ) → Among n j → j < k → v j .number ≡ 0) → scan n v ≡ v k
-  unfolding scan
-  scan-first zero k w h low = absurd (omega arith)
-  scan-first (suc n) k w h low =
-      ⊎-elim
-      (λ i. rw (← i) (then-next (scan n v) (v k) (scan-zero n .1 (λ j u. low j (omega arith) (omega arith)))))
-      (λ u.
-      let e : scan n v ≡ v k = scan-first n k u h (λ j x l. low j (omega arith) l) in
-      then-stop (scan n v) (v (suc n)) (λ z. h (rw e at z)) ∙ e)
-      (last-or n k w)
-
   pub scan-clean : (n : ℕ) → ((k : ℕ) → Among n k → Clean (v k)) → Clean (scan n v)
   unfolding scan
   scan-clean zero h e = refl
@@ -87,9 +60,6 @@ module _ (v : ℕ → Verdict) where
   pub scan-yet : scan 0 v .number ≡ 0
   unfolding scan
   scan-yet = refl
-
-  pub scan-found : (n i : ℕ) → i < n → scan i v .number ≡ 0 → Refuses (v (i + 1)) → v (i + 1) ≡ scan n v
-  scan-found n i l e h = sym (scan-first n (i + 1) (omega arith) h (λ j w m. scan-zero i .0 e j (omega arith)))
 
   pub scan-more : (i : ℕ) → scan i v .number ≡ 0 → v (i + 1) .number ≡ 0 → scan (i + 1) v .number ≡ 0
   unfolding scan
@@ -110,3 +80,6 @@ module _ (v : ℕ → Verdict) where
       let e : scan i v ≡ scan n v = scan-stays i n (omega arith) h in
       e ∙ sym (then-stop (scan n v) (v (suc n)) (λ z. h (rw e z))))
       (eq-or-lt-of-le l)
+
+  pub scan-found : (n i : ℕ) → i < n → scan i v .number ≡ 0 → Refuses (v (i + 1)) → v (i + 1) ≡ scan n v
+  scan-found n i l e h = let q = scan-last i e in q ∙ scan-stays (i + 1) n (omega arith) (λ z. h (rw q z))
