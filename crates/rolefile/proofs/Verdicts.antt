@@ -1,13 +1,13 @@
 -- Verdicts: which refusal comes first where checks follow one another, when there is none, and one turn of a loop that scans. Assumes nothing.
 use Prim.Native.Nat.{ℕ, zero, suc, _+_, _<_, _≤_}
 use mathlib.Core.Path.{_≡_, refl, sym, _∙_}
-use mathlib.Core.Logic.{_↔_, ⊎-elim}
+use mathlib.Core.Logic.{⊎-elim}
 use mathlib.Core.Bool.{Bool, true, false}
 use native.Mathlib.Nat.{eq-or-lt-of-le}
 use native.Mathlib.Omega.{arith}
 use native.Mathlib.Numerals.{add-one}
 use lib.Dec.{eqb}
-use borrow.Author.Tests.{eqb-true, eqb-false, ne-eqb}
+use borrow.Author.Tests.{eqb-false, ne-eqb}
 use Rattle.search.specs.Search.{Among}
 use Rattle.search.proofs.Truth.{either-by}
 use Rattle.rolefile.specs.declared.Verdict.{Verdict}
@@ -27,11 +27,8 @@ module _ (v w : Verdict) where
   pub then-stop : Refuses v → (v then w) ≡ v
   then-stop h = rw (ne-eqb (v .number) 0 h)
 
-  pub then-zero : ((v then w) .number ≡ 0) ↔ ((v .number ≡ 0) × (w .number ≡ 0))
-  then-zero =
-      either-by (λ u. (u .number ≡ 0) ↔ ((v .number ≡ 0) × (w .number ≡ 0))) (eqb (v .number) 0) w v
-      (λ q. (λ e. (eqb-true (v .number) 0 q, e), λ s. s .1))
-      (λ q. (λ e. absurd (eqb-false (v .number) 0 q e), λ s. absurd (eqb-false (v .number) 0 q (s .0))))
+  then-clean : Clean w → Clean (v then w)
+  then-clean k = either-by Clean (eqb (v .number) 0) w v (λ q. k) (λ q e. absurd (eqb-false (v .number) 0 q e))
 
   pub unless-then : (t : Bool) → Refuses v → unless t v w ≡ (unless t v fine then w)
   unless-then true h = refl
@@ -51,23 +48,20 @@ unless-clean false v h k e = absurd (h e)
 module _ (v : ℕ → Verdict) where
   pub scan-clean : (n : ℕ) → ((k : ℕ) → Among n k → Clean (v k)) → Clean (scan n v)
   unfolding scan
-  scan-clean zero h e = refl
-  scan-clean (suc n) h e =
-      let (p, q) = then-zero (scan n v) (v (suc n)) .0 e in
-      then-next (scan n v) (v (suc n)) p ∙ h (suc n) (omega arith) q
+  scan-clean zero h = λ e. refl
+  scan-clean (suc n) h = then-clean (scan n v) (v (suc n)) (h (suc n) (omega arith))
 
   -- one turn of a loop that has found no refusal among the first i, and looks at i + 1
   pub scan-yet : scan 0 v .number ≡ 0
   unfolding scan
   scan-yet = refl
 
-  pub scan-more : (i : ℕ) → scan i v .number ≡ 0 → v (i + 1) .number ≡ 0 → scan (i + 1) v .number ≡ 0
-  unfolding scan
-  scan-more i e q = rw add-one (then-zero (scan i v) (v (suc i)) .1 (e, rw add-one at q))
-
   pub scan-last : (i : ℕ) → scan i v .number ≡ 0 → v (i + 1) ≡ scan (i + 1) v
   unfolding scan
   scan-last i e = rw add-one (sym (then-next (scan i v) (v (suc i)) e))
+
+  pub scan-more : (i : ℕ) → scan i v .number ≡ 0 → v (i + 1) .number ≡ 0 → scan (i + 1) v .number ≡ 0
+  scan-more i e q = rw (← (scan-last i e)) q
 
   -- a refusal stays the first one
   pub scan-stays : (i n : ℕ) → i ≤ n → Refuses (scan i v) → scan i v ≡ scan n v
