@@ -1,21 +1,22 @@
 -- Scanning the lines: what a line's verdict is where the line before is at hand, and the length before the lines. Assumes nothing.
-use Prim.Native.Nat.{ℕ, _+_, _-_, _%_, _≤_, _<_}
+use Prim.Native.Nat.{ℕ, _+_, _-_, _≤_}
 use mathlib.Core.Path.{_≡_, refl, _∙_}
 use mathlib.Core.List.{List}
 use mathlib.Core.Bool.{Bool, true, false, _&&_}
 use native.Mathlib.Nat.{add-sub-cancel}
 use native.Mathlib.Omega.{arith}
 use lib.Dec.{eqb, leb}
-use lib.ListN.{length}
-use borrow.Author.Tests.{eqb-true, eqb-false, eq-eqb, ne-eqb, le-leb, leb-false, lt-leb}
-use Rattle.search.proofs.Truth.{and-iff, untrue, both}
+use borrow.Author.Tests.{eqb-true, eqb-false, ne-eqb, leb-false}
+use Rattle.search.proofs.Truth.{and-iff, untrue}
 use Rattle.rolefile.specs.declared.Line.{Line}
 use Rattle.rolefile.specs.declared.Verdict.{Verdict}
 use Rattle.rolefile.specs.declared.check.Seen.{Seen}
 use Rattle.rolefile.specs.Line.{lineAt, lines}
 use Rattle.rolefile.specs.Form.{refusal, sized, headVerdict, bodyVerdict, lineVerdict, scan, linesVerdict}
 use Rattle.rolefile.specs.Scan.{seen, goesOn, looked}
+use Rattle.rolefile.specs.WellFormed.{Sized}
 use Rattle.rolefile.proofs.Verdicts.{scan-last, scan-stays}
+use Rattle.rolefile.proofs.Formed.{sized-iff}
 
 -- line i + 1 after line i
 pub next-line : (f : List ℕ) (i : ℕ) (h p l : Line) → 1 ≤ i → h ≡ lineAt f 1 → p ≡ lineAt f i → l ≡ lineAt f (i + 1)
@@ -49,26 +50,10 @@ ended-seen f k s w e g = rw e (ends (eqb (scan (k - 1) (lineVerdict f) .number) 
 -- ---- the length first
 
 module _ (f : List ℕ) where
-  pub bad-size : sized f ≡ false → refusal 1 0 0 ≡ linesVerdict f
+  pub bad-size : (Sized f → ⊥) → refusal 1 0 0 ≡ linesVerdict f
   unfolding linesVerdict
-  bad-size e = rw e
+  bad-size h = rw (untrue (sized f) (λ e. h (sized-iff f .0 e)))
 
-  pub good-size : sized f ≡ true → scan (lines f) (lineVerdict f) ≡ linesVerdict f
+  pub good-size : Sized f → scan (lines f) (lineVerdict f) ≡ linesVerdict f
   unfolding linesVerdict
-  good-size e = rw e
-
-  pub empty : length f < 1 → sized f ≡ false
-  unfolding sized
-  empty l = rw (lt-leb 1 (length f) l)
-
-  pub torn : (length f % 22 ≡ 0 → ⊥) → sized f ≡ false
-  unfolding sized
-  torn h = untrue _ (λ e. h (eqb-true (length f % 22) 0 (and-iff _ (leb (length f) 63800) .0 (and-iff (leb 1 (length f)) _ .0 e .1) .0)))
-
-  pub long : 63800 < length f → sized f ≡ false
-  unfolding sized
-  long l = untrue _ (λ e. both (and-iff (eqb (length f % 22) 0) _ .0 (and-iff (leb 1 (length f)) _ .0 e .1) .1) (lt-leb (length f) 63800 l))
-
-  pub fitting : 1 ≤ length f → length f % 22 ≡ 0 → length f ≤ 63800 → sized f ≡ true
-  unfolding sized
-  fitting a b c = rw (le-leb 1 (length f) a, eq-eqb (length f % 22) 0 b, le-leb (length f) 63800 c)
+  good-size s = rw (sized-iff f .1 s)
