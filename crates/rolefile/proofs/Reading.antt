@@ -1,29 +1,23 @@
--- Reading a line field by field: a field that does not read as asked ends it, and where none does the line is what the fields say.
--- Assumes nothing.
+-- Reading a line field by field: what is taken out of a field, and that a field which does not read as asked ends the line. Assumes nothing.
 use Prim.Native.Nat.{ℕ, _+_, _*_, _≤_, _<_}
 use mathlib.Core.Path.{_≡_, refl, sym, ap, _∙_}
 use mathlib.Core.Logic.{⊎-elim}
 use mathlib.Core.List.{List, [], _∷_}
-use mathlib.Core.Bool.{Bool, true, false, _&&_, false≢true}
+use mathlib.Core.Bool.{Bool, true, false, _&&_}
 use native.Mathlib.Omega.{arith}
 use lib.Dec.{leb, eqb}
 use lib.ListN.{length, getD, List·getD-eq-default}
-use borrow.Author.Tests.{eqb-true, eq-eqb, ne-eqb, le-leb, lt-leb}
+use borrow.Author.Tests.{eqb-true, eq-eqb, ne-eqb, lt-leb}
 use denote.Enum.Declared
-use Rattle.search.proofs.Truth.{and-iff, and-right, same}
+use Rattle.search.proofs.Truth.{and-iff, and-right, same, untrue, both}
 use types.Run
 use Rattle.rolefile.specs.declared.Field.{Field}
 use Rattle.rolefile.specs.declared.Field.the-variants.{Blank, Number, Bad}
 use Rattle.rolefile.specs.Field.{fieldAt}
 use Rattle.rolefile.specs.Line.{letterOf, fieldUsed, fits, value, takenOut, formed, noLine, lineOf, lineFrom}
 use Rattle.rolefile.proofs.Decimals.{field-blank}
+use Rattle.rolefile.proofs.Written.{Stands, fits-stands}
 use Rattle.rolefile.proofs.Field as field-type
-
--- a field without use is blank
-unused : (x : Field) → fits false x ≡ true → x ≡ Blank
-unused Blank e = refl
-unused (Number n) e = absurd (false≢true e)
-unused Bad e = absurd (false≢true e)
 
 -- four columns as one number, the first lowest
 abbrev four : List ℕ → ℕ → ℕ
@@ -48,7 +42,7 @@ module _ (f : List ℕ) (at : ℕ) where
 
       of : fits false (fieldAt f at) ≡ true → (eqb (four f at) 538976288 && eqb (getD f (at + 4) 0) 32) ≡ true
       of e =
-          let s = field-blank f at .0 (unused (fieldAt f at) e) in
+          let s = field-blank f at .0 (fits-stands false (fieldAt f at) e .0) in
           let e₀ : getD f at 0 ≡ 32 = ap (λ (l : List ℕ). getD l 0 0) s in
           let e₁ : getD f (at + 1) 0 ≡ 32 = ap (λ (l : List ℕ). getD l 1 0) s in
           let e₂ : getD f (at + 2) 0 ≡ 32 = ap (λ (l : List ℕ). getD l 2 0) s in
@@ -59,7 +53,7 @@ module _ (f : List ℕ) (at : ℕ) where
 -- what is taken out of a field without use
 pub taken-blank : (f : Field) → fits false f ≡ true → Number 0 ≡ takenOut false f
 unfolding takenOut
-taken-blank f e = rw (unused f e)
+taken-blank f e = rw (fits-stands false f e .0)
 
 pub taken-spoilt : (f : Field) → fits false f ≡ false → Bad ≡ takenOut false f
 unfolding takenOut
@@ -74,32 +68,25 @@ unread x f e seen = go f e
     go (Number n) q = absurd (⊎-elim (λ t. omega arith) (λ t. omega arith) (rw q at seen))
     go Bad q = refl
 
--- the field was the number n
-pub numbered : (x f : Field) (n : ℕ) → x ≡ f → x ≡ Number n → (fits true f ≡ true) × (value f ≡ n)
-numbered x f n e seen = let q : f ≡ Number n = sym e ∙ seen in (rw q, rw q)
-
 -- the field was not taken out: the match saw no number
 pub ended : (x : Field) (used : Bool) (f : Field) → x ≡ takenOut used f
     → Run.OneOf (0 ∷ 2 ∷ []) (Declared.tagOf field-type.the-type x) → fits used f ≡ false
 unfolding takenOut
-ended x used f e seen = go (fits used f) refl
-  where
-    go : (b : Bool) → fits used f ≡ b → b ≡ false
-    go true q =
-        let n : x ≡ Number (value f) = e ∙ rw q in
-        absurd (⊎-elim (λ t. omega arith) (λ t. omega arith) (rw n at seen))
-    go false q = refl
+ended x used f e seen = untrue (fits used f) (λ q. both refl (unread x (Number (value f)) (e ∙ rw q) seen))
 
 -- the field was taken out as n
-pub got : (x : Field) (used : Bool) (f : Field) (n : ℕ) → x ≡ takenOut used f → x ≡ Number n → (fits used f ≡ true) × (value f ≡ n)
+pub got : (x : Field) (used : Bool) (f : Field) (n : ℕ) → x ≡ takenOut used f → x ≡ Number n → Stands used f n
 unfolding takenOut
 got x used f n taking seen = go (fits used f) refl
   where
     e : Number n ≡ takenOut used f
     e = sym seen ∙ taking
 
-    go : (b : Bool) → fits used f ≡ b → (b ≡ true) × (value f ≡ n)
-    go true q = let m : Number n ≡ Number (value f) = e ∙ rw q in (refl, cc)
+    go : (b : Bool) → fits used f ≡ b → Stands used f n
+    go true q =
+        let m : Number n ≡ Number (value f) = e ∙ rw q in
+        let v : value f ≡ n = cc in
+        rw v at (fits-stands used f q)
     go false q = let m : Number n ≡ Bad = e ∙ rw q in let z : _≡_ {A = ℕ} 0 1 = cc in absurd (omega arith)
 
 module _ (k end : ℕ) (p q r s : Field) where
@@ -133,13 +120,6 @@ module _ (k end : ℕ) (p q r s : Field) where
   pub no-end : (end ≡ 10 → ⊥) → noLine ≡ lineOf k end p q r s
   unfolding formed
   no-end h = none (and-right (leb 1 k) (rw (ne-eqb end 10 h)))
-
-  pub whole-line : (a b c d : ℕ) → (fits true p ≡ true) × (value p ≡ a) → (fits true q ≡ true) × (value q ≡ b)
-      → (fits (fieldUsed 3 k) r ≡ true) × (value r ≡ c) → (fits (fieldUsed 4 k) s ≡ true) × (value s ≡ d) → 1 ≤ k → end ≡ 10
-      → record { letter = k; a = a; b = b; c = c; d = d } ≡ lineOf k end p q r s
-  unfolding lineOf formed
-  whole-line a b c d ep eq er es l e =
-      rw (le-leb 1 k l, eq-eqb end 10 e, ep .0, eq .0, er .0, es .0, ep .1, eq .1, er .1, es .1)
 
 -- past its end a file has no line
 pub past-end : (f : List ℕ) (i : ℕ) → length f ≤ i + 21 → noLine ≡ lineFrom f i

@@ -56,7 +56,7 @@ abbrev pub Stands : Bool → Field → ℕ → Type 0
 Stands true p n = p ≡ Number n
 Stands false p n = (p ≡ Blank) × (n ≡ 0)
 
-fits-stands : (used : Bool) (p : Field) → fits used p ≡ true → Stands used p (value p)
+pub fits-stands : (used : Bool) (p : Field) → fits used p ≡ true → Stands used p (value p)
 fits-stands true Blank e = absurd (false≢true e)
 fits-stands true (Number n) e = refl
 fits-stands true Bad e = absurd (false≢true e)
@@ -120,7 +120,7 @@ module _ (k last : ℕ) (p q r s : Field) (l : Line) where
           }
       go false e same = absurd (omega (arith, ap (λ x. x .letter) same))
 
-  made : Makes k last p q r s l → (lineOf k last p q r s ≡ l) × (1 ≤ l .letter)
+  pub made : Makes k last p q r s l → (lineOf k last p q r s ≡ l) × (1 ≤ l .letter)
   unfolding lineOf formed
   made w =
       let (e₁, a) = stands-fits true p (l .a) (w .a) in

@@ -1,7 +1,8 @@
 -- A field that does not read as asked ends the line; where each does, the line is what they say.
-use mathlib.Core.Path.{_∙_}
+use mathlib.Core.Path.{sym, _∙_}
 use borrow.Author.Needs.{needs}
-use Rattle.rolefile.proofs.Reading.{ended, got, unread, numbered, no-first, no-second, no-third, no-fourth, no-letter, no-end, whole-line}
+use Rattle.rolefile.proofs.Reading.{ended, got, unread, no-first, no-second, no-third, no-fourth, no-letter, no-end}
+use Rattle.rolefile.proofs.Written.{made}
 use Rattle.rolefile.proofs.read.line_from.Statement.{statement}
 use Rattle.rolefile.proofs.read.line_from.Tie as tie
 
@@ -43,15 +44,15 @@ returns-7 c =
     let r = s .before .before .before .before .before in
     let q = r .before .before .before .before .before in
     let p = q .before .before .before .before in
-    let l = p .before .before in
-    rw (← (l .letter .ensures))
-    (whole-line _ _ _ _ _ _ _ _ _ _
-    (numbered _ _ _ (p .field .ensures) (q .before .before .a .given .1))
-    (numbered _ _ _ (q .field2 .ensures) (r .before .before .before .b .given .1))
-    (rw (r .before .field-count .ensures) at (got _ _ _ _ (r .taken-out-at .ensures) (s .before .before .before .c .given .1)))
-    (rw (s .before .field-count2 .ensures) at (got _ _ _ _ (s .taken-out-at2 .ensures) (d .d .given .1)))
-    (p .before .if1 .left)
-    (c .if2 .left))
+    sym (made _ _ _ _ _ _ _ record {
+      letter = sym (p .before .before .letter .ensures);
+      some = p .before .if1 .left;
+      end = c .if2 .left;
+      a = sym (p .field .ensures) ∙ q .before .before .a .given .1;
+      b = sym (q .field2 .ensures) ∙ r .before .before .before .b .given .1;
+      c = rw (r .before .field-count .ensures) at (got _ _ _ _ (r .taken-out-at .ensures) (s .before .before .before .c .given .1));
+      d = rw (s .before .field-count2 .ensures) at (got _ _ _ _ (s .taken-out-at2 .ensures) (d .d .given .1));
+    } .0)
 
 pub line-from-spec : {M : Type 1} → statement M
 line-from-spec =

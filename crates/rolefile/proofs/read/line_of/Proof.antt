@@ -1,7 +1,8 @@
 -- A field that does not read as asked ends the line; where each does, the line is what they say.
-use mathlib.Core.Path.{_∙_}
+use mathlib.Core.Path.{refl, sym, _∙_}
 use borrow.Author.Needs.{needs}
-use Rattle.rolefile.proofs.Reading.{ended, got, no-first, no-second, no-third, no-fourth, no-letter, no-end, whole-line}
+use Rattle.rolefile.proofs.Reading.{ended, got, no-first, no-second, no-third, no-fourth, no-letter, no-end}
+use Rattle.rolefile.proofs.Written.{made}
 use Rattle.rolefile.proofs.read.line_of.Statement.{statement}
 use Rattle.rolefile.proofs.read.line_of.Tie as tie
 
@@ -34,13 +35,15 @@ returns-7 c =
     let r = s .before .before .before .before .before in
     let q = r .before .before .before .before .before in
     let p = q .before .before .before .before in
-    whole-line _ _ _ _ _ _ _ _ _ _
-    (got _ _ _ _ (p .taken-out .ensures) (q .before .before .a .given .1))
-    (got _ _ _ _ (q .taken-out2 .ensures) (r .before .before .before .b .given .1))
-    (rw (r .before .field-count .ensures) at (got _ _ _ _ (r .taken-out3 .ensures) (s .before .before .before .c .given .1)))
-    (rw (s .before .field-count2 .ensures) at (got _ _ _ _ (s .taken-out4 .ensures) (d .d .given .1)))
-    (c .before .if1 .left)
-    (c .if2 .left)
+    sym (made _ _ _ _ _ _ _ record {
+      letter = refl;
+      some = c .before .if1 .left;
+      end = c .if2 .left;
+      a = got _ _ _ _ (p .taken-out .ensures) (q .before .before .a .given .1);
+      b = got _ _ _ _ (q .taken-out2 .ensures) (r .before .before .before .b .given .1);
+      c = rw (r .before .field-count .ensures) at (got _ _ _ _ (r .taken-out3 .ensures) (s .before .before .before .c .given .1));
+      d = rw (s .before .field-count2 .ensures) at (got _ _ _ _ (s .taken-out4 .ensures) (d .d .given .1));
+    } .0)
 
 pub line-of-spec : {M : Type 1} → statement M
 line-of-spec =
