@@ -1,12 +1,12 @@
 -- How far the loop of a scan is: its reader, what has been seen, and the machine value of that; and one line further. Assumes nothing.
-use mathlib.Core.Path.{_≡_, refl, ap, _∙_}
+use mathlib.Core.Path.{_≡_, ap, _∙_}
 use Prim.Native.Nat.{ℕ, _+_, _-_, _≤_, _<_, _^_}
-use mathlib.Core.Bool.{Bool, true, false, not}
+use mathlib.Core.Bool.{true}
 use mathlib.Core.List.{List, [], _∷_}
 use mathlib.Core.WellFounded.{WellFounded, InvImage·wf}
 use native.Mathlib.Omega.{arith}
 use lib.WfN.{Nat·lt-wfRel}
-use lib.Dec.{T as Holds, leb, eqb}
+use lib.Dec.{leb, eqb}
 use lib.ListN.{length}
 use borrow.Author.Tests.{leb-true}
 use mir.Val.{Val}
@@ -20,17 +20,6 @@ use Rattle.rolefile.specs.declared.check.Seen.{Seen}
 use Rattle.rolefile.specs.declared.Line.{Line}
 use Rattle.rolefile.proofs.check.Seen as S
 use Rattle.rolefile.proofs.Scanning.{looked-seen}
-
--- what a branch knows of its test
-pub holds : (t : Bool) → Holds t → t ≡ true
-holds true h = refl
-holds false h = absurd h
-
-pub fails : (t : Bool) → Holds (not t) → t ≡ false
-fails true h = absurd h
-fails false h = refl
-
--- ---- the loop
 
 pub record Reached (f : RefT (List ℕ)) : Type 0 where
   pub d : Reader
