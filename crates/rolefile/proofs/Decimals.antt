@@ -1,7 +1,7 @@
 -- A field reads as the number n just where its five columns are n in decimal, as blank just where they are blanks, and as bad otherwise; and the number
 -- read is also the columns' last four bits in decimal. Assumes nothing.
 use Prim.Native.Nat.{ℕ, zero, suc, _+_, _*_, _-_, _/_, _%_, _^_, _≤_, _<_}
-use mathlib.Core.Path.{_≡_, refl, sym, ap, subst, _∙_}
+use mathlib.Core.Path.{_≡_, refl, sym, ap, _∙_}
 use mathlib.Core.Logic.{_↔_}
 use mathlib.Core.List.{List, [], _∷_, _++_, append-assoc, append-nil}
 use mathlib.Core.Bool.{Bool, true, false, _&&_, cond}
@@ -150,11 +150,6 @@ padded-read n l = rw (columns-append, blanks-read) (digits-read (suc n) n (omega
 
 -- ---- five columns
 
-abbrev IsBad : Field → Type 0
-IsBad Blank = ⊥
-IsBad (Number n) = ⊥
-IsBad Bad = Unit {0}
-
 module _ (cs : List ℕ) (h : length cs ≡ 5) where
   pub reads-number : (n : ℕ) → (columns Blank cs ≡ Number n) ↔ ((n < 100000) × (cs ≡ padded n))
   unfolding padded
@@ -177,7 +172,10 @@ module _ (cs : List ℕ) (h : length cs ≡ 5) where
 
   pub reads-bad : (columns Blank cs ≡ Bad) ↔ ((cs ≡ blanks → ⊥) × ((n : ℕ) → n < 100000 → cs ≡ padded n → ⊥))
   reads-bad = (
-    λ e. (λ s. subst IsBad (sym e ∙ reads-blank .1 s) tt, λ n l s. subst IsBad (sym e ∙ reads-number n .1 (l, s)) tt),
+    λ e. (
+      λ s. let b = reads-blank .1 s in let z : _≡_ {A = ℕ} 0 1 = cc in omega arith,
+      λ n l s. let m = reads-number n .1 (l, s) in let z : _≡_ {A = ℕ} 0 1 = cc in omega arith,
+    ),
     only (columns Blank cs) refl,
   )
     where
