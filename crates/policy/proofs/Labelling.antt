@@ -17,7 +17,7 @@ use Rattle.rolefile.specs.Line.{H, U, O, lines}
 use Rattle.rolefile.specs.Form.{fine, refusal, header, firstLimit, secondLimit, count, about, unlabelled, linesVerdict, unlabelledVerdict}
 use Rattle.rolefile.specs.Said.{users, cards, last, labelBy}
 use Rattle.rolefile.specs.Section.{one, two}
-use Rattle.rolefile.proofs.Within.{count-within}
+use Rattle.rolefile.proofs.Counts.{count-none}
 use Rattle.rolefile.proofs.Sections.{part, Section, count-about, label-section}
 use Rattle.rolefile.specs.WellFormed.{GoodLines}
 use Rattle.policy.specs.declared.build.Parts.{Parts}
@@ -88,12 +88,9 @@ module _ (f : List ℕ) (good : GoodLines f) {k j m : ℕ} (s : Section f k j m)
 
     -- a number past the file's count has no line
     none-past : n < x → lineCount ≡ 0
-    unfolding count
     none-past l =
         count-about f good s x
-        ∙ count-within m 0 0 (omega arith) (names (part f j) x) (λ i. false)
-        (λ i w e. let q = eqb-true (one (part f j) i) x e in let t = one-within f good s after i w in absurd (omega arith))
-        (λ i w. absurd (omega arith))
+        ∙ count-none (names (part f j) x) m .1 (λ i w. ne-eqb (one (part f j) i) x (λ e. omega (arith, one-within f good s after i w)))
 
   noted-table : (at size : ℕ) (ys : List ℕ) → n ≤ size → ((x : ℕ) → Among size x → byteOf ys at x ≡ notes (part f j) m x 0)
       → Table f k n at size ys

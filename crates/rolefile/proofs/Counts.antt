@@ -14,7 +14,7 @@ module _ (p : ℕ → Bool) where
   abbrev Alone : ℕ → ℕ → Type 0
   Alone n a = Among n a × (p a ≡ true) × ((i : ℕ) → Among n i → p i ≡ true → i ≡ a)
 
-  count-none : (n : ℕ) → (count n p ≡ 0) ↔ None p n
+  pub count-none : (n : ℕ) → (count n p ≡ 0) ↔ None p n
   unfolding count
   count-none zero = (λ e a w. absurd (omega arith), λ none. refl)
   count-none (suc n) = go (p (suc n)) refl (count n p) (count-none n)
