@@ -52,26 +52,20 @@ pub record Written (v : Verdict) : Type 0 where
   pub second : v .second < 100000
 
 pub verdict-written : (f : List ℕ) → Written (verdict f)
-verdict-written f = record { number = ⊎-elim (λ l. omega arith) (λ l. omega arith) (verdict-numbers f); first = first-of (outcome f); second = second-of (outcome f) }
+verdict-written f =
+    let (a, b) = places (outcome f) in
+    record { number = ⊎-elim (λ l. omega arith) (λ l. omega arith) (verdict-numbers f); first = a; second = b }
   where
-    first-of : {v : Verdict} → Outcome f v → v .first < 100000
-    first-of (accepted a) = omega arith
-    first-of (badSize h) = omega arith
-    first-of (badLine s w low l) = omega arith
-    first-of (badUser s g l) = omega arith
-    first-of (badCard s g us l) = omega arith
-    first-of (labelCircle w l) = let few = line-few f 1 in omega arith
-    first-of (noBound w d p) = let few = line-few f 1 in omega arith
-    first-of (roleCircle o l) = let few = line-few f 1 in omega arith
-    first-of (badAssignment {n} {i} o s w l low r) = line-few f i .a
+    few : Few (lineAt f 1)
+    few = line-few f 1
 
-    second-of : {v : Verdict} → Outcome f v → v .second < 100000
-    second-of (accepted a) = omega arith
-    second-of (badSize h) = omega arith
-    second-of (badLine s w low l) = omega arith
-    second-of (badUser s g l) = let few = line-few f 1 in omega arith
-    second-of (badCard s g us l) = let few = line-few f 1 in omega arith
-    second-of (labelCircle w l) = omega arith
-    second-of (noBound w d p) = let few = line-few f 1 in omega arith
-    second-of (roleCircle o l) = omega arith
-    second-of (badAssignment {n} {i} o s w l low r) = line-few f i .b
+    places : {v : Verdict} → Outcome f v → (v .first < 100000) × (v .second < 100000)
+    places (accepted a) = omega arith
+    places (badSize h) = omega arith
+    places (badLine s w low l) = omega arith
+    places (badUser s g l) = omega (arith, few .c)
+    places (badCard s g us l) = omega (arith, few .d)
+    places (labelCircle w l) = omega (arith, few .a)
+    places (noBound w d p) = omega (arith, few .a)
+    places (roleCircle o l) = omega (arith, few .b)
+    places (badAssignment {n} {i} o s w l low r) = let few = line-few f i in (few .a, few .b)
