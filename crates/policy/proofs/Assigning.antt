@@ -16,10 +16,10 @@ use Rattle.rolefile.specs.declared.Verdict.{Verdict}
 use Rattle.rolefile.specs.Line.{A, lineAt, lines}
 use Rattle.rolefile.specs.Form.{refusal, header, scan}
 use Rattle.rolefile.specs.Said.{labels, roles, users, over, clearance}
-use Rattle.rolefile.specs.Section.{one, two}
+use Rattle.rolefile.specs.Section.{part, one, two}
 use Rattle.rolefile.specs.WellFormed.{GoodCounts, GoodLines}
 use Rattle.rolefile.proofs.Verdicts.{Clean, unless-clean}
-use Rattle.rolefile.proofs.Sections.{part, Section, told}
+use Rattle.rolefile.proofs.Sections.{Section, told}
 use Rattle.rolefile.proofs.Within.{scan-within}
 use Rattle.policy.specs.Policy.{Level, Free, Label, Undefined}
 use Rattle.policy.specs.Policy.{dominates, mayAt, level, rLevel, wLevel, passes, isDefined, levelNumber}

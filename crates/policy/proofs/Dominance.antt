@@ -18,7 +18,8 @@ use Rattle.order.proofs.Bound.{first-without-agree}
 use Rattle.rolefile.specs.Line.{D, fields}
 use Rattle.rolefile.specs.Form.{refusal, found}
 use Rattle.rolefile.specs.Said.{labels, over}
-use Rattle.rolefile.proofs.Sections.{part, Section}
+use Rattle.rolefile.specs.Section.{part}
+use Rattle.rolefile.proofs.Sections.{Section}
 use Rattle.rolefile.specs.WellFormed.{GoodLines}
 use Rattle.policy.specs.Policy.{dominates}
 use Rattle.policy.specs.Tables.{pairs}

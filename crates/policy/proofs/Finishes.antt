@@ -1,15 +1,15 @@
 -- The last stage: counts and assigned roles. Bytes that a store leaves alone keep what is read of them. Assumes nothing.
-use Prim.Native.Nat.{ℕ, _+_, _*_, _≤_}
+use Prim.Native.Nat.{ℕ, _+_, _≤_}
 use mathlib.Core.Path.{_≡_, refl, _∙_}
 use mathlib.Core.Logic.{inr}
 use mathlib.Core.List.{List}
 use native.Mathlib.Omega.{arith}
-use lib.ListN.{drop}
 use Rattle.roleset.specs.Row.{rowOf, Kept}
 use Rattle.roleset.proofs.Rows.{zero-row, row-kept}
 use Rattle.rolefile.specs.declared.Line.{Line}
 use Rattle.rolefile.specs.Line.{A, fields}
 use Rattle.rolefile.specs.Said.{assigned}
+use Rattle.rolefile.specs.Section.{part}
 use Rattle.policy.specs.declared.build.Parts.{Parts}
 use Rattle.policy.specs.Tables.{word, assignedAt, pairs, Related}
 use Rattle.policy.specs.Stages.{Ready, Zeros, Counting, Finishing}
@@ -38,7 +38,7 @@ module _ (h : Line) (v w x y z : List ℕ) (first : (word w 0 ≡ h .a) × Kept 
   }
 
 module _ (f : List ℕ) (q : Parts) (h : Line) (ready : Ready f q h) (xs ys zs p : List ℕ) (zeros : Zeros 4112 8208 xs)
-    (its : p ≡ drop (22 * q .a .start) f) (filled : Related 4112 256 (pairs p (q .a .count)) xs ys) (counted : Counting h ys zs) where
+    (its : p ≡ part f (q .a .start)) (filled : Related 4112 256 (pairs p (q .a .count)) xs ys) (counted : Counting h ys zs) where
   two-fields : fields A ≡ 2
   unfolding fields
   two-fields = refl

@@ -23,9 +23,9 @@ use Rattle.rolefile.specs.declared.Line.{Line}
 use Rattle.rolefile.specs.Line.{P}
 use Rattle.rolefile.specs.Form.{header}
 use Rattle.rolefile.specs.Said.{labels, roles, cards, above, permits, cardLabel}
-use Rattle.rolefile.specs.Section.{one, two, three}
+use Rattle.rolefile.specs.Section.{part, one, two, three}
 use Rattle.rolefile.specs.WellFormed.{GoodCounts, GoodLines}
-use Rattle.rolefile.proofs.Sections.{part, Section, says-three}
+use Rattle.rolefile.proofs.Sections.{Section, says-three}
 use Rattle.policy.specs.declared.build.Parts.{Parts}
 use Rattle.policy.specs.Policy.{dominates, senior, may, mayAt, level, rLevel, wLevel, levelNumber}
 use Rattle.policy.specs.Tables.{cardLabelsAt, rLevelsAt, wLevelsAt, seniorsAt, readersAt, writersAt, byteOf, markAt}

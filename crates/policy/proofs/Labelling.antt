@@ -16,9 +16,9 @@ use Rattle.rolefile.specs.declared.Verdict.{Verdict}
 use Rattle.rolefile.specs.Line.{H, U, O, lines}
 use Rattle.rolefile.specs.Form.{fine, refusal, header, firstLimit, secondLimit, count, about, unlabelled, linesVerdict, unlabelledVerdict}
 use Rattle.rolefile.specs.Said.{users, cards, last, labelBy}
-use Rattle.rolefile.specs.Section.{one, two}
+use Rattle.rolefile.specs.Section.{part, one, two}
 use Rattle.rolefile.proofs.Counts.{count-none}
-use Rattle.rolefile.proofs.Sections.{part, Section, count-about, label-section}
+use Rattle.rolefile.proofs.Sections.{Section, count-about, label-section}
 use Rattle.rolefile.specs.WellFormed.{GoodLines}
 use Rattle.policy.specs.declared.build.Parts.{Parts}
 use Rattle.policy.specs.Tables.{clearancesAt, cardLabelsAt, byteOf, Bytes, noted, notes, unlabelledByte}

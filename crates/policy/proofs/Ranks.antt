@@ -1,12 +1,12 @@
 -- Seniority from the S lines: the rows that the lines fill are closed, and hold each role's seniors. Assumes nothing.
-use Prim.Native.Nat.{ℕ, _+_, _*_, _≤_, min}
+use Prim.Native.Nat.{ℕ, _+_, _≤_, min}
 use mathlib.Core.Path.{_≡_, refl, sym, ap, _∙_}
 use mathlib.Core.List.{List}
 use mathlib.Core.Bool.{cond}
 use native.Mathlib.Omega.{arith}
 use native.Mathlib.Decide.{decLe}
 use lib.Dec.{leb}
-use lib.ListN.{length, drop}
+use lib.ListN.{length}
 use borrow.Author.Tests.{ne-eqb, le-leb, lt-leb}
 use Rattle.search.specs.Search.{Among}
 use Rattle.search.proofs.Truth.{untrue, eqb-swap}
@@ -22,7 +22,8 @@ use Rattle.rolefile.specs.declared.Verdict.{Verdict}
 use Rattle.rolefile.specs.Line.{S, fields}
 use Rattle.rolefile.specs.Form.{fine, refusal}
 use Rattle.rolefile.specs.Said.{roles, above}
-use Rattle.rolefile.proofs.Sections.{part, Section, says-two}
+use Rattle.rolefile.specs.Section.{part}
+use Rattle.rolefile.proofs.Sections.{Section, says-two}
 use Rattle.rolefile.specs.WellFormed.{GoodLines}
 use Rattle.policy.specs.Policy.{senior}
 use Rattle.policy.specs.Tables.{seniorsAt, pairs, Related}
@@ -97,7 +98,7 @@ rank-fine f r e z = rw (← e, z)
 
 -- the stage as its function has it
 module _ (f : List ℕ) (q : Parts) (h : Line) (ready : Ready f q h) (xs ys zs p : List ℕ) (r : ℕ) (long : 65536 ≤ length xs)
-    (ys-long : length ys ≡ length xs) (zs-long : length zs ≡ length ys) (zeros : Zeros 2064 4112 xs) (its : p ≡ drop (22 * q .s .start) f)
+    (ys-long : length ys ≡ length xs) (zs-long : length zs ≡ length ys) (zeros : Zeros 2064 4112 xs) (its : p ≡ part f (q .s .start))
     (filled : Related 2064 128 (λ x r. pairs p (q .s .count) r x) xs ys)
     (pathed : Tabled 2064 (min (h .b) 128) (path (min (h .b) 128) (related ys 2064)) ys zs)
     (lowest : r ≡ cond (leb (2064 + 2048) (length zs)) (loop (min (h .b) 128) (related zs 2064)) 0) where

@@ -10,12 +10,12 @@ use Rattle.rolefile.specs.declared.Line.{Line}
 use Rattle.rolefile.specs.Line.{H, D, S, U, O, P, A, lineAt, lines}
 use Rattle.rolefile.specs.Form.{header, firstLimit, secondLimit, linesVerdict}
 use Rattle.rolefile.specs.Said.{labels, roles}
-use Rattle.rolefile.specs.Section.{one, two}
+use Rattle.rolefile.specs.Section.{part, one, two}
 use Rattle.rolefile.specs.WellFormed.{Sized, GoodCounts, GoodNumbers, GoodLines}
 use Rattle.rolefile.specs.Decimal.{letterByte}
 use Rattle.rolefile.proofs.Decides.{decides-zero}
 use Rattle.rolefile.proofs.Formed.{header-counts, lines-decides}
-use Rattle.rolefile.proofs.Sections.{part, Cut, Section, cut-first, cut-next, section-of, told}
+use Rattle.rolefile.proofs.Sections.{Cut, Section, cut-first, cut-next, section-of, told}
 use Rattle.policy.specs.declared.build.Parts.{Parts}
 use Rattle.policy.specs.Stages.{Laid, Ready}
 

@@ -1,10 +1,10 @@
 -- What each stage of a load finds and leaves, for the contracts of the functions that make it. Assumes nothing.
-use Prim.Native.Nat.{ℕ, _+_, _*_, _≤_, _<_}
+use Prim.Native.Nat.{ℕ, _+_, _≤_, _<_}
 use mathlib.Core.Path.{_≡_}
 use mathlib.Core.List.{List}
 use mathlib.Core.Bool.{Bool, false, _&&_}
 use lib.Dec.{leb}
-use lib.ListN.{getD, drop}
+use lib.ListN.{getD}
 use Rattle.search.specs.Search.{Among}
 use Rattle.roleset.specs.Row.{Kept}
 use Rattle.order.specs.Closure.{path}
@@ -14,7 +14,7 @@ use Rattle.rolefile.specs.declared.Verdict.{Verdict}
 use Rattle.rolefile.specs.Line.{lineAt}
 use Rattle.rolefile.specs.Form.{linesVerdict, unlabelledVerdict}
 use Rattle.rolefile.specs.Said.{labels, over}
-use Rattle.rolefile.specs.Section.{Leads}
+use Rattle.rolefile.specs.Section.{part, Leads}
 use Rattle.policy.specs.declared.build.Parts.{Parts}
 use Rattle.policy.specs.Policy.{dominates}
 use Rattle.policy.specs.Verdict.{roleVerdict, verdict}
@@ -23,17 +23,17 @@ use Rattle.policy.specs.Image.{Labelled, Dominating, Seniors, Permitting
 -- the lines of each letter stand where q says
 pub record Laid (f : List ℕ) (q : Parts) : Type 0 where
   pub first : q .d .start ≡ 1
-  pub d : Leads (drop (22 * q .d .start) f) 68 (q .d .count)
+  pub d : Leads (part f (q .d .start)) 68 (q .d .count)
   pub s-after : q .s .start ≡ q .d .start + q .d .count
-  pub s : Leads (drop (22 * q .s .start) f) 83 (q .s .count)
+  pub s : Leads (part f (q .s .start)) 83 (q .s .count)
   pub u-after : q .u .start ≡ q .s .start + q .s .count
-  pub u : Leads (drop (22 * q .u .start) f) 85 (q .u .count)
+  pub u : Leads (part f (q .u .start)) 85 (q .u .count)
   pub o-after : q .o .start ≡ q .u .start + q .u .count
-  pub o : Leads (drop (22 * q .o .start) f) 79 (q .o .count)
+  pub o : Leads (part f (q .o .start)) 79 (q .o .count)
   pub p-after : q .p .start ≡ q .o .start + q .o .count
-  pub p : Leads (drop (22 * q .p .start) f) 80 (q .p .count)
+  pub p : Leads (part f (q .p .start)) 80 (q .p .count)
   pub a-after : q .a .start ≡ q .p .start + q .p .count
-  pub a : Leads (drop (22 * q .a .start) f) 65 (q .a .count)
+  pub a : Leads (part f (q .a .start)) 65 (q .a .count)
 
 -- a file whose lines have nothing to refuse, laid out, with its counts in h
 pub record Ready (f : List ℕ) (q : Parts) (h : Line) : Type 0 where

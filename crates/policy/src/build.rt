@@ -9,13 +9,13 @@ use rolefile::Verdict;
 use rolefile::check;
 use rolefile::read;
 ghost use mathlib.Core.Path.{_≡_};
-ghost use Prim.Native.Nat.{_+_, _*_, _≤_, _<_, min};
-ghost use lib.ListN.{length, drop};
+ghost use Prim.Native.Nat.{_+_, _≤_, _<_, min};
+ghost use lib.ListN.{length};
 ghost use Rattle.roleset.specs.Row.{Kept};
 ghost use Rattle.order.specs.Table.{mark};
 ghost use Rattle.rolefile.specs.Line.{lines};
 ghost use Rattle.rolefile.specs.Form.{scan};
-ghost use Rattle.rolefile.specs.Section.{Leads};
+ghost use Rattle.rolefile.specs.Section.{part, Leads};
 ghost use Rattle.rolefile.specs.WellFormed.{GoodCounts};
 ghost use Rattle.policy.specs.Tables.{word};
 ghost use Rattle.policy.specs.Image.{Labelled, Seniors, Levelled, Dominating};
@@ -39,7 +39,7 @@ pub struct Parts {
 }
 
 fn part_after(f: &[u8], start: usize, letter: u8) -> Part
-    ensures { λ q. ⌜ (q .start ≡ start) × Leads (drop (22 * start) (now (f .entry))) letter (q .count) ⌝ }
+    ensures { λ q. ⌜ (q .start ≡ start) × Leads (part (now (f .entry)) start) letter (q .count) ⌝ }
 {
     let p = read::part(f, start);
     let count = read::leading(p, letter);

@@ -5,17 +5,18 @@ use mathlib.Core.Path.{_≡_}
 use mathlib.Core.List.{List}
 use native.Mathlib.Omega.{arith}
 use native.Mathlib.Nat.{add-assoc}
-use lib.ListN.{drop, length-drop}
+use lib.ListN.{length-drop}
 use lib.Seq.{getD-drop}
 use Rattle.rolefile.specs.Line.{lineAt, lines, start}
+use Rattle.rolefile.specs.Section.{part}
 
 -- line k of the part starts where the file's line j + k does
 pub part-start : (j k : ℕ) → 1 ≤ k → start (j + k) ≡ 22 * j + start k
 part-start j k l = omega arith
 
-pub part-line : (f : List ℕ) (j k : ℕ) → 1 ≤ k → lineAt (drop (22 * j) f) k ≡ lineAt f (j + k)
+pub part-line : (f : List ℕ) (j k : ℕ) → 1 ≤ k → lineAt (part f j) k ≡ lineAt f (j + k)
 unfolding lineAt
 part-line f j k l = simp (getD-drop, part-start j k l, add-assoc)
 
-pub part-lines : (f : List ℕ) (j : ℕ) → lines (drop (22 * j) f) ≡ lines f - j
+pub part-lines : (f : List ℕ) (j : ℕ) → lines (part f j) ≡ lines f - j
 part-lines f j = rw length-drop (omega arith)

@@ -1,6 +1,6 @@
 -- The letters of a file whose lines are all good come in the table's order, so the lines of one letter are a section of the file: what the file says by
 -- that letter its section says, and the numbers of those lines are the figures of the part that starts there. Assumes nothing.
-use Prim.Native.Nat.{ℕ, zero, suc, _+_, _*_, _-_, _≤_, _<_}
+use Prim.Native.Nat.{ℕ, zero, suc, _+_, _-_, _≤_, _<_}
 use mathlib.Core.Path.{_≡_, refl, sym, _∙_}
 use mathlib.Core.Logic.{_↔_, ⊎-elim}
 use mathlib.Core.List.{List}
@@ -9,7 +9,7 @@ use native.Mathlib.Omega.{arith}
 use native.Mathlib.Nat.{add-zero, add-suc}
 use native.Mathlib.Decide.{decLt}
 use lib.Dec.{leb, eqb}
-use lib.ListN.{getD, drop, length-drop}
+use lib.ListN.{getD}
 use lib.Seq.{getD-drop}
 use borrow.Author.Tests.{eqb-true, eq-eqb, le-leb}
 use Rattle.search.specs.Search.{Among, some}
@@ -21,15 +21,11 @@ use Rattle.rolefile.specs.Form.{count, about}
 use Rattle.rolefile.specs.Said.{is, says, last, labelBy}
 use Rattle.rolefile.specs.WellFormed.{GoodLines}
 use Rattle.rolefile.specs.Decimal.{letterByte}
-use Rattle.rolefile.specs.Section.{one, two, three, letterAt, Leads}
+use Rattle.rolefile.specs.Section.{part, one, two, three, letterAt, Leads}
 use Rattle.rolefile.proofs.Decimals.{figures}
 use Rattle.rolefile.proofs.Written.{Reads, Stands, letter-iff, line-iff}
 use Rattle.rolefile.proofs.Parts.{part-start, part-line, part-lines}
 use Rattle.rolefile.proofs.Within.{Within, some-within, count-within, last-within}
-
--- the part of a file after j lines
-abbrev pub part : List ℕ → ℕ → List ℕ
-part f j = drop (22 * j) f
 
 -- the first j lines are of letters before k, and the others are not
 pub record Cut (f : List ℕ) (k j : ℕ) : Type 0 where
@@ -162,7 +158,7 @@ module _ (f : List ℕ) (good : GoodLines f) {k j m : ℕ} (s : Section f k j m)
   third i w t e = rw e at (line-reads i w .c)
 
   there : (i : ℕ) → Among m i → leb i (lines (part f j)) ≡ true
-  there i w = let fits = s .fits in le-leb i (lines (part f j)) (rw (length-drop (22 * j) f) (omega arith))
+  there i w = let fits = s .fits in le-leb i (lines (part f j)) (omega (arith, part-lines f j))
 
   pub told : Told (part f j) (λ i. lineAt f (j + i)) m
   unfolding one two three fields

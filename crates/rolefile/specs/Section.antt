@@ -5,9 +5,13 @@ use mathlib.Core.Path.{_≡_}
 use mathlib.Core.List.{List}
 use mathlib.Core.Bool.{cond}
 use lib.Dec.{leb}
-use lib.ListN.{getD}
+use lib.ListN.{getD, drop}
 use Rattle.search.specs.Search.{Among}
 use Rattle.rolefile.specs.Line.{start, lines}
+
+-- the part of a file after its first j lines
+abbrev pub part : List ℕ → ℕ → List ℕ
+part f j = drop (22 * j) f
 
 -- what five columns come to, each by its last four bits: a blank counts 0, and a digit its value
 abbrev pub figure : List ℕ → ℕ → ℕ

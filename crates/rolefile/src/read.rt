@@ -3,10 +3,10 @@ use super::Field;
 use super::Line;
 ghost use mathlib.Core.Path.{_≡_};
 ghost use mathlib.Core.Bool.{false};
-ghost use Prim.Native.Nat.{_+_, _*_, _%_, _≤_, _<_};
-ghost use lib.ListN.{length, drop};
+ghost use Prim.Native.Nat.{_+_, _%_, _≤_, _<_};
+ghost use lib.ListN.{length};
 ghost use Rattle.rolefile.specs.Field.{isDigit, column, fieldAt};
-ghost use Rattle.rolefile.specs.Section.{figure, figureOf, one, two, three, Leads};
+ghost use Rattle.rolefile.specs.Section.{part, figure, figureOf, one, two, three, Leads};
 ghost use Rattle.rolefile.specs.Line.{letterOf, fields, fits, takenOut, noLine, lineOf, lineFrom, lineAt, textAt};
 
 // Whether the byte is a digit.
@@ -314,7 +314,7 @@ pub fn leading(p: &[u8], letter: u8) -> usize
 
 // The part of the file that starts after its first j lines.
 pub fn part(f: &[u8], j: usize) -> &[u8]
-    ensures { λ p. ⌜ now p ≡ drop (22 * j) (now (f .entry)) ⌝ }
+    ensures { λ p. ⌜ now p ≡ part (now (f .entry)) j ⌝ }
 {
     let n = f.len() / 22;
     if n < j {

@@ -1,13 +1,12 @@
 -- Each letter's lines end within the file, so that the sums fit.
-use Prim.Native.Nat.{ℕ, _+_, _*_, _≤_}
+use Prim.Native.Nat.{ℕ, _+_, _≤_}
 use mathlib.Core.Path.{_≡_}
 use mathlib.Core.List.{List}
 use native.Mathlib.Omega.{arith}
 use borrow.Author.Needs.{needs}
 use denote.Ref.{now}
-use lib.ListN.{drop}
 use Rattle.rolefile.specs.Line.{lines}
-use Rattle.rolefile.specs.Section.{Leads}
+use Rattle.rolefile.specs.Section.{part, Leads}
 use Rattle.rolefile.proofs.Parts.{part-lines}
 use Rattle.policy.specs.declared.build.Part.{Part}
 use Rattle.policy.proofs.build.lay_out.Statement.{statement}
@@ -17,7 +16,7 @@ use Rattle.policy.proofs.build.lay_out.Tie as tie
 abbrev Ends : List ℕ → Part → Type 0
 Ends f q = q .start + q .count ≤ lines f + 1
 
-ends : (f : List ℕ) (j b : ℕ) (q : Part) → (q .start ≡ j) × Leads (drop (22 * j) f) b (q .count) → j ≤ lines f + 1 → Ends f q
+ends : (f : List ℕ) (j b : ℕ) (q : Part) → (q .start ≡ j) × Leads (part f j) b (q .count) → j ≤ lines f + 1 → Ends f q
 ends f j b q (e, h) l = omega (arith, h .fits, part-lines f j)
 
 d-ends : (c : tie.After-part-after) → Ends (now (c .before .before .args .f)) (c .part-after .result)
