@@ -13,7 +13,7 @@ use Rattle.search.proofs.Found.{first-agree}
 use Rattle.order.specs.Closure.{Relation, path, loop, circle, reflexive}
 use Rattle.order.specs.Bound.{partnerWithoutBound, lowestWithoutBound, FirstWithoutBound}
 use Rattle.order.specs.Table.{mark, Rows}
-use Rattle.order.proofs.Closure.{via-agree}
+use Rattle.order.proofs.Closure.{Agree, via-agree}
 use Rattle.order.proofs.Bound.{first-without-agree}
 use Rattle.rolefile.specs.Line.{D, fields}
 use Rattle.rolefile.specs.Form.{refusal, found}
@@ -39,9 +39,9 @@ module _ (f : List ℕ) (good : GoodLines f) (few : labels f ≤ 32) {j m : ℕ}
   -- t has the marks of the D lines, and u its paths
   pub paths-of : (t u : List (List Bool)) → Marking (part f j) m t → Rows 32 (labels f) (path (labels f) (mark t)) (mark t) (mark u) → Paths f u
   paths-of t u said rows = record {
-    inside = λ a b v w. rows .done a b v w
+    done = λ a b v w. rows .done a b v w
         ∙ via-agree (labels f) 32 (mark t) (over f) few (λ a b v w. said a b (omega arith) w ∙ pairs-over a b) (labels f) (omega arith) a b v w;
-    outside = λ a b l v w. rows .left a b l v w
+    left = λ a b l v w. rows .left a b l v w
         ∙ said a b (omega arith) w ∙ pairs-over a b ∙ untrue (over f a b) (λ e. let k = over-between f good a b e in omega arith);
   }
 
@@ -49,11 +49,15 @@ pub closed-of : (f : List ℕ) (t c : List (List Bool)) → Paths f t
     → Rows 32 (labels f) (reflexive (mark t)) (mark t) (mark c) → Closed f c
 unfolding dominates
 closed-of f t c p rows a b v w = elim (decLt (labels f) a) [
-  | yes l ↦ rows .left a b l (v .1) w ∙ p .outside a b l (v .1) w ∙ rw (lt-leb a (labels f) l)
+  | yes l ↦ rows .left a b l (v .1) w ∙ p .left a b l (v .1) w ∙ rw (lt-leb a (labels f) l)
   | no l ↦
       let u : Among (labels f) a = omega arith in
-      rows .done a b u w ∙ rw (p .inside a b u w, le-leb a (labels f) (u .1))
+      rows .done a b u w ∙ rw (p .done a b u w, le-leb a (labels f) (u .1))
 ]
+
+-- on the labels it is dominance
+pub closed-agree : (f : List ℕ) (t : List (List Bool)) → labels f ≤ 32 → Closed f t → Agree (labels f) (labels f) (mark t) (dominates f)
+closed-agree f t few closed a b v w = closed a b (omega arith) (omega arith) ∙ rw (le-leb a (labels f) (v .1))
 
 -- ---- 11 and 12
 
@@ -70,16 +74,13 @@ pub order-verdict-is : (f : List ℕ) (t c : List (List Bool)) → labels f ≤ 
     → orderVerdict (labels f) (mark t) (mark c) ≡ labelVerdict f
 unfolding orderVerdict labelVerdict
 order-verdict-is f t c few p closed =
-    rw (loops, pair-verdict n (mark c) a b here, pair-verdict n (dominates f) a b (first-without-agree n (mark c) (dominates f) agree a b here))
+    rw (loops, pair-verdict n (mark c) a b here, pair-verdict n (dominates f) a b (first-without-agree n (mark c) (dominates f) (closed-agree f c few closed) a b here))
   where
     n : ℕ
     n = labels f
 
     loops : loop n (mark t) ≡ circle n (over f)
-    loops = first-agree (λ a. mark t a a) (λ a. path n (over f) a a) n (λ a w. p .inside a a w (omega arith))
-
-    agree : (a b : ℕ) → Among n a → Among n b → mark c a b ≡ dominates f a b
-    agree a b v w = closed a b (omega arith) (omega arith) ∙ rw (le-leb a n (v .1))
+    loops = first-agree (λ a. mark t a a) (λ a. path n (over f) a a) n (λ a w. p .done a a w (omega arith))
 
     a : ℕ
     a = lowestWithoutBound n (mark c)

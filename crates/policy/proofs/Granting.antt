@@ -34,6 +34,7 @@ use Rattle.policy.specs.Image.{Labelled, Seniors, Permitting, Allows}
 use Rattle.policy.specs.Stages.{Ready, Zeros, Closed, Granting}
 use Rattle.policy.proofs.Readying.{good-of, counts-of, section-p, one-within, limits-p}
 use Rattle.policy.proofs.Inside.{Between, closure-between, above-between}
+use Rattle.policy.proofs.Dominance.{closed-agree}
 use Rattle.policy.proofs.Builds.{seniors-stay, permitting-stays}
 use Rattle.policy.proofs.Gathering.{level-empty, level-agree}
 
@@ -205,7 +206,7 @@ module _ (f : List ℕ) (q : Parts) (h : Line) (t up : List (List Bool)) (x₀ x
 
   -- the orders of the two bounds
   dominance : Agree (labels f) (labels f) (mark t) (dominates f)
-  dominance a b v w = closed a b (omega (arith, counts .labels)) (omega (arith, counts .labels)) ∙ rw (le-leb a (labels f) (v .1))
+  dominance = closed-agree f t (counts .labels .1) closed
 
   upward : Agree (labels f) (labels f) (converse (mark up)) (dominates f)
   upward a b v w = turns b a (omega (arith, counts .labels)) (omega (arith, counts .labels)) ∙ dominance a b v w

@@ -8,7 +8,7 @@ use lib.ListN.{getD}
 use Rattle.search.specs.Search.{Among}
 use Rattle.roleset.specs.Row.{Kept}
 use Rattle.order.specs.Closure.{path}
-use Rattle.order.specs.Table.{mark}
+use Rattle.order.specs.Table.{mark, Rows}
 use Rattle.rolefile.specs.declared.Line.{Line}
 use Rattle.rolefile.specs.declared.Verdict.{Verdict}
 use Rattle.rolefile.specs.Line.{lineAt}
@@ -52,9 +52,8 @@ pub record Noting (f : List ℕ) (v : Verdict) (xs ys : List ℕ) : Type 0 where
   pub rest : Kept 1040 1808 xs ys
 
 -- the paths of dominance, and its closure, as tables
-pub record Paths (f : List ℕ) (t : List (List Bool)) : Type 0 where
-  pub inside : (a b : ℕ) → Among (labels f) a → Among 32 b → mark t a b ≡ path (labels f) (over f) a b
-  pub outside : (a b : ℕ) → labels f < a → a ≤ 32 → Among 32 b → mark t a b ≡ false
+abbrev pub Paths : List ℕ → List (List Bool) → Type 0
+Paths f t = Rows 32 (labels f) (path (labels f) (over f)) (λ a b. false) (mark t)
 
 abbrev pub Closed : List ℕ → List (List Bool) → Type 0
 Closed f t = (a b : ℕ) → Among 32 a → Among 32 b → mark t a b ≡ (leb a (labels f) && dominates f a b)
