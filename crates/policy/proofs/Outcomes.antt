@@ -70,21 +70,18 @@ module _ (f : List ℕ) where
   refused : {v : Verdict} → Refusal f v → v ≡ verdict f
   refused {v} r = verdict-decides f .bad v r .0
 
-  pub outcome-only : (v : Verdict) → Outcome f v → v ≡ verdict f
-  outcome-only v o = only o
-    where
-      only : {v : Verdict} → Outcome f v → v ≡ verdict f
-      only (accepted a) = sym (verdict-decides f .good a)
-      only (badSize h) = refused (inl (inl (inl (h, refl))))
-      only (badLine {n} {k} s w low l) = refused (inl (inl (inr (s, (k, record { inside = w; holds = (n, l, refl); lower = low })))))
-      only (badUser {u} s g l) = refused (inl (inr ((s, g), inl (u, l, refl))))
-      only (badCard {o} s g us l) = refused (inl (inr ((s, g), inr (us, (o, l, refl)))))
-      only (labelCircle {a} w l) = refused (inr (w, inl (a, l, refl)))
-      only (noBound {a} {b} w d p) = refused (inr (w, inr (d, inl (a, b, p, refl))))
-      only (roleCircle {r} o l) =
-          refused (inr (o .form, inr (o .dominance, inr (o .joins, inl (r, l, refl)))))
-      only (badAssignment {n} {i} o s w l low r) =
-          refused (inr (o .form, inr (o .dominance, inr (o .joins, inr (s, (i, record { inside = w; holds = (l, (n, r, refl)); lower = low }))))))
+  pub outcome-only : {v : Verdict} → Outcome f v → v ≡ verdict f
+  outcome-only (accepted a) = sym (verdict-decides f .good a)
+  outcome-only (badSize h) = refused (inl (inl (inl (h, refl))))
+  outcome-only (badLine {n} {k} s w low l) = refused (inl (inl (inr (s, (k, record { inside = w; holds = (n, l, refl); lower = low })))))
+  outcome-only (badUser {u} s g l) = refused (inl (inr ((s, g), inl (u, l, refl))))
+  outcome-only (badCard {o} s g us l) = refused (inl (inr ((s, g), inr (us, (o, l, refl)))))
+  outcome-only (labelCircle {a} w l) = refused (inr (w, inl (a, l, refl)))
+  outcome-only (noBound {a} {b} w d p) = refused (inr (w, inr (d, inl (a, b, p, refl))))
+  outcome-only (roleCircle {r} o l) =
+      refused (inr (o .form, inr (o .dominance, inr (o .joins, inl (r, l, refl)))))
+  outcome-only (badAssignment {n} {i} o s w l low r) =
+      refused (inr (o .form, inr (o .dominance, inr (o .joins, inr (s, (i, record { inside = w; holds = (l, (n, r, refl)); lower = low }))))))
 
   pub accepted-iff : (verdict f .number ≡ 0) ↔ Accepted f
   accepted-iff = decides-zero (verdict-decides f)
