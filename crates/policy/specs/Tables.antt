@@ -135,7 +135,7 @@ countIn xs at most = cond (isState xs) (min (word xs at) most) 0
 
 -- that of the roles
 abbrev pub roleCount : List ℕ → ℕ
-roleCount xs = cond (isState xs) (rolesUpTo xs) 0
+roleCount xs = countIn xs 2 128
 
 -- the role's byte of the table of levels at `at`
 abbrev pub levelIn : List ℕ → ℕ → ℕ → ℕ
