@@ -10,7 +10,7 @@ use lib.Dec.{eqb}
 use lib.ListN.{length, getD}
 use borrow.Author.Tests.{eq-eqb, ne-eqb}
 use Rattle.search.specs.Search.{Among, some}
-use Rattle.search.proofs.Found.{some-more, some-agree}
+use Rattle.search.proofs.Found.{some-more, some-yet, some-agree}
 use Rattle.roleset.specs.Row.{rowOf, whole, member, united, Placed}
 use Rattle.roleset.proofs.Rows.{whole-true}
 use Rattle.order.specs.Closure.{Relation}
@@ -49,8 +49,8 @@ unfolding gathered
 gathered-more xs at o l r = sym (some-more (λ k. eqb (byteOf xs cardLabelsAt k) l && member xs (rowOf at k) r) o)
 
 pub gathered-yet : (xs : List ℕ) (at l r : ℕ) → gathered xs at 0 l r ≡ false
-unfolding gathered Rattle.search.specs.Search.some
-gathered-yet xs at l r = refl
+unfolding gathered
+gathered-yet xs at l r = some-yet _
 
 -- ---- the level of a set, as it is kept
 

@@ -11,7 +11,7 @@ use lib.ListN.{length}
 use borrow.Author.Tests.{eq-eqb, ne-eqb, eqb-true}
 use Rattle.search.specs.Search.{among, Among}
 use Rattle.search.proofs.Truth.{and-iff, and-when, and-right, among-iff, false-iff, same}
-use Rattle.search.proofs.Found.{some-more}
+use Rattle.search.proofs.Found.{some-more, some-yet}
 use Rattle.roleset.specs.Row.{member, rowOf, added, joined, Kept, Placed}
 use Rattle.roleset.proofs.Rows.{row-kept, rows-apart, whole-true}
 use Rattle.order.specs.Closure.{Relation}
@@ -80,8 +80,8 @@ pub pairs-back : (p : List ℕ) (i a b x y : ℕ) → a ≡ one p (i + 1) → b 
 pairs-back p i a b x y ea eb = ap (λ t. pairs p i x y || t) (and-comm (eqb b y) (eqb a x)) ∙ pairs-more p i a b x y ea eb
 
 pub pairs-none : (p : List ℕ) (x y : ℕ) → pairs p 0 x y ≡ false
-unfolding pairs Rattle.search.specs.Search.some
-pairs-none p x y = refl
+unfolding pairs
+pairs-none p x y = some-yet _
 
 -- ---- a card's row at a time
 
@@ -171,5 +171,5 @@ granted-line xs ys p i a b c d o r ea eb ec kept =
         row-kept xs ys kept (rowOf seniorsAt a) r (inl (omega arith)))
 
 pub granted-yet : (xs p : List ℕ) (d o r : ℕ) → grantedByLines xs p 0 d o r ≡ false
-unfolding grantedByLines Rattle.search.specs.Search.some
-granted-yet xs p d o r = refl
+unfolding grantedByLines
+granted-yet xs p d o r = some-yet _
