@@ -9,7 +9,6 @@ use Rattle.roleset.proofs.Rows.{same-bytes}
 use Rattle.rolefile.specs.declared.Verdict.{Verdict}
 use Rattle.rolefile.specs.Line.{lines}
 use Rattle.rolefile.specs.Form.{_then_, scan, linesVerdict, unlabelledVerdict, formVerdict}
-use Rattle.rolefile.specs.Said.{labels, roles}
 use Rattle.rolefile.proofs.Verdicts.{Refuses, then-next, then-stop, then-joined}
 use Rattle.policy.specs.Verdict.{labelVerdict, roleVerdict, assignmentVerdict, policyVerdict, verdict}
 use Rattle.policy.specs.Tables.{clearancesAt, cardLabelsAt, rLevelsAt, wLevelsAt, seniorsAt, assignedAt, readersAt, writersAt, word, markAt}

@@ -1,7 +1,6 @@
 -- The lines of the letter D are marked, and the marks closed.
 use borrow.Author.Needs.{needs}
 use denote.Ref.{now}
-use Rattle.rolefile.specs.Said.{labels}
 use Rattle.policy.proofs.Readying.{good-of, counts-of, section-d, head-labels}
 use Rattle.policy.proofs.Dominance.{paths-of}
 use Rattle.policy.proofs.build.dominance.Statement.{statement}
