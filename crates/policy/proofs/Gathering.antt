@@ -1,14 +1,13 @@
 -- The roles that have a card of a label, gathered card by card. Assumes nothing.
 use Prim.Native.Nat.{ℕ, zero, suc, _+_, _*_, _≤_}
-use mathlib.Core.Path.{_≡_, refl, sym, _∙_}
+use mathlib.Core.Path.{_≡_, refl, sym}
 use mathlib.Core.Bool.{Bool, true, false, _&&_, _||_, or-false}
 use mathlib.Core.List.{List}
 use native.Mathlib.Nat.{add-sub-cancel}
 use native.Mathlib.Omega.{arith}
-use native.Mathlib.Decide.{ℕ-discrete}
 use lib.Dec.{eqb}
 use lib.ListN.{length, getD}
-use borrow.Author.Tests.{eq-eqb, ne-eqb}
+use borrow.Author.Tests.{ne-eqb}
 use Rattle.search.specs.Search.{Among, some}
 use Rattle.search.proofs.Found.{some-more, some-yet, some-agree}
 use Rattle.roleset.specs.Row.{rowOf, whole, member, united, Placed}
@@ -19,7 +18,7 @@ use Rattle.order.proofs.Closure.{Agree}
 use Rattle.order.proofs.Bound.{lub-agree}
 use Rattle.policy.specs.Policy.{levelAt, level, levelNumber}
 use Rattle.policy.specs.Tables.{byteOf, cardLabelsAt, gathered}
-use Rattle.policy.proofs.Relating.{others-stay}
+use Rattle.policy.proofs.Relating.{row-united}
 
 -- what card o + 1 brings to the row of label l
 abbrev brings : List ℕ → ℕ → ℕ → ℕ → ℕ → Bool
@@ -37,12 +36,9 @@ module _ (xs : List ℕ) (at o label : ℕ) (e : label ≡ getD xs (cardLabelsAt
       → ((r : ℕ) → member other 0 r ≡ (whole xs (at + 16 * o) && member xs (at + 16 * o) r))
       → Placed (rowOf 0 label) (united g (rowOf 0 label) other) g h
       → (l r : ℕ) → Among 32 l → member h (rowOf 0 l) r ≡ (member g (rowOf 0 l) r || brings xs at o l r)
-  brings-row g h other long v fits row p l r w = elim (ℕ-discrete l label) [
-    | yes q ↦
-        rw (q, byte-is, eq-eqb label label refl, add-sub-cancel o 1)
-        (p .row (omega arith) r ∙ rw (row r, whole-true xs (at + 16 * o) fits))
-    | no q ↦ others-stay 0 32 label _ g h p v l r w q ∙ brings-none g l r (λ i. q (sym i))
-  ]
+  brings-row g h other long v fits row p l r w =
+      rw (byte-is, add-sub-cancel o 1)
+      (row-united 0 32 label p v (member xs (at + 16 * o)) (omega arith) l r w (rw (row r, whole-true xs (at + 16 * o) fits)))
 
 pub gathered-more : (xs : List ℕ) (at o l r : ℕ) → (gathered xs at o l r || brings xs at o l r) ≡ gathered xs at (o + 1) l r
 unfolding gathered

@@ -19,12 +19,20 @@ use Rattle.rolefile.specs.Section.{one, two, three}
 use Rattle.policy.specs.Tables.{seniorsAt, readersAt, writersAt, pairs, grantedByLines, Related, GrantedRows, Unites}
 
 -- where one row of a table is placed, the others stay
-module _ (at size x : ℕ) (s : ℕ → Bool) (xs ys : List ℕ) (p : Placed (rowOf at x) s xs ys) (w : Among size x) where
-  pub others-stay : (y r : ℕ) → Among size y → (y ≡ x → ⊥) → member ys (rowOf at y) r ≡ member xs (rowOf at y) r
+module _ (at size x : ℕ) {s : ℕ → Bool} {xs ys : List ℕ} (p : Placed (rowOf at x) s xs ys) (w : Among size x) where
+  others-stay : (y r : ℕ) → Among size y → (y ≡ x → ⊥) → member ys (rowOf at y) r ≡ member xs (rowOf at y) r
   others-stay y r v ne = row-kept xs ys (p .rest) (rowOf at y) r (rows-apart at x y (w .0) (v .0) ne)
 
   rest-stays : Kept at (at + 16 * size) xs ys
   rest-stays i out = p .rest i (λ l. let far = out (omega arith) in omega arith)
+
+  -- where it gets the roles of `new`, each row has what it had, and row x these too
+  pub row-united : (new : ℕ → Bool) → at + 16 * size ≤ length xs → (y r : ℕ) → Among size y → s r ≡ (member xs (rowOf at x) r || new r)
+      → member ys (rowOf at y) r ≡ (member xs (rowOf at y) r || (eqb x y && new r))
+  row-united new fits y r v e = elim (ℕ-discrete y x) [
+    | yes i ↦ rw (i, eq-eqb x x refl) (p .row (omega arith) r ∙ e)
+    | no i ↦ rw (ne-eqb x y (λ j. i (sym j))) (others-stay y r v i ∙ sym (or-false (member xs (rowOf at y) r)))
+  ]
 
 -- ---- a pair at a time
 
@@ -56,11 +64,8 @@ related-more {at} {size} {said} {more} {xs} {ys} {zs} t u = record {
 pub related-one : (at size x role : ℕ) (xs ys : List ℕ) → at + 16 * size ≤ length xs → Among size x
     → Placed (rowOf at x) (added xs (rowOf at x) role) xs ys → Related at size (λ y r. eqb x y && eqb role r) xs ys
 related-one at size x role xs ys fits v p = record {
-  rows = λ y r w u. elim (ℕ-discrete y x) [
-    | yes e ↦ rw (e, eq-eqb x x refl) (p .row (omega arith) r ∙ ap (λ b. member xs (rowOf at x) r || b) (its r u))
-    | no e ↦ rw (ne-eqb x y (λ q. e (sym q))) (others-stay at size x _ xs ys p v y r w e ∙ sym (or-false (member xs (rowOf at y) r)))
-  ];
-  rest = rest-stays at size x _ xs ys p v;
+  rows = λ y r w u. row-united at size x p v (eqb role) fits y r w (ap (λ b. member xs (rowOf at x) r || b) (its r u));
+  rest = rest-stays at size x p v;
 }
   where
     its : (r : ℕ) → Among 128 r → (among 128 role && eqb r role) ≡ eqb role r
@@ -120,22 +125,16 @@ modeAt d = readersAt + 8192 * (d - 1)
 -- the seniors of a role joined into the card's row of the mode's table
 module _ (role card mode : ℕ) (xs ys : List ℕ) (fits : 28688 ≤ length xs) (v : Among 128 role) (w : Among 512 card) (m : Among 2 mode)
     (p : Placed (rowOf (modeAt mode) card) (joined xs (rowOf (modeAt mode) card) (rowOf seniorsAt role)) xs ys) where
-  its-row : (r : ℕ) → member ys (rowOf (modeAt mode) card) r ≡ (member xs (rowOf (modeAt mode) card) r || lineGrants xs role card mode mode card r)
-  its-row r = rw (eq-eqb card card refl, eq-eqb mode mode refl, among-iff 128 role .1 v)
-      (p .row (omega arith) r ∙ rw (whole-true xs (rowOf seniorsAt role) (omega arith)))
-
-  -- another row of the two tables
-  other-row : (d o r : ℕ) → (rowOf (modeAt d) o + 16 ≤ rowOf (modeAt mode) card) ⊎ (rowOf (modeAt mode) card + 16 ≤ rowOf (modeAt d) o)
-      → lineGrants xs role card mode d o r ≡ false → member ys (rowOf (modeAt d) o) r ≡ (member xs (rowOf (modeAt d) o) r || lineGrants xs role card mode d o r)
-  other-row d o r far e = rw e (row-kept xs ys (p .rest) (rowOf (modeAt d) o) r far ∙ sym (or-false (member xs (rowOf (modeAt d) o) r)))
-
   mode-rows : (d : ℕ) → Among 2 d → Unites (modeAt d) 512 (lineGrants xs role card mode d) xs ys
   mode-rows d n o r u t = elim (ℕ-discrete mode d) [
-    | yes e ↦ elim (ℕ-discrete card o) [
-      | yes q ↦ rw (← e, ← q) (its-row r)
-      | no q ↦ other-row d o r (rw e (rows-apart (modeAt d) card o (w .0) (u .0) (λ i. q (sym i)))) (rw (ne-eqb card o q))
-    ]
-    | no e ↦ other-row d o r (elim (decLt d mode) [ yes l ↦ inl (omega arith) | no l ↦ inr (omega arith) ]) (rw (ne-eqb mode d e, and-false (eqb card o)))
+    | yes e ↦
+        rw (← e, eq-eqb mode mode refl)
+        (row-united (modeAt mode) 512 card p w (λ r. among 128 role && member xs (rowOf seniorsAt role) r) (omega arith) o r u
+        (rw (among-iff 128 role .1 v, whole-true xs (rowOf seniorsAt role) (omega arith))))
+    | no e ↦
+        rw (ne-eqb mode d e, and-false (eqb card o))
+        (row-kept xs ys (p .rest) (rowOf (modeAt d) o) r (elim (decLt d mode) [ yes l ↦ inl (omega arith) | no l ↦ inr (omega arith) ])
+        ∙ sym (or-false (member xs (rowOf (modeAt d) o) r)))
   ]
 
   pub granted : GrantedRows (lineGrants xs role card mode) xs ys
