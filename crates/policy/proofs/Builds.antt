@@ -1,9 +1,10 @@
 -- The stages of a load put together: the verdict is the first refusal of the stages, and each table stays as its stage left it. Assumes nothing.
-use Prim.Native.Nat.{ℕ, _+_, _-_, _≤_, _<_}
+use Prim.Native.Nat.{ℕ, _+_, _-_, _*_, _≤_, _<_}
 use mathlib.Core.Path.{_≡_, sym, _∙_}
 use mathlib.Core.List.{List}
 use native.Mathlib.Omega.{arith}
 use lib.ListN.{getD}
+use Rattle.search.specs.Search.{Among}
 use Rattle.roleset.specs.Row.{member, rowOf}
 use Rattle.roleset.proofs.Rows.{same-bytes}
 use Rattle.rolefile.specs.declared.Verdict.{Verdict}
@@ -57,11 +58,15 @@ module _ (f : List ℕ) where
 abbrev pub Same : ℕ → ℕ → List ℕ → List ℕ → Type 0
 Same a b xs ys = (i : ℕ) → a ≤ i → i < b → getD ys i 0 ≡ getD xs i 0
 
-module _ (f xs ys : List ℕ) where
-  row-stays : (a b at : ℕ) → Same a b xs ys → a ≤ at → at + 16 ≤ b → (r : ℕ) → member ys at r ≡ member xs at r
-  row-stays a b at s l m = same-bytes xs ys at at (λ k n. s (at + k) (omega arith) (omega arith))
+module _ (xs ys : List ℕ) where
+  rows-stay : (at size : ℕ) → Same at (at + 16 * size) xs ys → (x r : ℕ) → Among size x → member ys (rowOf at x) r ≡ member xs (rowOf at x) r
+  rows-stay at size s x r v = same-bytes xs ys (rowOf at x) (rowOf at x) (λ k n. s (rowOf at x + k) (omega arith) (omega arith)) r
 
-  labelled-stays : Same 1040 1808 xs ys → Labelled f xs → Labelled f ys
+  pub word-stays : (at : ℕ) → Same at (at + 2) xs ys → word ys at ≡ word xs at
+  word-stays at s = rw (s at (omega arith) (omega arith), s (at + 1) (omega arith) (omega arith))
+
+module _ (f xs ys : List ℕ) where
+  pub labelled-stays : Same 1040 1808 xs ys → Labelled f xs → Labelled f ys
   labelled-stays s t = record {
     users = λ u w. s (clearancesAt + (u - 1)) (omega arith) (omega arith) ∙ t .users u w;
     cards = λ o w. s (cardLabelsAt + (o - 1)) (omega arith) (omega arith) ∙ t .cards o w;
@@ -71,12 +76,12 @@ module _ (f xs ys : List ℕ) where
   dominating-stays s t a b v w = s (markAt a b) (omega arith) (omega arith) ∙ t a b v w
 
   pub seniors-stay : Same 2064 4112 xs ys → Seniors f xs → Seniors f ys
-  seniors-stay s t q r v w = row-stays 2064 4112 (rowOf seniorsAt q) s (omega arith) (omega arith) r ∙ t q r v w
+  seniors-stay s t q r v w = rows-stay xs ys seniorsAt 128 s q r v ∙ t q r v w
 
   pub permitting-stays : Same 12304 28688 xs ys → Permitting f xs → Permitting f ys
   permitting-stays s t = record {
-    readers = λ o r v w. row-stays 12304 28688 (rowOf readersAt o) s (omega arith) (omega arith) r ∙ t .readers o r v w;
-    writers = λ o r v w. row-stays 12304 28688 (rowOf writersAt o) s (omega arith) (omega arith) r ∙ t .writers o r v w;
+    readers = λ o r v w. rows-stay xs ys readersAt 512 (λ i l m. s i l (omega arith)) o r v ∙ t .readers o r v w;
+    writers = λ o r v w. rows-stay xs ys writersAt 512 (λ i l m. s i (omega arith) m) o r v ∙ t .writers o r v w;
   }
 
   levelled-stays : Same 1808 2064 xs ys → Levelled f xs → Levelled f ys
@@ -85,24 +90,21 @@ module _ (f xs ys : List ℕ) where
     writes = λ r w. s (wLevelsAt + (r - 1)) (omega arith) (omega arith) ∙ t .writes r w;
   }
 
-  word-stays : (at : ℕ) → Same 0 8 xs ys → at + 1 < 8 → word ys at ≡ word xs at
-  word-stays at s l = rw (s at (omega arith) (omega arith), s (at + 1) (omega arith) (omega arith))
-
   -- the tables end at byte 28,688
   pub describes-stays : Same 0 28688 xs ys → Describes f xs → Describes f ys
   describes-stays s t = record {
     counted = record {
-      labels = word-stays 0 (λ i l m. s i l (omega arith)) (omega arith) ∙ t .counted .labels;
-      roles = word-stays 2 (λ i l m. s i l (omega arith)) (omega arith) ∙ t .counted .roles;
-      users = word-stays 4 (λ i l m. s i l (omega arith)) (omega arith) ∙ t .counted .users;
-      cards = word-stays 6 (λ i l m. s i l (omega arith)) (omega arith) ∙ t .counted .cards;
+      labels = word-stays xs ys 0 (λ i l m. s i l (omega arith)) ∙ t .counted .labels;
+      roles = word-stays xs ys 2 (λ i l m. s i (omega arith) (omega arith)) ∙ t .counted .roles;
+      users = word-stays xs ys 4 (λ i l m. s i (omega arith) (omega arith)) ∙ t .counted .users;
+      cards = word-stays xs ys 6 (λ i l m. s i (omega arith) (omega arith)) ∙ t .counted .cards;
     };
     labelled = labelled-stays (λ i l m. s i (omega arith) (omega arith)) (t .labelled);
     dominating = dominating-stays (λ i l m. s i (omega arith) (omega arith)) (t .dominating);
     seniors = seniors-stay (λ i l m. s i (omega arith) (omega arith)) (t .seniors);
     permitting = permitting-stays (λ i l m. s i (omega arith) m) (t .permitting);
     levelled = levelled-stays (λ i l m. s i (omega arith) (omega arith)) (t .levelled);
-    assigning = λ u r v w. row-stays 0 28688 (rowOf assignedAt u) s (omega arith) (omega arith) r ∙ t .assigning u r v w;
+    assigning = λ u r v w. rows-stay xs ys assignedAt 256 (λ i l m. s i (omega arith) (omega arith)) u r v ∙ t .assigning u r v w;
   }
 
 -- from zeros to the image, stage by stage

@@ -1,35 +1,31 @@
--- The last stage: counts and assigned roles. Bytes that a store leaves alone keep what is read of them. Assumes nothing.
-use Prim.Native.Nat.{ℕ, _+_, _≤_}
+-- The last stage: counts and assigned roles. Assumes nothing.
+use Prim.Native.Nat.{ℕ}
 use mathlib.Core.Path.{_≡_, refl, _∙_}
 use mathlib.Core.Logic.{inr}
 use mathlib.Core.List.{List}
 use native.Mathlib.Omega.{arith}
 use Rattle.roleset.specs.Row.{rowOf, Kept}
-use Rattle.roleset.proofs.Rows.{zero-row, row-kept}
+use Rattle.roleset.proofs.Rows.{row-kept}
 use Rattle.rolefile.specs.declared.Line.{Line}
-use Rattle.rolefile.specs.Line.{A, fields}
+use Rattle.rolefile.specs.Line.{fields}
 use Rattle.rolefile.specs.Said.{assigned}
 use Rattle.rolefile.specs.Section.{part}
 use Rattle.policy.specs.declared.build.Parts.{Parts}
 use Rattle.policy.specs.Tables.{word, assignedAt, pairs, Related}
 use Rattle.policy.specs.Stages.{Ready, Zeros, Counting, Finishing}
 use Rattle.policy.proofs.Readying.{good-of, section-a}
+use Rattle.policy.proofs.Relating.{unites-zeros}
 use Rattle.policy.proofs.Ranks.{pairs-say}
-
--- a word apart from the bytes that have changed
-pub word-stays : (a b at : ℕ) (xs ys : List ℕ) → Kept a b xs ys → (a ≤ at + 1 → b ≤ at) → word ys at ≡ word xs at
-word-stays a b at xs ys kept out = rw (kept at (λ l. out (omega arith)), kept (at + 1) (λ l. let far = out l in omega arith))
+use Rattle.policy.proofs.Builds.{word-stays}
 
 module _ (h : Line) (v w x y z : List ℕ) (first : (word w 0 ≡ h .a) × Kept 0 2 v w) (second : (word x 2 ≡ h .b) × Kept 2 4 w x)
     (third : (word y 4 ≡ h .c) × Kept 4 6 x y) (fourth : (word z 6 ≡ h .d) × Kept 6 8 y z) where
   pub four-words : Counting h v z
   four-words = record {
     counts = record {
-      labels =
-          word-stays 6 8 0 y z (fourth .1) (λ l. omega arith) ∙ word-stays 4 6 0 x y (third .1) (λ l. omega arith)
-          ∙ word-stays 2 4 0 w x (second .1) (λ l. omega arith) ∙ first .0;
-      roles = word-stays 6 8 2 y z (fourth .1) (λ l. omega arith) ∙ word-stays 4 6 2 x y (third .1) (λ l. omega arith) ∙ second .0;
-      users = word-stays 6 8 4 y z (fourth .1) (λ l. omega arith) ∙ third .0;
+      labels = word-stays w z 0 (λ i l m. fourth .1 i (λ n. omega arith) ∙ third .1 i (λ n. omega arith) ∙ second .1 i (λ n. omega arith)) ∙ first .0;
+      roles = word-stays x z 2 (λ i l m. fourth .1 i (λ n. omega arith) ∙ third .1 i (λ n. omega arith)) ∙ second .0;
+      users = word-stays y z 4 (λ i l m. fourth .1 i (λ n. omega arith)) ∙ third .0;
       cards = fourth .0;
     };
     rest = λ i out.
@@ -39,19 +35,16 @@ module _ (h : Line) (v w x y z : List ℕ) (first : (word w 0 ≡ h .a) × Kept 
 
 module _ (f : List ℕ) (q : Parts) (h : Line) (ready : Ready f q h) (xs ys zs p : List ℕ) (zeros : Zeros 4112 8208 xs)
     (its : p ≡ part f (q .a .start)) (filled : Related 4112 256 (pairs p (q .a .count)) xs ys) (counted : Counting h ys zs) where
-  two-fields : fields A ≡ 2
-  unfolding fields
-  two-fields = refl
-
   said : (u r : ℕ) → pairs p (q .a .count) u r ≡ assigned f u r
-  said u r = rw its (pairs-say f (good-of f (ready .lines)) (section-a f q (ready .lines) (ready .laid)) two-fields u r)
+  unfolding fields
+  said u r = rw its (pairs-say f (good-of f (ready .lines)) (section-a f q (ready .lines) (ready .laid)) refl u r)
 
   pub finished : Finishing f xs zs
   finished = record {
     assigning = λ u r v w.
         row-kept ys zs (counted .rest) (rowOf assignedAt u) r (inr (omega arith))
-        ∙ filled .rows u r v w
-        ∙ rw (zero-row xs (rowOf assignedAt u) (λ k l. zeros (rowOf assignedAt u + k) (omega arith) (omega arith)) r) (said u r);
+        ∙ unites-zeros assignedAt 256 _ xs ys (filled .rows) zeros u r v w
+        ∙ said u r;
     counted = rw (ready .head) at (counted .counts);
     rest = λ i l out. counted .rest i (λ m. l) ∙ filled .rest i (λ m. let far = out m in omega arith);
   }

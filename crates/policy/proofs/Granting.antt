@@ -14,7 +14,6 @@ use Rattle.search.specs.Search.{Among, among, some}
 use Rattle.search.proofs.Truth.{and-iff, among-iff, untrue, same}
 use Rattle.search.proofs.Found.{some-of, some-iff, some-none, some-agree}
 use Rattle.roleset.specs.Row.{member, rowOf, Kept}
-use Rattle.roleset.proofs.Rows.{zero-row}
 use Rattle.order.specs.Closure.{Relation}
 use Rattle.order.specs.Bound.{converse}
 use Rattle.order.specs.Table.{mark}
@@ -35,8 +34,9 @@ use Rattle.policy.specs.Stages.{Ready, Zeros, Closed, Granting}
 use Rattle.policy.proofs.Readying.{good-of, counts-of, section-p, one-within, limits-p}
 use Rattle.policy.proofs.Inside.{Between, closure-between, above-between}
 use Rattle.policy.proofs.Dominance.{closed-agree}
-use Rattle.policy.proofs.Builds.{seniors-stay, permitting-stays}
+use Rattle.policy.proofs.Builds.{seniors-stay, permitting-stays, labelled-stays}
 use Rattle.policy.proofs.Gathering.{level-empty, level-agree}
+use Rattle.policy.proofs.Relating.{unites-zeros}
 
 -- ---- permissions
 
@@ -95,28 +95,22 @@ module _ (f xs : List ℕ) (good : GoodLines f) (few : roles f ≤ 128) (seniors
 
   pub permitted : (ys : List ℕ) → GrantedRows (grantedByLines xs (part f j) m) xs ys → Zeros readersAt 28688 xs → Permitting f ys
   permitted ys g zeros = record {
-    readers = λ o r v w. g .readers o r v w ∙ rw (none readersAt o r (omega arith) v) (may-is 1 o r w);
-    writers = λ o r v w. g .writers o r v w ∙ rw (none writersAt o r (omega arith) v) (may-is 2 o r w);
+    readers = λ o r v w. unites-zeros readersAt 512 _ xs ys (g .readers) (λ i l m. zeros i l (omega arith)) o r v w ∙ may-is 1 o r w;
+    writers = λ o r v w. unites-zeros writersAt 512 _ xs ys (g .writers) (λ i l m. zeros i (omega arith) m) o r v w ∙ may-is 2 o r w;
   }
-    where
-      none : (at o r : ℕ) → (readersAt ≤ at) × (at + 8192 ≤ 28688) → Among 512 o → member xs (rowOf at o) r ≡ false
-      none at o r l v = zero-row xs (rowOf at o) (λ k m. zeros (rowOf at o + k) (omega arith) (omega arith)) r
 
 -- ---- levels
 
-abbrev CardLabels : List ℕ → List ℕ → Type 0
-CardLabels f xs = (o : ℕ) → Among 512 o → byteOf xs cardLabelsAt o ≡ cardLabel f o
-
-may-at-is : (f xs : List ℕ) → cards f ≤ 512 → CardLabels f xs → (d at : ℕ) → Allows f d at xs
+may-at-is : (f xs : List ℕ) → cards f ≤ 512 → Labelled f xs → (d at : ℕ) → Allows f d at xs
     → (l r : ℕ) → Among 128 r → gathered xs at (cards f) l r ≡ mayAt f d r l
 unfolding gathered mayAt
-may-at-is f xs few label d at allows l r w =
+may-at-is f xs few labelled d at allows l r w =
     some-agree
     (λ o. eqb (byteOf xs cardLabelsAt o) l && member xs (rowOf at o) r)
     (λ o. may f d r o && eqb (cardLabel f o) l)
     (cards f) (λ o v.
     let u : Among 512 o = omega arith in
-    rw (label o u, allows o r u w) (and-comm (eqb (cardLabel f o) l) (may f d r o)))
+    rw (labelled .cards o u, allows o r u w) (and-comm (eqb (cardLabel f o) l) (may f d r o)))
 
 -- a number past the roles is no role's, and so may do nothing
 module _ (f : List ℕ) (between : Between (roles f) (above f)) (r : ℕ) (past : roles f < r) where
@@ -192,14 +186,11 @@ module _ (f : List ℕ) (q : Parts) (h : Line) (t up : List (List Bool)) (x₀ x
   permitting₃ : Permitting f x₃
   permitting₃ = permitting-stays f x₂ x₃ (λ i l m. kept₃ i (λ n. omega arith)) permitting₂
 
-  labels₂ : CardLabels f x₂
-  labels₂ o v =
-      grants .rest (cardLabelsAt + (o - 1)) (λ m. omega arith)
-      ∙ kept (cardLabelsAt + (o - 1)) (λ m. omega arith)
-      ∙ labelled .cards o v
+  labelled₂ : Labelled f x₂
+  labelled₂ = labelled-stays f x₀ x₂ (λ i l m. grants .rest i (λ n. omega arith) ∙ kept i (λ n. omega arith)) labelled
 
-  labels₃ : CardLabels f x₃
-  labels₃ o v = kept₃ (cardLabelsAt + (o - 1)) (λ m. omega arith) ∙ labels₂ o v
+  labelled₃ : Labelled f x₃
+  labelled₃ = labelled-stays f x₂ x₃ (λ i l m. kept₃ i (λ n. omega arith)) labelled₂
 
   zeros₂ : Zeros 1808 2064 x₂
   zeros₂ i l m = grants .rest i (λ n. omega arith) ∙ kept i (λ n. omega arith) ∙ no-level i l m
@@ -215,7 +206,7 @@ module _ (f : List ℕ) (q : Parts) (h : Line) (t up : List (List Bool)) (x₀ x
   unfolding rLevel
   read₃ =
       levels-are f counts between 1 rLevelsAt (converse (mark up)) (dominates f) reading x₂ x₃ upward
-      (λ l r v w. rw (ready .head) at reads l r v w ∙ may-at-is f x₂ (counts .cards) labels₂ 1 readersAt (permitting₂ .readers) l r w)
+      (λ l r v w. rw (ready .head) at reads l r v w ∙ may-at-is f x₂ (counts .cards) labelled₂ 1 readersAt (permitting₂ .readers) l r w)
       (rw (ready .head) at read-levels)
       (λ i l m. zeros₂ i (omega arith) (omega arith))
 
@@ -223,7 +214,7 @@ module _ (f : List ℕ) (q : Parts) (h : Line) (t up : List (List Bool)) (x₀ x
   unfolding wLevel
   written₄ =
       levels-are f counts between 2 wLevelsAt (converse (mark t)) (converse (dominates f)) writing x₃ x₄ (λ a b v w. dominance b a w v)
-      (λ l r v w. rw (ready .head) at writes l r v w ∙ may-at-is f x₃ (counts .cards) labels₃ 2 writersAt (permitting₃ .writers) l r w)
+      (λ l r v w. rw (ready .head) at writes l r v w ∙ may-at-is f x₃ (counts .cards) labelled₃ 2 writersAt (permitting₃ .writers) l r w)
       (rw (ready .head) at write-levels)
       (λ i l m. kept₃ i (λ n. omega arith) ∙ zeros₂ i (omega arith) (omega arith))
 

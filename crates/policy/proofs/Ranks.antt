@@ -11,8 +11,7 @@ use borrow.Author.Tests.{ne-eqb, le-leb, lt-leb}
 use Rattle.search.specs.Search.{Among}
 use Rattle.search.proofs.Truth.{untrue, eqb-swap}
 use Rattle.search.proofs.Found.{first-agree}
-use Rattle.roleset.specs.Row.{rowOf, Kept}
-use Rattle.roleset.proofs.Rows.{zero-row}
+use Rattle.roleset.specs.Row.{Kept}
 use Rattle.order.specs.Bound.{converse}
 use Rattle.order.specs.Closure.{path, loop, circle, reflexive}
 use Rattle.order.specs.Table.{related, Tabled}
@@ -21,9 +20,9 @@ use Rattle.rolefile.specs.declared.Line.{Line}
 use Rattle.rolefile.specs.declared.Verdict.{Verdict}
 use Rattle.rolefile.specs.Line.{S, fields}
 use Rattle.rolefile.specs.Form.{fine, refusal}
-use Rattle.rolefile.specs.Said.{roles, above}
+use Rattle.rolefile.specs.Said.{roles, above, says}
 use Rattle.rolefile.specs.Section.{part}
-use Rattle.rolefile.proofs.Sections.{Section, says-two}
+use Rattle.rolefile.proofs.Sections.{Section, says-two, part}
 use Rattle.rolefile.specs.WellFormed.{GoodLines}
 use Rattle.policy.specs.Policy.{senior}
 use Rattle.policy.specs.Tables.{seniorsAt, pairs, Related}
@@ -33,27 +32,24 @@ use Rattle.policy.specs.Stages.{Ready, Zeros, Ranking}
 use Rattle.policy.specs.declared.build.Parts.{Parts}
 use Rattle.policy.proofs.Readying.{good-of, counts-of, head-roles, section-s}
 use Rattle.policy.proofs.Inside.{above-between}
+use Rattle.policy.proofs.Relating.{unites-zeros}
 
 -- what two fields of a letter's section say
-module _ (f : List ℕ) (good : GoodLines f) {k j m : ℕ} (s : Section f k j m) (two-fields : fields k ≡ 2) where
-  pub pairs-say : (x y : ℕ) → pairs (part f j) m x y ≡ Rattle.rolefile.specs.Said.says f k x y 0
-  unfolding pairs
-  pairs-say x y = sym (says-two f good s two-fields x y)
+pub pairs-say : (f : List ℕ) → GoodLines f → {k j m : ℕ} → Section f k j m → fields k ≡ 2 → (x y : ℕ) → pairs (part f j) m x y ≡ says f k x y 0
+unfolding pairs
+pairs-say f good s two-fields x y = sym (says-two f good s two-fields x y)
 
 module _ (f : List ℕ) (good : GoodLines f) {j m : ℕ} (s : Section f S j m) (few : roles f ≤ 128) where
-  two-fields : fields S ≡ 2
-  unfolding fields
-  two-fields = refl
-
   said : (r q : ℕ) → pairs (part f j) m r q ≡ above f r q
-  said r q = pairs-say f good s two-fields r q
+  unfolding fields
+  said r q = pairs-say f good s refl r q
 
-  module _ (xs ys zs ws : List ℕ) (long : 65536 ≤ length xs) (ys-long : length ys ≡ length xs) (zs-long : length zs ≡ length xs)
+  module _ (xs ys zs : List ℕ) (long : 65536 ≤ length xs) (ys-long : length ys ≡ length xs) (zs-long : length zs ≡ length xs)
       (zeros : Zeros 2064 4112 xs) (filled : Related seniorsAt 128 (λ x r. pairs (part f j) m r x) xs ys)
       (pathed : Tabled seniorsAt (roles f) (path (roles f) (related ys seniorsAt)) ys zs) where
     -- the lines' rows
     direct : (q r : ℕ) → Among 128 q → Among 128 r → related ys seniorsAt q r ≡ above f r q
-    direct q r v w = filled .rows q r v w ∙ rw (zero-row xs (rowOf seniorsAt q) (λ k l. zeros (rowOf seniorsAt q + k) (omega arith) (omega arith)) r) (said r q)
+    direct q r v w = unites-zeros seniorsAt 128 _ xs ys (filled .rows) zeros q r v w ∙ said r q
 
     -- and the paths
     paths : (q r : ℕ) → Among (roles f) q → Among 128 r → related zs seniorsAt q r ≡ path (roles f) (above f) r q
@@ -68,7 +64,7 @@ module _ (f : List ℕ) (good : GoodLines f) {j m : ℕ} (s : Section f S j m) (
     paths-kept : Kept 2064 4112 xs zs
     paths-kept i out = pathed .rest i (λ l. let far = out l in omega arith) ∙ filled .rest i (λ l. let far = out l in omega arith)
 
-    module _ (closed : Tabled seniorsAt (roles f) (reflexive (related zs seniorsAt)) zs ws) where
+    module _ (ws : List ℕ) (closed : Tabled seniorsAt (roles f) (reflexive (related zs seniorsAt)) zs ws) where
       seniors-are : Seniors f ws
       unfolding senior
       seniors-are q r v w = elim (decLe q (roles f)) [
@@ -124,13 +120,13 @@ module _ (f : List ℕ) (q : Parts) (h : Line) (ready : Ready f q h) (xs ys zs p
   lowest-is =
       lowest
       ∙ rw (le-leb (2064 + 2048) (length zs) (omega arith), count)
-      (role-circle f good s-lines few xs ys zs zs long ys-long (zs-long ∙ ys-long) zeros filled-by pathed-by)
+      (role-circle f good s-lines few xs ys zs long ys-long (zs-long ∙ ys-long) zeros filled-by pathed-by)
 
   pub ranked-refused : (v : Verdict) → v ≡ refusal 13 r 0 → (r ≡ 0 → ⊥) → Ranking f v xs zs
   ranked-refused v e ne = record {
     answer = e ∙ rank-refused f r lowest-is ne;
     done = λ z. let n : v .number ≡ 13 = ap (λ (w : Verdict). w .number) e in absurd (omega arith);
-    rest = paths-kept f good s-lines few xs ys zs zs long ys-long (zs-long ∙ ys-long) zeros filled-by pathed-by;
+    rest = paths-kept f good s-lines few xs ys zs long ys-long (zs-long ∙ ys-long) zeros filled-by pathed-by;
   }
 
   pub ranked : (ws : List ℕ) (v : Verdict) → v ≡ fine → r ≡ 0 → Tabled 2064 (min (h .b) 128) (reflexive (related zs 2064)) zs ws → Ranking f v xs ws
@@ -138,6 +134,6 @@ module _ (f : List ℕ) (q : Parts) (h : Line) (ready : Ready f q h) (xs ys zs p
       let c = rw count at closed in
       record {
         answer = e ∙ rank-fine f r lowest-is z;
-        done = λ n. seniors-are f good s-lines few xs ys zs ws long ys-long (zs-long ∙ ys-long) zeros filled-by pathed-by c;
-        rest = seniors-kept f good s-lines few xs ys zs ws long ys-long (zs-long ∙ ys-long) zeros filled-by pathed-by c;
+        done = λ n. seniors-are f good s-lines few xs ys zs long ys-long (zs-long ∙ ys-long) zeros filled-by pathed-by ws c;
+        rest = seniors-kept f good s-lines few xs ys zs long ys-long (zs-long ∙ ys-long) zeros filled-by pathed-by ws c;
       }

@@ -1,7 +1,7 @@
 -- Tables of role sets that lines fill: one row changes at a time, and what the lines so far say adds up. Assumes nothing.
 use Prim.Native.Nat.{ℕ, _+_, _-_, _*_, _≤_}
 use mathlib.Core.Path.{_≡_, refl, sym, ap, _∙_}
-use mathlib.Core.Logic.{_⊎_, inl, inr}
+use mathlib.Core.Logic.{inl, inr}
 use mathlib.Core.Bool.{Bool, false, _&&_, _||_, or-false, or-assoc, and-comm, and-false}
 use mathlib.Core.List.{List}
 use native.Mathlib.Omega.{arith}
@@ -13,10 +13,11 @@ use Rattle.search.specs.Search.{among, Among}
 use Rattle.search.proofs.Truth.{and-iff, and-when, and-right, among-iff, false-iff, same}
 use Rattle.search.proofs.Found.{some-more, some-yet}
 use Rattle.roleset.specs.Row.{member, rowOf, added, joined, Kept, Placed}
-use Rattle.roleset.proofs.Rows.{row-kept, rows-apart, whole-true}
+use Rattle.roleset.proofs.Rows.{row-kept, rows-apart, whole-true, zero-row}
 use Rattle.order.specs.Closure.{Relation}
 use Rattle.rolefile.specs.Section.{one, two, three}
 use Rattle.policy.specs.Tables.{seniorsAt, readersAt, writersAt, pairs, grantedByLines, Related, GrantedRows, Unites}
+use Rattle.policy.specs.Stages.{Zeros}
 
 -- where one row of a table is placed, the others stay
 module _ (at size x : ℕ) {s : ℕ → Bool} {xs ys : List ℕ} (p : Placed (rowOf at x) s xs ys) (w : Among size x) where
@@ -46,6 +47,12 @@ module _ (at size : ℕ) (said : Relation) (xs : List ℕ) where
 
   unites-more : (more : Relation) (ys zs : List ℕ) → Unites at size said xs ys → Unites at size more ys zs → Unites at size (λ x r. said x r || more x r) xs zs
   unites-more more ys zs t u x r v w = u x r v w ∙ rw (t x r v w) (or-assoc (member xs (rowOf at x) r) (said x r) (more x r))
+
+  -- in a table of zeros, just what is said
+  pub unites-zeros : (ys : List ℕ) → Unites at size said xs ys → Zeros at (at + 16 * size) xs
+      → (x r : ℕ) → Among size x → Among 128 r → member ys (rowOf at x) r ≡ said x r
+  unites-zeros ys t zeros x r v w =
+      t x r v w ∙ rw (zero-row xs (rowOf at x) (λ k l. zeros (rowOf at x + k) (omega arith) (omega arith)) r)
 
 pub related-none : (at size : ℕ) (said : Relation) (xs : List ℕ) → ((x r : ℕ) → Among size x → Among 128 r → said x r ≡ false) → Related at size said xs xs
 related-none at size said xs h = record { rows = unites-none at size said xs h; rest = λ i out. refl }
