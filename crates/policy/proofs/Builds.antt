@@ -107,50 +107,54 @@ module _ (f xs ys : List ℕ) where
     assigning = λ u r v w. rows-stay xs ys assignedAt 256 (λ i l m. s i (omega arith) (omega arith)) u r v ∙ t .assigning u r v w;
   }
 
--- from zeros to the image, stage by stage
-module _ (f : List ℕ) (xs s₁ s₂ s₃ s₄ : List ℕ) (zeros : Zeros 0 65536 xs) (v w : Verdict) (noting : Noting f v xs s₁) (clean : v .number ≡ 0)
-    (ranking : Ranking f w s₁ s₂) (ranked : w .number ≡ 0) where
-  -- what the stage of permissions needs
-  still-zero : (i : ℕ) → (1040 ≤ i → 1808 ≤ i) → (2064 ≤ i → 4112 ≤ i) → i < 65536 → getD s₂ i 0 ≡ 0
-  still-zero i noted ranked l = ranking .rest i ranked ∙ noting .rest i noted ∙ zeros i (omega arith) l
+-- ---- from zeros to the image, stage by stage
 
+-- labels and seniors are in, and the other bytes are still 0
+pub record Ranked (f s₂ : List ℕ) : Type 0 where
+  pub labelled : Labelled f s₂
+  pub seniors : Seniors f s₂
+  pub zeros : (i : ℕ) → (1040 ≤ i → 1808 ≤ i) → (2064 ≤ i → 4112 ≤ i) → i < 65536 → getD s₂ i 0 ≡ 0
+
+pub ranked-of : {f xs s₁ s₂ : List ℕ} {v w : Verdict} → Zeros 0 65536 xs → Noting f v xs s₁ → v .number ≡ 0 → Ranking f w s₁ s₂ → w .number ≡ 0 → Ranked f s₂
+ranked-of {f} {xs} {s₁} {s₂} zeros noting noted ranking ranked = record {
+  labelled = labelled-stays f s₁ s₂ (λ i l m. ranking .rest i (λ k. omega arith)) (noting .done noted);
+  seniors = ranking .done ranked;
+  zeros = λ i out past l. ranking .rest i past ∙ noting .rest i out ∙ zeros i (omega arith) l;
+}
+
+module _ {f s₂ : List ℕ} (ranked : Ranked f s₂) where
+  -- what the stage of permissions needs
   pub level-zeros : Zeros 1808 2064 s₂
-  level-zeros i m n = still-zero i (λ k. omega arith) (λ k. omega arith) (omega arith)
+  level-zeros i m n = ranked .zeros i (λ k. omega arith) (λ k. omega arith) (omega arith)
 
   pub row-zeros : Zeros 12304 28688 s₂
-  row-zeros i m n = still-zero i (λ k. omega arith) (λ k. omega arith) (omega arith)
+  row-zeros i m n = ranked .zeros i (λ k. omega arith) (λ k. omega arith) (omega arith)
 
-  pub second-labelled : Labelled f s₂
-  second-labelled = labelled-stays f s₁ s₂ (λ i l m. ranking .rest i (λ k. omega arith)) (noting .done clean)
-
-  module _ (granting : Granting f s₂ s₃) where
+  module _ {s₃ : List ℕ} (granting : Granting f s₂ s₃) where
     pub third-labelled : Labelled f s₃
-    third-labelled = labelled-stays f s₂ s₃ (λ i l m. granting .rest i (λ k. omega arith) (λ k. omega arith) (λ k. omega arith)) second-labelled
+    third-labelled = labelled-stays f s₂ s₃ (λ i l m. granting .rest i (λ k. omega arith) (λ k. omega arith) (λ k. omega arith)) (ranked .labelled)
 
     pub third-zeros : Zeros 4112 8208 s₃
     third-zeros i m n =
-        granting .rest i (λ k. omega arith) (λ k. omega arith) (λ k. omega arith) ∙ still-zero i (λ k. omega arith) (λ k. omega arith) (omega arith)
+        granting .rest i (λ k. omega arith) (λ k. omega arith) (λ k. omega arith) ∙ ranked .zeros i (λ k. omega arith) (λ k. omega arith) (omega arith)
 
-    module _ (finishing : Finishing f s₃ s₄) where
-      stays : (a b : ℕ) → 8 ≤ a → (b ≤ 4112) → Same a b s₃ s₄
-      stays a b l m i j k = finishing .rest i (omega arith) (λ n. omega arith)
-
+    module _ {s₄ : List ℕ} (finishing : Finishing f s₃ s₄) where
       pub image : Image f s₄
       image = record {
         tables = record {
           counted = finishing .counted;
-          labelled = labelled-stays f s₃ s₄ (stays 1040 1808 (omega arith) (omega arith)) third-labelled;
-          dominating = dominating-stays f s₃ s₄ (stays 16 1040 (omega arith) (omega arith)) (granting .dominating);
-          seniors = seniors-stay f s₂ s₄ (λ i l m. finishing .rest i (omega arith) (λ n. omega arith) ∙ granting .rest i (λ k. omega arith) (λ k. omega arith) (λ k. omega arith)) (ranking .done ranked);
+          labelled = labelled-stays f s₃ s₄ (λ i l m. finishing .rest i (omega arith) (λ n. omega arith)) third-labelled;
+          dominating = dominating-stays f s₃ s₄ (λ i l m. finishing .rest i (omega arith) (λ n. omega arith)) (granting .dominating);
+          seniors = seniors-stay f s₂ s₄ (λ i l m. finishing .rest i (omega arith) (λ n. omega arith) ∙ granting .rest i (λ k. omega arith) (λ k. omega arith) (λ k. omega arith)) (ranked .seniors);
           permitting = permitting-stays f s₃ s₄ (λ i l m. finishing .rest i (omega arith) (λ n. omega arith)) (granting .permitting);
-          levelled = levelled-stays f s₃ s₄ (stays 1808 2064 (omega arith) (omega arith)) (granting .levelled);
+          levelled = levelled-stays f s₃ s₄ (λ i l m. finishing .rest i (omega arith) (λ n. omega arith)) (granting .levelled);
           assigning = finishing .assigning;
         };
         unused = λ i out l.
             let (a, b, c) = out in
             finishing .rest i a (λ n. b (omega arith))
             ∙ granting .rest i (λ n. let far = b n in omega arith) (λ n. let far = b (omega arith) in omega arith) c
-            ∙ still-zero i (λ n. let far = b (omega arith) in omega arith) (λ n. let far = b (omega arith) in omega arith) l;
+            ∙ ranked .zeros i (λ n. let far = b (omega arith) in omega arith) (λ n. let far = b (omega arith) in omega arith) l;
       }
 
 -- a refusal: nobody reads the bytes

@@ -22,7 +22,7 @@ use Rattle.rolefile.specs.Line.{S, fields}
 use Rattle.rolefile.specs.Form.{fine, refusal}
 use Rattle.rolefile.specs.Said.{roles, above, says}
 use Rattle.rolefile.specs.Section.{part}
-use Rattle.rolefile.proofs.Sections.{Section, says-two, part}
+use Rattle.rolefile.proofs.Sections.{Section, says-two}
 use Rattle.rolefile.specs.WellFormed.{GoodLines}
 use Rattle.policy.specs.Policy.{senior}
 use Rattle.policy.specs.Tables.{seniorsAt, pairs, Related}

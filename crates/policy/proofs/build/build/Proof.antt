@@ -1,122 +1,136 @@
 -- Stage after stage: a stage that refuses decides the file, and where none does the tables are the file's.
-use Prim.Native.Nat.{min}
+use Prim.Native.Nat.{ℕ, min}
 use mathlib.Core.Path.{_≡_, sym, _∙_}
+use mathlib.Core.List.{List}
 use native.Mathlib.Omega.{arith}
 use borrow.Author.Needs.{needs}
 use denote.Ref.{now}
 use lib.ListN.{length}
 use Rattle.rolefile.specs.Line.{lines}
 use Rattle.rolefile.specs.Form.{linesVerdict, unlabelledVerdict}
+use Rattle.rolefile.specs.Said.{labels}
 use Rattle.rolefile.proofs.Verdicts.{scan-clean}
 use Rattle.policy.proofs.Checks.{assignment-clean}
 use Rattle.policy.specs.Verdict.{labelVerdict, roleVerdict, assignmentVerdict, verdict}
 use Rattle.policy.specs.Stages.{Ready, Closed}
 use Rattle.policy.proofs.Readying.{counts-of, head-labels}
 use Rattle.policy.proofs.Dominance.{closed-of, order-verdict-is}
-use Rattle.policy.proofs.Builds.{refused-lines, refused-labels, refused-order, refused-roles, the-last, level-zeros, row-zeros, second-labelled, third-labelled, third-zeros, image, built-refused}
+use Rattle.policy.proofs.Builds.{refused-lines, refused-labels, refused-order, refused-roles, the-last, built-refused}
+use Rattle.policy.proofs.Builds.{Ranked, ranked-of, level-zeros, row-zeros, third-labelled, third-zeros, image}
 use Rattle.policy.proofs.build.build.Statement.{statement}
 use Rattle.policy.proofs.build.build.Tie as tie
 
--- ---- the stages passed so far, each from the place that it has reached
+-- ---- the places that the run has passed, each from one that follows
 
-lines-pass : (c : tie.Else1) → linesVerdict (now (c .before .before .before .before .before .args .f)) .number ≡ 0
-lines-pass c = rw (c .before .before .lines .ensures) at (c .if1 .left)
+abbrev start : tie.After-lay-out → tie.Start
+start c = c .before .before .before .before .before .before .before
 
-ready : (c : tie.After-lay-out) → Ready (now (c .before .before .before .before .before .before .before .args .f)) (c .lay-out .result) (c .before .first-line .result)
-ready c = record { lines = lines-pass (c .before .before); laid = c .lay-out .ensures; head = c .before .first-line .ensures }
+abbrev file : tie.After-lay-out → List ℕ
+file c = now (start c .args .f)
 
-labels-pass : (c : tie.Else2) → unlabelledVerdict (now (c .before .before .before .before .before .before .before .before .before .before .before .before .before .args .f)) .number ≡ 0
-labels-pass c = rw (c .before .before .before .before .note-labels .ensures .answer) at (c .if2 .left)
+abbrev laid : tie.After-note-labels → tie.After-lay-out
+laid c = c .before .before
 
-count : (c : tie.After-lay-out) → min (c .before .first-line .result .a) 32 ≡ Rattle.rolefile.specs.Said.labels (now (c .before .before .before .before .before .before .before .args .f))
+abbrev noted : tie.After-check-labels → tie.After-note-labels
+noted c = c .before .before .before .before .before .before .before
+
+abbrev ordered : tie.After-rank-roles → tie.After-check-labels
+ordered c = c .before .before .before .before
+
+abbrev ranked : tie.Else4 → tie.After-rank-roles
+ranked c = c .before .before .before .before
+
+abbrev granted : tie.After-check-assignments → tie.After-grant-all
+granted c = c .before .before .before .before
+
+-- ---- the stages passed so far
+
+lines-pass : (c : tie.After-lay-out) → linesVerdict (file c) .number ≡ 0
+lines-pass c = let passed = c .before .before in rw (passed .before .before .lines .ensures) at (passed .if1 .left)
+
+ready : (c : tie.After-lay-out) → Ready (file c) (c .lay-out .result) (c .before .first-line .result)
+ready c = record { lines = lines-pass c; laid = c .lay-out .ensures; head = c .before .first-line .ensures }
+
+labels-pass : (c : tie.After-check-labels) → unlabelledVerdict (file (laid (noted c))) .number ≡ 0
+labels-pass c = rw (noted c .note-labels .ensures .answer) at (c .before .before .before .if2 .left)
+
+count : (c : tie.After-lay-out) → min (c .before .first-line .result .a) 32 ≡ labels (file c)
 count c = head-labels _ _ _ (ready c)
 
-closed : (c : tie.After-reflected) → Closed (now (c .before .before .before .before .before .before .before .before .before .before .before .before .before .before .before .args .f)) (c .reflected .result)
-closed c = closed-of _ (c .before .dominance .result) (c .reflected .result) (c .before .dominance .ensures) (rw (count (c .before .before .before .before .before .before .before .before)) at (c .reflected .ensures))
+closed : (c : tie.After-check-labels) → Closed (file (laid (noted c))) (c .before .reflected .result)
+closed c =
+    let paths = c .before .before .dominance in
+    closed-of _ (paths .result) (c .before .reflected .result) (paths .ensures) (rw (count (laid (noted c))) at (c .before .reflected .ensures))
 
 -- the order's verdict is the file's
-order-is : (c : tie.After-check-labels) → c .check-labels .result ≡ labelVerdict (now (c .before .before .before .before .before .before .before .before .before .before .before .before .before .before .before .before .args .f))
+order-is : (c : tie.After-check-labels) → c .check-labels .result ≡ labelVerdict (file (laid (noted c)))
 order-is c =
-    let r = ready (c .before .before .before .before .before .before .before .before .before) in
+    let paths = c .before .before .dominance in
+    let few = counts-of _ (lines-pass (laid (noted c))) .labels in
     c .check-labels .ensures
-    ∙ rw (count (c .before .before .before .before .before .before .before .before .before)) (order-verdict-is _ (c .before .before .dominance .result) (c .before .reflected .result) (counts-of _ (r .lines) .labels .1) (c .before .before .dominance .ensures) (closed (c .before)))
+    ∙ rw (count (laid (noted c))) (order-verdict-is _ (paths .result) (c .before .reflected .result) (few .1) (paths .ensures) (closed c))
 
-order-pass : (c : tie.Else3) → labelVerdict (now (c .before .before .before .before .before .before .before .before .before .before .before .before .before .before .before .before .before .before .args .f)) .number ≡ 0
-order-pass c = rw (order-is (c .before .before)) at (c .if3 .left)
+order-pass : (c : tie.After-rank-roles) → labelVerdict (file (laid (noted (ordered c)))) .number ≡ 0
+order-pass c = rw (order-is (ordered c)) at (c .before .before .if3 .left)
 
-roles-pass : (c : tie.Else4) → roleVerdict (now (c .before .before .before .before .before .before .before .before .before .before .before .before .before .before .before .before .before .before .before .before .before .before .before .before .args .f)) .number ≡ 0
-roles-pass c = rw (c .before .before .before .before .rank-roles .ensures .answer) at (c .if4 .left)
+roles-pass : (c : tie.Else4) → roleVerdict (file (laid (noted (ordered (ranked c))))) .number ≡ 0
+roles-pass c = rw (ranked c .rank-roles .ensures .answer) at (c .if4 .left)
+
+-- ---- how long the state is, and what stands in it
+
+module _ (c : tie.Else4) where
+  abbrev labelling : tie.After-note-labels
+  labelling = noted (ordered (ranked c))
+
+  abbrev entry : tie.Start
+  entry = start (laid labelling)
+
+  ranked-long : length (ranked c .rank-roles .last .1 .0) ≡ length (now (entry .args .s))
+  ranked-long = ranked c .rank-roles .kept .1 .0 ∙ labelling .note-labels .kept .1 .0
+
+  stands : Ranked (file (laid labelling)) (ranked c .rank-roles .last .1 .0)
+  stands =
+      ranked-of (entry .pre .1) (labelling .note-labels .ensures) (ordered (ranked c) .before .before .before .if2 .left)
+      (ranked c .rank-roles .ensures) (c .if4 .left)
+
+granted-long : (c : tie.After-grant-all) → length (c .grant-all .last .1 .0) ≡ length (now (entry (c .before .before) .args .s))
+granted-long c = c .grant-all .kept .1 .0 ∙ ranked-long (c .before .before)
 
 -- ---- what each stage needs
 
 note-labels-requires : tie.Need-note-labels-requires
-note-labels-requires c κs = let start = c .before .before .before .before .before .before .before .before in (ready (c .before), search needs, λ i l m. start .pre .1 i (omega arith) (omega arith))
+note-labels-requires c κs = (ready (c .before), search needs, λ i l m. start (c .before) .pre .1 i (omega arith) (omega arith))
 
 dominance-requires : tie.Need-dominance-requires
-dominance-requires c κs = ready (c .before .before .before .before .before .before)
+dominance-requires c κs = ready (laid (c .before .before .before .before))
 
 rank-roles-requires : tie.Need-rank-roles-requires
 rank-roles-requires c κs =
-    let noted = c .before .before .before .before .before .before .before .before .before .before in
-    let start = c .before .before .before .before .before .before .before .before .before .before .before .before .before .before .before .before .before .before .before in
-    let long : length (noted .note-labels .last .1 .0) ≡ length (now (start .args .s)) = noted .note-labels .kept .1 .0 in
-    (ready (noted .before .before), omega arith, λ i l m. noted .note-labels .ensures .rest i (λ k. omega arith) ∙ start .pre .1 i (omega arith) (omega arith))
-
--- how long the state is, and what stands in it, after labels and seniority
-module _ (c : tie.Else4) where
-  long-labels : length (c .before .before .before .before .before .before .before .before .before .before .before .before .before .before .before .note-labels .last .1 .0) ≡ 65536
-  long-labels = c .before .before .before .before .before .before .before .before .before .before .before .before .before .before .before .note-labels .kept .1 .0 ∙ c .before .before .before .before .before .before .before .before .before .before .before .before .before .before .before .before .before .before .before .before .before .before .before .before .pre .0
-
-  long-roles : length (c .before .before .before .before .rank-roles .last .1 .0) ≡ 65536
-  long-roles = c .before .before .before .before .rank-roles .kept .1 .0 ∙ long-labels
+    let n = noted (c .before .before .before) in
+    let begun = start (laid n) in
+    let long : length (n .note-labels .last .1 .0) ≡ length (now (begun .args .s)) = n .note-labels .kept .1 .0 in
+    (ready (laid n), omega arith, λ i l m. n .note-labels .ensures .rest i (λ k. omega arith) ∙ begun .pre .1 i (omega arith) (omega arith))
 
 grant-all-requires : tie.Need-grant-all-requires
 grant-all-requires c κs =
     let d = c .before in
-    let start = d .before .before .before .before .before .before .before .before .before .before .before .before .before .before .before .before .before .before .before .before .before .before .before .before in
-    let f = now (start .args .f) in
-    let xs = now (start .args .s) in
-    let noting = d .before .before .before .before .before .before .before .before .before .before .before .before .before .before .before .note-labels .ensures in
-    let ranking = d .before .before .before .before .rank-roles .ensures in
-    let clean = d .before .before .before .before .before .before .before .before .before .before .before .if2 .left in
-    let long = long-roles d in (
-      ready (d .before .before .before .before .before .before .before .before .before .before .before .before .before .before .before .before .before),
-      omega arith,
-      second-labelled f xs _ _ xs xs (start .pre .1) _ _ noting clean ranking (d .if4 .left),
-      ranking .done (d .if4 .left),
-      closed (d .before .before .before .before .before .before .before .before .before),
-      level-zeros f xs _ _ xs xs (start .pre .1) _ _ noting clean ranking (d .if4 .left),
-      row-zeros f xs _ _ xs xs (start .pre .1) _ _ noting clean ranking (d .if4 .left),
-    )
+    let long = ranked-long d ∙ entry d .pre .0 in
+    (ready (laid (labelling d)), omega arith, stands d .labelled, stands d .seniors, closed (ordered (ranked d)), level-zeros (stands d), row-zeros (stands d))
 
 check-assignments-requires : tie.Need-check-assignments-requires
 check-assignments-requires c κs =
     let g = c .before .before .before in
     let d = g .before .before in
-    let start = d .before .before .before .before .before .before .before .before .before .before .before .before .before .before .before .before .before .before .before .before .before .before .before .before in
-    let f = now (start .args .f) in
-    let xs = now (start .args .s) in
     let granting = g .grant-all .ensures in
-    let long : length (g .grant-all .last .1 .0) ≡ 65536 = g .grant-all .kept .1 .0 ∙ long-roles d in (
-      ready (d .before .before .before .before .before .before .before .before .before .before .before .before .before .before .before .before .before),
-      omega arith,
-      third-labelled f xs _ _ _ xs (start .pre .1) _ _ (d .before .before .before .before .before .before .before .before .before .before .before .before .before .before .before .note-labels .ensures) (d .before .before .before .before .before .before .before .before .before .before .before .if2 .left) (d .before .before .before .before .rank-roles .ensures) (d .if4 .left) granting,
-      granting .dominating,
-      granting .levelled,
-    )
+    let long = granted-long g ∙ entry d .pre .0 in
+    (ready (laid (labelling d)), omega arith, third-labelled (stands d) granting, granting .dominating, granting .levelled)
 
 finish-requires : tie.Need-finish-requires
 finish-requires c κs =
-    let g = c .before .before .before .before .before .before .before in
+    let g = granted (c .before .before .before) in
     let d = g .before .before in
-    let start = d .before .before .before .before .before .before .before .before .before .before .before .before .before .before .before .before .before .before .before .before .before .before .before .before in
-    let f = now (start .args .f) in
-    let xs = now (start .args .s) in
-    let long : length (g .grant-all .last .1 .0) ≡ 65536 = g .grant-all .kept .1 .0 ∙ long-roles d in (
-      ready (d .before .before .before .before .before .before .before .before .before .before .before .before .before .before .before .before .before),
-      omega arith,
-      third-zeros f xs _ _ _ xs (start .pre .1) _ _ (d .before .before .before .before .before .before .before .before .before .before .before .before .before .before .before .note-labels .ensures) (d .before .before .before .before .before .before .before .before .before .before .before .if2 .left) (d .before .before .before .before .rank-roles .ensures) (d .if4 .left) (g .grant-all .ensures),
-    )
+    let long = granted-long g ∙ entry d .pre .0 in
+    (ready (laid (labelling d)), omega arith, third-zeros (stands d) (g .grant-all .ensures))
 
 -- ---- what is answered
 
@@ -127,24 +141,29 @@ returns c =
 
 returns-2 : tie.Need-returns-2
 returns-2 c =
-    let v = c .before .before .before .before .note-labels .ensures .answer in
-    built-refused _ _ _ (v ∙ refused-labels _ (lines-pass (c .before .before .before .before .before .before .before .before)) (λ z. c .if2 .taken (rw (← v) at z))) (c .if2 .taken)
+    let n = c .before .before .before .before in
+    let v = n .note-labels .ensures .answer in
+    built-refused _ _ _ (v ∙ refused-labels _ (lines-pass (laid n)) (λ z. c .if2 .taken (rw (← v) at z))) (c .if2 .taken)
 
 returns-3 : tie.Need-returns-3
 returns-3 c =
-    let v = order-is (c .before .before) in
-    built-refused _ _ _ (v ∙ refused-order _ (lines-pass (c .before .before .before .before .before .before .before .before .before .before .before .before .before)) (labels-pass (c .before .before .before .before .before)) (λ z. c .if3 .taken (rw (← v) at z))) (c .if3 .taken)
+    let o = c .before .before in
+    let v = order-is o in
+    built-refused _ _ _ (v ∙ refused-order _ (lines-pass (laid (noted o))) (labels-pass o) (λ z. c .if3 .taken (rw (← v) at z))) (c .if3 .taken)
 
 returns-4 : tie.Need-returns-4
 returns-4 c =
-    let v = c .before .before .before .before .rank-roles .ensures .answer in
-    built-refused _ _ _ (v ∙ refused-roles _ (lines-pass (c .before .before .before .before .before .before .before .before .before .before .before .before .before .before .before .before .before .before .before)) (labels-pass (c .before .before .before .before .before .before .before .before .before .before .before)) (order-pass (c .before .before .before .before .before .before)) (λ z. c .if4 .taken (rw (← v) at z))) (c .if4 .taken)
+    let r = c .before .before .before .before in
+    let o = ordered r in
+    let v = r .rank-roles .ensures .answer in
+    built-refused _ _ _ (v ∙ refused-roles _ (lines-pass (laid (noted o))) (labels-pass o) (order-pass r) (λ z. c .if4 .taken (rw (← v) at z))) (c .if4 .taken)
 
 -- the last stage decides
-the-rest : (c : tie.After-check-assignments) → c .check-assignments .result ≡ verdict (now (c .before .before .before .before .before .before .before .before .before .before .before .before .before .before .before .before .before .before .before .before .before .before .before .before .before .before .before .before .before .before .args .f))
+the-rest : (c : tie.After-check-assignments) → c .check-assignments .result ≡ verdict (file (laid (labelling (granted c .before .before))))
 the-rest c =
-    let d = c .before .before .before .before .before .before in
-    c .check-assignments .ensures ∙ the-last _ (lines-pass (d .before .before .before .before .before .before .before .before .before .before .before .before .before .before .before .before .before .before .before)) (labels-pass (d .before .before .before .before .before .before .before .before .before .before .before)) (order-pass (d .before .before .before .before .before .before)) (roles-pass d)
+    let d = granted c .before .before in
+    let o = ordered (ranked d) in
+    c .check-assignments .ensures ∙ the-last _ (lines-pass (laid (noted o))) (labels-pass o) (order-pass (ranked d)) (roles-pass d)
 
 returns-5 : tie.Need-returns-5
 returns-5 c = built-refused _ _ _ (the-rest (c .before .before)) (c .if5 .taken)
@@ -152,18 +171,17 @@ returns-5 c = built-refused _ _ _ (the-rest (c .before .before)) (c .if5 .taken)
 returns-6 : tie.Need-returns-6
 returns-6 c =
     let e = c .before .before .before .before .before in
-    let g = e .before .before .before .before .before .before in
+    let assigned = e .before .before in
+    let g = granted assigned in
     let d = g .before .before in
-    let start = d .before .before .before .before .before .before .before .before .before .before .before .before .before .before .before .before .before .before .before .before .before .before .before .before in
-    let f = now (start .args .f) in
+    let f = file (laid (labelling d)) in
     record {
       answer =
           c .nothing .ensures
-          ∙ sym (scan-clean (assignmentVerdict f) (lines f) (λ i w. assignment-clean f i) (rw (e .before .before .check-assignments .ensures) at (e .if5 .left)))
-          ∙ sym (e .before .before .check-assignments .ensures)
-          ∙ the-rest (e .before .before);
-      done = λ z. image (now (start .args .f)) (now (start .args .s)) _ _ _ _ (start .pre .1) _ _
-          (d .before .before .before .before .before .before .before .before .before .before .before .before .before .before .before .note-labels .ensures) (d .before .before .before .before .before .before .before .before .before .before .before .if2 .left) (d .before .before .before .before .rank-roles .ensures) (d .if4 .left) (g .grant-all .ensures) (c .before .before .before .finish .ensures);
+          ∙ sym (scan-clean (assignmentVerdict f) (lines f) (λ i w. assignment-clean f i) (rw (assigned .check-assignments .ensures) at (e .if5 .left)))
+          ∙ sym (assigned .check-assignments .ensures)
+          ∙ the-rest assigned;
+      done = λ z. image (stands d) (g .grant-all .ensures) (c .before .before .before .finish .ensures);
     }
 
 pub build-spec : {M : Type 1} → statement M
@@ -187,12 +205,9 @@ build-spec =
     returns-4
     grant-all-requires
     check-assignments-requires
-    (λ c. let g = c .before .before .before .before .before .before in let d = g .before .before in g .grant-all .kept .1 .0 ∙ d .before .before .before .before .rank-roles .kept .1 .0 ∙ d .before .before .before .before .before .before .before .before .before .before .before .before .before .before .before .note-labels .kept .1 .0)
+    (λ c. granted-long (granted (c .before .before)))
     returns-5
     finish-requires
     (λ c κs. search needs)
-    (λ c.
-    let g = c .before .before .before .before .before .before .before .before .before .before .before in
-    let d = g .before .before in
-    c .before .before .before .finish .kept .1 .0 ∙ g .grant-all .kept .1 .0 ∙ d .before .before .before .before .rank-roles .kept .1 .0 ∙ d .before .before .before .before .before .before .before .before .before .before .before .before .before .before .before .note-labels .kept .1 .0)
+    (λ c. c .before .before .before .finish .kept .1 .0 ∙ granted-long (granted (c .before .before .before .before .before .before .before)))
     returns-6)
