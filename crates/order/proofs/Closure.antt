@@ -10,7 +10,7 @@ use lib.Dec.{eqb}
 use borrow.Author.Tests.{eq-eqb, eqb-true}
 use Rattle.search.specs.Search.{Among}
 use Rattle.search.proofs.Truth.{or-iff, and-iff, untrue, both, false-iff}
-use Rattle.search.proofs.Found.{last-or, first-none, first-agree}
+use Rattle.search.proofs.Found.{last-or, among-next, first-none, first-agree}
 use Rattle.order.specs.Table.{Rows}
 use Rattle.order.specs.Bound.{converse}
 use Rattle.order.specs.Closure.{Relation, via, path, closure, circle, Reach, here, step, Onto, OnCircle, PartialOrder, Irreflexive, round}
@@ -195,9 +195,7 @@ module _ (size : ℕ) (h e : Relation) where
 
   pub rows-more : (i : ℕ) (f g : Relation) → i < size → Rows size i h e f → RowSet size (i + 1) h f g → Rows size (i + 1) h e g
   rows-more i f g l p t = record {
-    done = λ a b v w. ⊎-elim
-        (λ q. rw q (rw (← add-one) (t .own b w)))
-        (λ u. t .others a b (omega arith) (λ q. omega arith) w ∙ p .done a b u w)
-        (last-or i a (rw add-one at v));
+    done = λ a b v w.
+        among-next (λ c. g c b ≡ h c b) i (λ c u. t .others c b (omega arith) (λ q. omega arith) w ∙ p .done c b u w) (t .own b w) a v;
     left = λ a b k v w. t .others a b (omega arith) (λ q. omega arith) w ∙ p .left a b (omega arith) v w;
   }

@@ -7,7 +7,7 @@ use mathlib.Core.Bool.{Bool, true, false}
 use native.Mathlib.Omega.{arith}
 use Rattle.search.specs.Search.{Among}
 use Rattle.search.proofs.Truth.{both}
-use Rattle.search.proofs.Found.{last-or}
+use Rattle.search.proofs.Found.{among-more, not-last}
 use Rattle.order.specs.Closure.{Relation, PartialOrder}
 use Rattle.order.specs.Bound.{upper, converse, Upper, Lower, IsLub, IsGlb, AllJoined}
 use Rattle.order.proofs.Bound.{pair-iff, upper-iff}
@@ -25,12 +25,12 @@ module _ (n : ℕ) (ge : Relation) (o : PartialOrder n ge) (joins : AllJoined n 
 
     -- one thing more: it is not in s, it is the first of s, or it is joined with the bound of those before
     further : (k : ℕ) → k < n → (t : Bool) → s (suc k) ≡ t → SoFar k → SoFar (suc k)
-    further k l false e (inl none) = inl (λ x w. ⊎-elim (λ i. rw i e) (none x) (last-or k x w))
+    further k l false e (inl none) = inl (among-more _ k none e)
     further k l false e (inr (c, h)) = inr (
       c,
       record {
         inside = h .inside;
-        over = λ x w p. ⊎-elim (λ i. absurd (both p (rw i e))) (λ v. h .over x v p) (last-or k x w);
+        over = λ x w p. h .over x (not-last s k x e p w) p;
         least = λ d w u. h .least d w (λ x v p. u x (omega arith) p);
       },
     )
@@ -38,7 +38,7 @@ module _ (n : ℕ) (ge : Relation) (o : PartialOrder n ge) (joins : AllJoined n 
       suc k,
       record {
         inside = omega arith;
-        over = λ x w p. ⊎-elim (λ i. rw i (o .reflexive (suc k) (omega arith))) (λ v. absurd (both p (none x v))) (last-or k x w);
+        over = among-more _ k (λ x v p. absurd (both p (none x v))) (λ p. o .reflexive (suc k) (omega arith));
         least = λ d w u. u (suc k) (omega arith) e;
       },
     )
@@ -50,10 +50,7 @@ module _ (n : ℕ) (ge : Relation) (o : PartialOrder n ge) (joins : AllJoined n 
           d,
           record {
             inside = j .inside;
-            over = λ x w p. ⊎-elim
-                (λ i. rw i dk)
-                (λ v. o .transitive d c x (j .inside) (h .inside) (omega arith) dc (h .over x v p))
-                (last-or k x w);
+            over = among-more _ k (λ x v p. o .transitive d c x (j .inside) (h .inside) (omega arith) dc (h .over x v p)) (λ p. dk);
             least = λ b w u. j .least b w (λ x v p. ⊎-elim
                 (λ i. rw i (h .least b w (λ y z q. u y (omega arith) q)))
                 (λ i. rw i (u (suc k) (omega arith) e))

@@ -1,19 +1,17 @@
 -- Marks that a loop stores from the front, one a turn: in a set, and row by row in a table. Assumes nothing.
 use Prim.Native.Nat.{ℕ, _+_, _-_, _≤_, _<_}
 use mathlib.Core.Path.{_≡_, refl, _∙_}
-use mathlib.Core.Logic.{⊎-elim}
 use mathlib.Core.Bool.{Bool, true, false, _||_}
 use mathlib.Core.List.{List, []}
 use native.Mathlib.Nat.{add-sub-cancel}
 use native.Mathlib.Omega.{arith}
-use native.Mathlib.Numerals.{add-one}
 use native.Mathlib.Decide.{ℕ-discrete}
 use lib.Dec.{eqb}
 use borrow.Author.Tests.{eq-eqb, ne-eqb}
 use lib.ListN.{length, getD, set}
 use lib.Seq.{getD-set-same, getD-set-other}
 use Rattle.search.specs.Search.{Among}
-use Rattle.search.proofs.Found.{last-or}
+use Rattle.search.proofs.Found.{among-next}
 use Rattle.order.specs.Closure.{Relation}
 use Rattle.order.specs.Table.{marks, mark}
 use Rattle.order.proofs.Closure.{RowSet}
@@ -31,11 +29,8 @@ abbrev pub Upto : ℕ → (ℕ → Bool) → List Bool → Type 0
 Upto i f s = (a : ℕ) → Among i a → marks s a ≡ f a
 
 pub upto-more : (f : ℕ → Bool) (s : List Bool) (i : ℕ) (v : Bool) → i < length s → Upto i f s → v ≡ f (i + 1) → Upto (i + 1) f (set s i v)
-upto-more f s i v h all new a w =
-    ⊎-elim
-    (λ e. let q : a ≡ i + 1 = omega arith in rw q (stored-own false s i v h ∙ new))
-    (λ u. stored-other false s i v a (w .0) (λ q. omega arith) ∙ all a u)
-    (last-or i a (rw add-one at w))
+upto-more f s i v h all new =
+    among-next _ i (λ a u. stored-other false s i v a (u .0) (λ q. omega arith) ∙ all a u) (stored-own false s i v h ∙ new)
 
 -- a mark more in a set
 pub mark-more : (s : List Bool) (i : ℕ) → i < length s → (a : ℕ) → 1 ≤ a → marks (set s i true) a ≡ (eqb (i + 1) a || marks s a)

@@ -8,8 +8,8 @@ use native.Mathlib.Omega.{arith}
 use lib.Dec.{eqb}
 use borrow.Author.Tests.{eqb-true}
 use Rattle.search.specs.Search.{Among}
-use Rattle.search.proofs.Truth.{or-iff, and-iff, both, either-by}
-use Rattle.search.proofs.Found.{some-iff, last-or}
+use Rattle.search.proofs.Truth.{and-iff, either-by}
+use Rattle.search.proofs.Found.{some-iff, not-last}
 use Rattle.order.specs.Closure.{Relation, via, closure}
 use Rattle.order.proofs.Closure.{ways, same-or-path}
 use Rattle.rolefile.specs.Line.{H, D, S, O, A, lineAt, lines}
@@ -40,7 +40,7 @@ unfolding last
 last-of zero p v Q h i w e = absurd (omega arith)
 last-of (suc n) p v Q h i w e =
     either-by Q (p (suc n)) (v (suc n)) (last n p v) (h (suc n) (omega arith))
-    (λ k. last-of n p v Q (λ j x. h j (omega arith)) i (⊎-elim (λ same. absurd (both e (rw same k))) (λ u. u) (last-or n i w)) e)
+    (λ k. last-of n p v Q (λ j x. h j (omega arith)) i (not-last p n i k e w) e)
 
 module _ (f : List ℕ) (good : GoodLines f) where
   said-known : (k x y z : ℕ) → H < k → says f k x y z ≡ true → Among (firstLimit (header f) k) x × Among (secondLimit (header f) k) y

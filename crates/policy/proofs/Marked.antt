@@ -1,18 +1,17 @@
 -- Marks that the lines of a part make in a table, and the bytes of such a table. Assumes nothing.
 use Prim.Native.Nat.{ℕ, _+_, _*_, _-_}
 use mathlib.Core.Path.{_≡_, refl, sym, _∙_}
-use mathlib.Core.Logic.{⊎-elim}
 use mathlib.Core.Bool.{Bool, false, _&&_, _||_, cond, or-false, or-comm}
 use mathlib.Core.List.{List, []}
+use native.Mathlib.Nat.{add-sub-cancel}
 use native.Mathlib.Omega.{arith}
-use native.Mathlib.Numerals.{add-one}
 use native.Mathlib.Decide.{ℕ-discrete}
 use lib.Dec.{eqb}
 use lib.ListN.{length, getD, set, replicate, getD-replicate}
 use lib.Seq.{getD-set-same, getD-set-other}
 use borrow.Author.Tests.{eq-eqb, ne-eqb}
 use Rattle.search.specs.Search.{Among}
-use Rattle.search.proofs.Found.{last-or}
+use Rattle.search.proofs.Found.{among-next}
 use Rattle.roleset.specs.Row.{Kept}
 use Rattle.order.specs.Table.{marks, mark}
 use Rattle.rolefile.specs.Section.{one, two}
@@ -64,12 +63,9 @@ module _ (t : List (List Bool)) (xs : List ℕ) where
       → Kept (dominanceAt + 32 * i) (dominanceAt + 32 * i + 32) ys zs
       → Put (i + 1) t xs zs
   put-more i ys zs p row kept = record {
-    rows = λ a b w v. ⊎-elim
-        (λ e.
-        let q : a - 1 ≡ i = omega arith in
+    rows = λ a b w v.
         let s : dominanceAt + (32 * i + (b - 1)) ≡ dominanceAt + 32 * i + (b - 1) = omega arith in
-        rw (q, s) (row b v))
-        (λ u. kept (markAt a b) (λ m. omega arith) ∙ p .rows a b u v)
-        (last-or i a (rw add-one at w));
+        among-next (λ c. getD zs (markAt c b) 0 ≡ cond (mark t c b) 1 0) i
+        (λ c u. kept (markAt c b) (λ m. omega arith) ∙ p .rows c b u v) (rw (add-sub-cancel i 1, s) (row b v)) a w;
     rest = λ k o. kept k (λ m. omega (arith, o (omega arith))) ∙ p .rest k (λ m. omega (arith, o m));
   }

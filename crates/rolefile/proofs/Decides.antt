@@ -7,7 +7,7 @@ use mathlib.Core.Bool.{Bool, true, false, cond, false≢true}
 use native.Mathlib.Omega.{arith}
 use Rattle.search.specs.Search.{Among, first, LowestOf}
 use Rattle.search.proofs.Truth.{eqb-iff}
-use Rattle.search.proofs.Found.{last-or, lowest-more, first-lowest-of}
+use Rattle.search.proofs.Found.{last-or, among-more, lowest-more, first-lowest-of}
 use Rattle.rolefile.specs.declared.Verdict.{Verdict}
 use Rattle.rolefile.specs.Form.{fine, unless, _then_, scan, found}
 use Rattle.rolefile.proofs.Verdicts.{Refuses, then-next, then-stop, unless-then}
@@ -129,7 +129,7 @@ module _ {v : ℕ → Verdict} {G : ℕ → Type 0} {R : ℕ → Verdict → Typ
   scan-decides zero = record { told = inl (λ k w. absurd (omega arith)); good = λ g. refl; bad = λ x (k, low). let w = low .inside in absurd (omega arith) }
   scan-decides (suc n) =
       decides-as (then-decides (scan-decides n) (λ g. d (suc n))) (
-        λ (g, l) k w. ⊎-elim (λ i. rw i l) (g k) (last-or n k w),
+        λ (g, l). among-more _ n g l,
         λ g. (λ k w. g k (omega arith), g (suc n) (omega arith)),
       )
       (λ x. (

@@ -17,6 +17,14 @@ use Rattle.search.proofs.Truth.{or-iff, and-iff, implies-iff, untrue, b
 pub last-or : (n a : ℕ) → Among (suc n) a → (a ≡ suc n) ⊎ Among n a
 last-or n a w = ⊎-elim (λ e. inl e) (λ l. inr (omega arith)) (eq-or-lt-of-le (w .1))
 
+-- what holds of the things 1 to n and of n + 1 holds of the things 1 to n + 1
+pub among-more : (P : ℕ → Type 0) (n : ℕ) → ((a : ℕ) → Among n a → P a) → P (suc n) → (a : ℕ) → Among (suc n) a → P a
+among-more P n all last a w = ⊎-elim (λ e. rw e last) (all a) (last-or n a w)
+
+-- the same after a turn of a loop
+pub among-next : (P : ℕ → Type 0) (i : ℕ) → ((a : ℕ) → Among i a → P a) → P (i + 1) → (a : ℕ) → Among (i + 1) a → P a
+among-next P i all last = rw add-one (among-more P i all (rw add-one at last))
+
 -- the lowest of the things 1 to m is the lowest of more of them
 pub lowest-more : {m n a : ℕ} {P N : ℕ → Type 0} → m ≤ n → LowestOf m P N a → LowestOf n P N a
 lowest-more l low =
@@ -24,6 +32,10 @@ lowest-more l low =
     record { inside = omega arith; holds = low .holds; lower = λ b v k. low .lower b (omega arith) k }
 
 module _ (p : ℕ → Bool) where
+  -- a thing that has p is not the last, which has not
+  pub not-last : (n a : ℕ) → p (suc n) ≡ false → p a ≡ true → Among (suc n) a → Among n a
+  not-last n a e h w = ⊎-elim (λ i. absurd (both h (rw i e))) (λ u. u) (last-or n a w)
+
   some-witness : (n : ℕ) → some n p ≡ true → (a : ℕ) × Among n a × (p a ≡ true)
   unfolding some
   some-witness zero e = absurd (false≢true e)
@@ -44,10 +56,8 @@ module _ (p : ℕ → Bool) where
 
   pub every-at : (n : ℕ) → every n p ≡ true → (a : ℕ) → Among n a → p a ≡ true
   unfolding every
-  every-at zero e a w = absurd (omega arith)
-  every-at (suc n) e a w =
-      let s = and-iff (every n p) (p (suc n)) .0 e in
-      ⊎-elim (λ i. rw i (s .1)) (every-at n (s .0) a) (last-or n a w)
+  every-at zero e = λ a w. absurd (omega arith)
+  every-at (suc n) e = let (s, l) = and-iff (every n p) (p (suc n)) .0 e in among-more _ n (every-at n s) l
 
   pub every-of : (n : ℕ) → ((a : ℕ) → Among n a → p a ≡ true) → every n p ≡ true
   unfolding every
@@ -76,7 +86,7 @@ module _ (p : ℕ → Bool) where
     where
       next : (a : ℕ) → Finds n a → (b : Bool) → p (suc n) ≡ b → Finds (suc n) (orElse a (cond b (suc n) 0))
       next zero none true e = record { inside = omega arith; holds = e; lower = λ b w l. none b (omega arith) }
-      next zero none false e = λ b w. ⊎-elim (λ i. rw i e) (none b) (last-or n b w)
+      next zero none false e = among-more _ n none e
       next (suc a) low b e = lowest-more (omega arith) low
 
   -- and nothing else is such an answer

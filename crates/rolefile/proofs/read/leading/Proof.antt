@@ -1,14 +1,12 @@
 -- The lines so far have the letter; the loop stops at the first that has not.
-use Prim.Native.Nat.{ℕ, _+_, _≤_, _-_}
+use Prim.Native.Nat.{ℕ, _≤_, _-_}
 use mathlib.Core.Path.{_≡_}
-use mathlib.Core.Logic.{⊎-elim}
 use native.Mathlib.Nat.{add-sub-cancel}
 use native.Mathlib.Omega.{arith}
-use native.Mathlib.Numerals.{add-one}
 use borrow.Author.Needs.{needs}
 use denote.Ref.{now}
 use Rattle.search.specs.Search.{Among}
-use Rattle.search.proofs.Found.{last-or}
+use Rattle.search.proofs.Found.{among-next}
 use Rattle.rolefile.specs.Line.{lines}
 use Rattle.rolefile.specs.Section.{letterAt}
 use Rattle.rolefile.proofs.read.leading.Statement.{statement}
@@ -31,10 +29,7 @@ unfolding letterAt
 loop-again c =
     let w = c .before .before .before .loop in (
       search needs,
-      λ j u. ⊎-elim
-          (λ e. let q : j ≡ w .i + 1 = omega arith in rw (q, add-sub-cancel (w .i) 1) (c .if1 .left))
-          (w .inv .1 j)
-          (last-or (w .i) j (rw add-one at u)),
+      among-next _ (w .i) (w .inv .1) (rw (add-sub-cancel (w .i) 1) (c .if1 .left)),
     )
 
 returns-2 : tie.Need-returns-2 Inv-loop μ-loop
