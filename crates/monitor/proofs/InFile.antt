@@ -22,7 +22,7 @@ use Rattle.policy.specs.Policy.{dominates, senior, may}
 use Rattle.policy.specs.Tables.{stateSize, seniorsAt, assignedAt}
 use Rattle.policy.proofs.Assigning.{reads-test, writes-test}
 use Rattle.policy.proofs.Inside.{assigned-known, over-between}
-use Rattle.policy.proofs.Meaning.{counts-known, marked-file}
+use Rattle.policy.proofs.Meaning.{counts-known, role-few, marked-file}
 use Rattle.policy.specs.Image.{Allows}
 use Rattle.monitor.specs.Session.{sound, labelsIn, rolesIn, usersIn, cardsIn, placeAt, heldAt, inUse, userAt, labelAt, cleared, entitled, fitting, gives}
 use Rattle.monitor.specs.Calls.{unless, atSession, openNumber, closeNumber, takeNumber, dropNumber, partNumber}
@@ -117,8 +117,7 @@ module _ (f : List ℕ) (form : WellFormed f) (t : Sessions) (known : Orderly f 
   fitting-file l r v w =
       let c = counts-known f form in
       let between = over-between f (form .good) in
-      let few-roles = c .roles in
-      let i : Among 128 r = omega arith in
+      let i = role-few f form r w in
       rw (
         stands .tables .levelled .reads r i,
         stands .tables .levelled .writes r i,

@@ -7,6 +7,7 @@ use native.Mathlib.Omega.{arith}
 use lib.ListN.{length}
 use Rattle.search.specs.Search.{among, Among}
 use Rattle.search.proofs.Truth.{and-iff, among-iff, passed, failed, either-by}
+use Rattle.search.proofs.Found.{wider}
 use Rattle.policy.specs.Tables.{word}
 use Rattle.monitor.specs.Session.{sound, entitled, fitting}
 use Rattle.monitor.specs.Review.{known, isRole, isUser, isCard, knownCount, entitledTo, mayOpen, mayTake}
@@ -21,10 +22,6 @@ module _ (t rest : Bool) {r : Bool} (e : r ≡ t) where
   holds h k = rw (passed e h) k
 
 pub ruleset tests = (fails, holds)
-
--- a number within a limit is within a higher one
-pub wider : (m n : ℕ) {x : ℕ} → m ≤ n → Among m x → Among n x
-wider m n l a = omega arith
 
 module _ (xs : List ℕ) where
   inside : (at x : ℕ) → known xs at x ≡ true → Sound xs × Among (word xs at) x
@@ -49,17 +46,17 @@ module _ (xs : List ℕ) where
   few-cards = few 512 6 (λ s. s .cards)
 
   -- with a limit to how many there are
-  within : (n at x : ℕ) → n ≤ 512 → known xs at x ≡ true → (Sound xs → word xs at ≤ n) → Among n x
-  within n at x l h few = let a = inside at x h in let most = few (a .0) in omega arith
+  within : (n at x : ℕ) → known xs at x ≡ true → (Sound xs → word xs at ≤ n) → Among n x
+  within n at x h few = let (s, a) = inside at x h in wider (word xs at) n (few s) a
 
   pub role : (r : ℕ) → isRole xs r ≡ true → Among 128 r
-  role r h = within 128 2 r (omega arith) h (λ s. s .roles)
+  role r h = within 128 2 r h (λ s. s .roles)
 
   pub user : (u : ℕ) → isUser xs u ≡ true → Among 256 u
-  user u h = within 256 4 u (omega arith) h (λ s. s .users)
+  user u h = within 256 4 u h (λ s. s .users)
 
   pub card : (o : ℕ) → isCard xs o ≡ true → Among 512 o
-  card o h = within 512 6 o (omega arith) h (λ s. s .cards)
+  card o h = within 512 6 o h (λ s. s .cards)
 
   -- a role that a user is entitled to, or may take, is one of the state's
   entitled-is-role : (u r : ℕ) → entitledTo xs u r ≡ true → isRole xs r ≡ true

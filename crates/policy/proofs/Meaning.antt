@@ -9,7 +9,7 @@ use lib.Dec.{eqb}
 use lib.ListN.{length}
 use borrow.Author.Tests.{eq-eqb}
 use Rattle.search.specs.Search.{Among}
-use Rattle.search.proofs.Found.{some-agree, first-none, first-lowest-of}
+use Rattle.search.proofs.Found.{wider, some-agree, first-none, first-lowest-of}
 use Rattle.roleset.specs.Row.{member, rowOf}
 use Rattle.order.specs.Closure.{path, OnCircle}
 use Rattle.order.proofs.Closure.{path-iff, circle-misses, circle-agree}
@@ -31,7 +31,7 @@ module _ (f : List ℕ) (form : WellFormed f) where
   counts-known = header-counts f (form .sized) (form .good)
 
   pub role-few : (r : ℕ) → Among (roles f) r → Among 128 r
-  role-few r w = let few = counts-known .roles in omega arith
+  role-few r w = wider (roles f) 128 (counts-known .roles) w
 
   module _ (xs : List ℕ) (tables : Describes f xs) where
     pub marked-file : (a b : ℕ) → Among (labels f) a ⊎ Among (labels f) b → marked xs a b ≡ dominates f a b

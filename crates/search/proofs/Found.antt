@@ -17,6 +17,10 @@ use Rattle.search.proofs.Truth.{or-iff, and-iff, implies-iff, untrue, b
 pub last-or : (n a : ℕ) → Among (suc n) a → (a ≡ suc n) ⊎ Among n a
 last-or n a w = ⊎-elim (λ e. inl e) (λ l. inr (omega arith)) (eq-or-lt-of-le (w .1))
 
+-- one of few things is one of more
+pub wider : (m n : ℕ) {x : ℕ} → m ≤ n → Among m x → Among n x
+wider m n l a = omega arith
+
 -- what holds of the things 1 to n and of n + 1 holds of the things 1 to n + 1
 pub among-more : (P : ℕ → Type 0) (n : ℕ) → ((a : ℕ) → Among n a → P a) → P (suc n) → (a : ℕ) → Among (suc n) a → P a
 among-more P n all last a w = ⊎-elim (λ e. rw e last) (all a) (last-or n a w)

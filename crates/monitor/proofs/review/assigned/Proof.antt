@@ -2,8 +2,9 @@
 use native.Mathlib.Omega.{arith}
 use borrow.Author.Needs.{needs}
 use Rattle.search.proofs.Truth.{passed}
+use Rattle.search.proofs.Found.{wider}
 use Rattle.monitor.specs.Review.{assignedTo}
-use Rattle.monitor.proofs.Known.{tests, wider, long, user}
+use Rattle.monitor.proofs.Known.{tests, long, user}
 use Rattle.monitor.proofs.review.assigned.Statement.{statement}
 use Rattle.monitor.proofs.review.assigned.Tie as tie
 

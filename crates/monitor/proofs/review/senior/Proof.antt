@@ -2,8 +2,9 @@
 use native.Mathlib.Omega.{arith}
 use borrow.Author.Needs.{needs}
 use Rattle.search.proofs.Truth.{passed}
+use Rattle.search.proofs.Found.{wider}
 use Rattle.monitor.specs.Review.{seniorTo}
-use Rattle.monitor.proofs.Known.{tests, wider, long, role}
+use Rattle.monitor.proofs.Known.{tests, long, role}
 use Rattle.monitor.proofs.review.senior.Statement.{statement}
 use Rattle.monitor.proofs.review.senior.Tie as tie
 
