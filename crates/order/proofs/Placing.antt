@@ -9,25 +9,49 @@ use native.Mathlib.Omega.{arith}
 use native.Mathlib.Decide.{decLt}
 use lib.ListN.{length}
 use lib.Dec.{eqb, leb}
-use borrow.Author.Tests.{leb-false}
+use borrow.Author.Tests.{le-leb}
 use Rattle.search.specs.Search.{Among}
-use Rattle.search.proofs.Truth.{among-iff, eqb-swap}
+use Rattle.search.proofs.Truth.{among-iff, both, eqb-swap}
 use Rattle.roleset.specs.Row.{rowOf, whole, member, added, unitedWhere, Placed, PlacedRows}
 use Rattle.roleset.proofs.Rows.{row-kept, rows-apart, whole-true}
 use Rattle.order.specs.Closure.{Relation, via, round, reflexive}
-use Rattle.order.specs.Table.{related, Tabled}
+use Rattle.order.specs.Table.{Rows, related, Tabled}
 use Rattle.order.proofs.Closure.{RowSet, rows-none, rows-more, rounds-none, rounds-more}
 
--- no table is there
+-- the row of thing i + 1 of the table at `at`, as it is tested
+pub row-tested : (xs : List ℕ) (at i r : ℕ) (b : Bool) → at + 16 * i + 16 ≤ length xs
+    → b ≡ (whole xs (at + 16 * i) && member xs (at + 16 * i) r) → b ≡ related xs at (i + 1) r
+row-tested xs at i r b l e = rw (add-sub-cancel i 1) (e ∙ rw (whole-true xs (at + 16 * i) l))
+
+-- nothing is written
+table-unwritten : {at n : ℕ} {h : Relation} {xs : List ℕ} → (at + 2048 ≤ length xs → Rows 128 n h (related xs at) (related xs at)) → Tabled at n h xs xs
+table-unwritten h = record { rows = h; rest = λ i o. refl; none = λ l. refl }
+
 pub no-table : {at n : ℕ} {h : Relation} {xs : List ℕ} → leb (at + 2048) (length xs) ≡ false → Tabled at n h xs xs
-no-table {at} {xs = xs} e =
-    let short = leb-false (at + 2048) (length xs) e in
-    record { rows = λ m. absurd (omega arith); rest = λ i o. refl; none = λ m. refl }
+no-table e = table-unwritten (λ l. absurd (both (le-leb _ _ l) e))
+
+pub placing-none : {at : ℕ} {h : Relation} {xs : List ℕ} → Tabled at 0 h xs xs
+placing-none = table-unwritten (λ l. rows-none _ _ _)
+
+pub closing-none : {at n : ℕ} {xs : List ℕ} → Tabled at n (via (related xs at) 0) xs xs
+closing-none = table-unwritten (λ l. rounds-none _ _ _)
+
+-- rows that are as h says already need no turn
+pub placing-pass : (at : ℕ) (h : Relation) (xs : List ℕ) (i j : ℕ) (ys : List ℕ) → i ≤ j → j ≤ 128 → Tabled at i h xs ys
+    → ((a b : ℕ) → i < a → a ≤ j → Among 128 b → related xs at a b ≡ h a b) → Tabled at j h xs ys
+placing-pass at h xs i j ys l m t same = record {
+  rows = λ f. record {
+    done = λ a b v w. elim (decLt i a) [
+      | yes k ↦ t .rows f .left a b k (omega arith) w ∙ same a b k (omega arith) w
+      | no k ↦ t .rows f .done a b (omega arith) w
+    ];
+    left = λ a b v u w. t .rows f .left a b (omega arith) u w;
+  };
+  rest = λ k o. t .rest k (λ n. let q = o n in omega arith);
+  none = t .none;
+}
 
 module _ (at : ℕ) (h : Relation) (xs : List ℕ) (fits : at + 2048 ≤ length xs) where
-  pub placing-none : Tabled at 0 h xs xs
-  placing-none = record { rows = λ l. rows-none 128 h (related xs at); rest = λ i o. refl; none = λ l. refl }
-
   -- the row of thing i + 1 is placed
   pub placing-more : (i : ℕ) (s : ℕ → Bool) (ys zs : List ℕ) → i < 128 → length ys ≡ length xs → Tabled at i h xs ys → Placed (at + 16 * i) s ys zs
       → ((b : ℕ) → Among 128 b → s b ≡ h (i + 1) b) → Tabled at (i + 1) h xs zs
@@ -43,21 +67,6 @@ module _ (at : ℕ) (h : Relation) (xs : List ℕ) (fits : at + 2048 ≤ length 
         others = λ a b v ne w.
             row-kept ys zs (p .rest) (rowOf at a) b (rw (add-sub-cancel i 1) at (rows-apart at (i + 1) a (omega arith) (v .0) ne));
       }
-
-  -- rows that are as h says already need no turn
-  pub placing-pass : (i j : ℕ) (ys : List ℕ) → i ≤ j → j ≤ 128 → Tabled at i h xs ys
-      → ((a b : ℕ) → i < a → a ≤ j → Among 128 b → related xs at a b ≡ h a b) → Tabled at j h xs ys
-  placing-pass i j ys l m t same = record {
-    rows = λ f. record {
-      done = λ a b v w. elim (decLt i a) [
-        | yes k ↦ t .rows f .left a b k (omega arith) w ∙ same a b k (omega arith) w
-        | no k ↦ t .rows f .done a b (omega arith) w
-      ];
-      left = λ a b v u w. t .rows f .left a b (omega arith) u w;
-    };
-    rest = λ k o. t .rest k (λ n. let q = o n in omega arith);
-    none = t .none;
-  }
 
   -- a row that has had no turn yet
   pub placing-left : (i b : ℕ) (ys : List ℕ) → i < 128 → Among 128 b → Tabled at i h xs ys → member ys (at + 16 * i) b ≡ member xs (at + 16 * i) b
@@ -87,9 +96,6 @@ module _ (at : ℕ) (xs : List ℕ) (fits : at + 2048 ≤ length xs) where
     rest = p .rest;
     none = λ f. absurd (omega arith);
   }
-
-  pub closing-none : (n : ℕ) → Tabled at n (via e 0) xs xs
-  closing-none n = record { rows = λ l. rounds-none 128 n e; rest = λ i o. refl; none = λ l. refl }
 
   pub closing-more : (n k : ℕ) (ys zs : List ℕ) → k < n → n ≤ 128 → length ys ≡ length xs
       → Tabled at n (via e k) xs ys → Tabled at n (round (related ys at) (k + 1)) ys zs → Tabled at n (via e (k + 1)) xs zs

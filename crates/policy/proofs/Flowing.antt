@@ -20,14 +20,7 @@ use Rattle.order.proofs.Closure.{circle-agree}
 use Rattle.order.proofs.Placing.{placing-more, placing-pass, placing-left}
 use Rattle.policy.specs.Tables.{readersAt, writersAt, stateSize, isState, flowing}
 
--- ---- what is answered where a test holds, and where it fails
-
-module _ {b : Bool} where
-  pub refused : (found : ℕ) → b ≡ false → 0 ≡ cond b found 0
-  refused found e = rw e
-
-  pub answered : {r found : ℕ} → b ≡ true → r ≡ found → r ≡ cond b found 0
-  answered e q = rw e q
+-- ---- whether a slice is a state
 
 module _ (xs : List ℕ) where
   pub no-state : length xs < stateSize → isState xs ≡ false
@@ -41,11 +34,6 @@ module _ (xs : List ℕ) where
   of-state l e = e ∙ rw (a-state l)
 
 -- ---- card by card
-
--- the row of thing o + 1 of the table at `at`, as it is tested
-pub row-tested : (xs : List ℕ) (at o r : ℕ) (b : Bool) → at + 16 * o + 16 ≤ length xs
-    → b ≡ (whole xs (at + 16 * o) && member xs (at + 16 * o) r) → b ≡ member xs (rowOf at (o + 1)) r
-row-tested xs at o r b l e = rw (add-sub-cancel o 1) (e ∙ rw (whole-true xs (at + 16 * o) l))
 
 -- r may write card o, and q may read it
 abbrev pub passing : List ℕ → ℕ → ℕ → ℕ → Bool
@@ -116,7 +104,7 @@ module _ {t u xs : List ℕ} {o i w : ℕ} (turn : Turn t u xs o i w) where
 
   pub no-writer : w ≡ 0 → Tabled 0 128 Past t u
   no-writer e =
-      placing-pass 0 Past t (omega arith) i 128 u (omega arith) (omega arith) (turn .done)
+      placing-pass 0 Past t i 128 u (omega arith) (omega arith) (turn .done)
       (λ r q k m v. idle r q (first-none Later 128 .0 (next-writer ∙ e) r (omega arith)) k)
 
   module _ (some : w ≡ 0 → ⊥) where
@@ -132,7 +120,7 @@ module _ {t u xs : List ℕ} {o i w : ℕ} (turn : Turn t u xs o i w) where
         let ahead = writer-ahead in
         let within = writer-within in
         let last : w - 1 + 1 ≡ w = omega arith in
-        let passed = placing-pass 0 Past t (omega arith) i (w - 1) u (omega arith) (omega arith) (turn .done)
+        let passed = placing-pass 0 Past t i (w - 1) u (omega arith) (omega arith) (turn .done)
         (λ r q k m v. idle r q (lowest .lower r (omega arith) (omega arith)) k) in
         rw last at (row-more Past t u (w - 1) (turn .long) (turn .same) (omega arith) passed v _ placed (λ q z.
         rw (

@@ -1,5 +1,5 @@
 -- Tests that are true: what a conjunction, a disjunction, an implication and a range test tell, two tests that say the same, and what holds
--- whichever way a test goes.
+-- whichever way a test goes, and is answered then.
 -- Assumes nothing.
 use Prim.Native.Nat.{ℕ, _≤_, _<_}
 use mathlib.Core.Path.{_≡_, refl, sym, _∙_}
@@ -92,3 +92,11 @@ either-by P false x y p q = q refl
 
 pub either : {A : Type 0} (P : A → Type 0) (b : Bool) (x y : A) → P x → P y → P (cond b x y)
 either P b x y p q = either-by P b x y (λ e. p) (λ e. q)
+
+-- what is answered where a test holds, and where it fails
+module _ {b : Bool} where
+  pub answered : {r found : ℕ} → b ≡ true → r ≡ found → r ≡ cond b found 0
+  answered e q = rw e q
+
+  pub refused : (found : ℕ) → b ≡ false → 0 ≡ cond b found 0
+  refused found e = rw e

@@ -42,7 +42,7 @@ ordered-table-spec =
     (tie.spec
     Inv-loop
     μ-loop
-    (λ c. (search needs, zeros, placing-none _ _ _ (omega (arith, zeros))))
+    (λ c. (search needs, zeros, placing-none))
     (λ c. search needs)
     (λ c κs. search needs)
     (λ c. search needs)

@@ -1,21 +1,18 @@
 -- A search among the first n roles.
-use Prim.Native.Nat.{ℕ, _+_, _*_, _≤_, _-_, min}
+use Prim.Native.Nat.{ℕ, _+_, _≤_, _-_, min}
 use mathlib.Core.Path.{_≡_, sym, _∙_}
-use mathlib.Core.Bool.{Bool, _&&_, cond}
+use mathlib.Core.Bool.{Bool}
 use mathlib.Core.List.{List}
-use native.Mathlib.Nat.{add-sub-cancel}
 use native.Mathlib.Omega.{arith}
 use borrow.Author.Needs.{needs}
 use borrow.Author.Tests.{le-leb, leb-true}
 use denote.Ref.{now}
-use lib.Dec.{leb}
 use lib.ListN.{length}
-use Rattle.search.proofs.Truth.{passed, failed}
+use Rattle.search.proofs.Truth.{passed, failed, answered}
 use Rattle.search.proofs.Found.{first-yet, first-found, first-more}
-use Rattle.roleset.specs.Row.{whole, member}
-use Rattle.roleset.proofs.Rows.{whole-true}
 use Rattle.order.specs.Closure.{loop}
 use Rattle.order.specs.Table.{related}
+use Rattle.order.proofs.Placing.{row-tested}
 use Rattle.order.proofs.rows.lowest_loop.Statement.{statement}
 use Rattle.order.proofs.rows.lowest_loop.Tie as tie
 
@@ -29,24 +26,16 @@ abbrev μ-loop : tie.MeasureT-loop
 abbrev self : List ℕ → ℕ → ℕ → Bool
 self xs at a = related xs at a a
 
-present : (xs : List ℕ) (at found r : ℕ) → at + 2048 ≤ length xs → r ≡ found → r ≡ cond (leb (at + 2048) (length xs)) found 0
-present xs at found r l e = rw (le-leb (at + 2048) (length xs) l) e
-
 fits : (c : tie.Else1 Inv-loop μ-loop) → let a = c .before .before .before .args in a .at + 2048 ≤ length (now (a .s))
 fits c = leb-true _ _ (passed (c .before .rows-lie .ensures) (c .if1 .left))
-
--- what the row's test tells
-told : (xs : List ℕ) (at i : ℕ) (b t : Bool) → at + 16 * i + 16 ≤ length xs
-    → b ≡ (whole xs (at + 16 * i) && member xs (at + 16 * i) (i + 1)) → b ≡ t → self xs at (i + 1) ≡ t
-told xs at i b t l e q = rw (add-sub-cancel i 1) (sym (e ∙ rw (whole-true xs (at + 16 * i) l)) ∙ q)
 
 returns-2 : tie.Need-returns-2 Inv-loop μ-loop
 returns-2 c =
     let turn = c .before .before .before in
     let a = turn .before .before .before .before .before .args in
     let w = turn .loop in
-    present (now (a .s)) _ _ _ (w .inv .2)
-    (first-found (self (now (a .s)) (a .at)) (min (a .n) 128) (w .i) (search needs) (w .inv .3) (told (now (a .s)) (a .at) (w .i) _ _ (search needs) (c .before .has .ensures) (c .if2 .taken)))
+    answered (le-leb _ _ (w .inv .2))
+    (first-found (self (now (a .s)) (a .at)) (min (a .n) 128) (w .i) (search needs) (w .inv .3) (sym (row-tested (now (a .s)) (a .at) (w .i) (w .i + 1) _ (search needs) (c .before .has .ensures)) ∙ c .if2 .taken))
 
 loop-again : tie.Need-loop-again Inv-loop μ-loop
 loop-again c =
@@ -56,7 +45,7 @@ loop-again c =
       search needs,
       search needs,
       search needs,
-      first-more (self (now (a .s)) (a .at)) (w .i) (w .inv .3) (told (now (a .s)) (a .at) (w .i) _ _ (search needs) (c .before .has .ensures) (c .if2 .left)),
+      first-more (self (now (a .s)) (a .at)) (w .i) (w .inv .3) (sym (row-tested (now (a .s)) (a .at) (w .i) (w .i + 1) _ (search needs) (c .before .has .ensures)) ∙ c .if2 .left),
     )
 
 returns-3 : tie.Need-returns-3 Inv-loop μ-loop
@@ -64,7 +53,7 @@ returns-3 c =
     let w = c .before .loop in
     let a = c .before .before .before .before .before .before .args in
     let q : w .i ≡ min (a .n) 128 = omega arith in
-    present (now (a .s)) _ _ _ (w .inv .2) (sym (rw q at (w .inv .3)))
+    answered (le-leb _ _ (w .inv .2)) (sym (rw q at (w .inv .3)))
 
 pub lowest-loop-spec : {M : Type 1} → statement M
 lowest-loop-spec =

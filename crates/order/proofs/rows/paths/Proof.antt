@@ -49,7 +49,7 @@ paths-spec =
     (λ c κs. search needs)
     (λ c. no-table (failed (c .before .rows-lie .ensures) (c .if1 .taken)))
     (λ c κs. search needs)
-    (λ c. (search needs, search needs, fits (c .before), search needs, closing-none _ _ (fits (c .before)) _))
+    (λ c. (search needs, search needs, fits (c .before), search needs, closing-none))
     (λ c κs. search needs)
     (λ c. search needs)
     (λ c. search needs)

@@ -48,7 +48,7 @@ reflect-spec =
     (λ c κs. search needs)
     (λ c. no-table (failed (c .before .rows-lie .ensures) (c .if1 .taken)))
     (λ c κs. search needs)
-    (λ c. (search needs, search needs, fits (c .before), search needs, placing-none _ _ _ (fits (c .before))))
+    (λ c. (search needs, search needs, fits (c .before), search needs, placing-none))
     (λ c. search needs)
     (λ c. search needs)
     (λ c. search needs)

@@ -1,7 +1,8 @@
 -- None of a slice that is too short, and else the lesser of the number that the state holds and the limit.
 use borrow.Author.Needs.{needs}
 use denote.Ref.{now}
-use Rattle.policy.proofs.Flowing.{no-state, a-state, refused, answered}
+use Rattle.search.proofs.Truth.{answered, refused}
+use Rattle.policy.proofs.Flowing.{no-state, a-state}
 use Rattle.policy.proofs.flow.count.Statement.{statement}
 use Rattle.policy.proofs.flow.count.Tie as tie
 

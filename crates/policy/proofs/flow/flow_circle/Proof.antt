@@ -4,8 +4,9 @@ use mathlib.Core.Path.{_≡_, _∙_}
 use native.Mathlib.Omega.{arith}
 use borrow.Author.Needs.{needs}
 use denote.Ref.{now}
+use Rattle.search.proofs.Truth.{answered, refused}
 use Rattle.policy.specs.Tables.{rolesUpTo, cardsUpTo}
-use Rattle.policy.proofs.Flowing.{no-state, a-state, of-state, refused, answered, flow-circles}
+use Rattle.policy.proofs.Flowing.{no-state, a-state, of-state, flow-circles}
 use Rattle.policy.proofs.flow.flow_circle.Statement.{statement}
 use Rattle.policy.proofs.flow.flow_circle.Tie as tie
 

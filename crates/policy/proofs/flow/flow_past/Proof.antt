@@ -73,7 +73,7 @@ flow-past-spec =
     (λ c. search needs)
     (λ c. search needs)
     (λ c κs. search needs)
-    (λ c. (search needs, search needs, placing-none _ _ _ (search needs)))
+    (λ c. (search needs, search needs, placing-none))
     (λ c. search needs)
     (λ c κs. search needs)
     (λ c. search needs)

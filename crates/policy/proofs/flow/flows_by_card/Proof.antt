@@ -1,8 +1,8 @@
 -- Both rows lie in the state.
 use borrow.Author.Needs.{needs}
 use denote.Ref.{now}
+use Rattle.order.proofs.Placing.{row-tested}
 use Rattle.policy.specs.Tables.{readersAt, writersAt}
-use Rattle.policy.proofs.Flowing.{row-tested}
 use Rattle.policy.proofs.flow.flows_by_card.Statement.{statement}
 use Rattle.policy.proofs.flow.flows_by_card.Tie as tie
 

@@ -5,9 +5,9 @@ use native.Mathlib.Omega.{arith}
 use borrow.Author.Needs.{needs}
 use denote.Ref.{now}
 use Rattle.search.specs.Search.{among, Among}
-use Rattle.search.proofs.Truth.{passed, failed, one-of}
+use Rattle.search.proofs.Truth.{passed, failed, one-of, answered, refused}
 use Rattle.policy.specs.Tables.{isState}
-use Rattle.policy.proofs.Flowing.{no-state, a-state, refused, answered}
+use Rattle.policy.proofs.Flowing.{no-state, a-state}
 use Rattle.policy.proofs.flow.level.Statement.{statement}
 use Rattle.policy.proofs.flow.level.Tie as tie
 

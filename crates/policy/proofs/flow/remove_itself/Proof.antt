@@ -40,7 +40,7 @@ remove-itself-spec =
     (tie.spec
     Inv-loop
     μ-loop
-    (λ c. (search needs, search needs, placing-none _ _ _ (search needs)))
+    (λ c. (search needs, search needs, placing-none))
     (λ c. search needs)
     (λ c. search needs)
     (λ c κs. search needs)
