@@ -2,7 +2,7 @@
 use Prim.Native.Nat.{ℕ, zero, suc, _+_, _≤_, _<_}
 use mathlib.Core.Path.{_≡_, refl, sym, ap, ap₂, subst, _∙_}
 use mathlib.Core.Logic.{_↔_}
-use mathlib.Core.List.{List, [], _∷_, _++_}
+use mathlib.Core.List.{List, _∷_, _++_}
 use mathlib.Core.Bool.{Bool, true, false, cond, false≢true}
 use native.Mathlib.Omega.{arith}
 use native.Mathlib.Nat.{add-assoc}
@@ -12,7 +12,7 @@ use lib.ListN.{length, getD, take, drop}
 use lib.Seq.{take-at, drop-at, drop-cons}
 use borrow.Author.Tests.{eqb-true, eq-eqb, leb-true, le-leb}
 use Rattle.search.specs.Search.{every, Among}
-use Rattle.search.proofs.Truth.{and-iff, either-by}
+use Rattle.search.proofs.Truth.{and-iff, either-by, untrue}
 use Rattle.search.proofs.Found.{every-at}
 use Rattle.rolefile.specs.declared.Field.{Field}
 use Rattle.rolefile.specs.declared.Field.the-variants.{Blank, Number, Bad}
@@ -64,7 +64,7 @@ fits-stands false Blank e = (refl, refl)
 fits-stands false (Number n) e = absurd (false≢true e)
 fits-stands false Bad e = absurd (false≢true e)
 
-stands-fits : (used : Bool) (p : Field) (n : ℕ) → Stands used p n → (fits used p ≡ true) × (value p ≡ n)
+pub stands-fits : (used : Bool) (p : Field) (n : ℕ) → Stands used p n → (fits used p ≡ true) × (value p ≡ n)
 stands-fits true p n e = rw e (refl, refl)
 stands-fits false p n (e, z) = rw (e, z) (refl, refl)
 
@@ -96,39 +96,52 @@ pub record Makes (k last : ℕ) (p q r s : Field) (l : Line) : Type 0 where
   pub c : Stands (fieldUsed 3 (l .letter)) r (l .c)
   pub d : Stands (fieldUsed 4 (l .letter)) s (l .d)
 
-module _ (k last : ℕ) (p q r s : Field) (l : Line) where
-  makes : (lineOf k last p q r s ≡ l) × (1 ≤ l .letter) → Makes k last p q r s l
-  unfolding lineOf formed
-  makes (is, m) = go (formed k last p q r s) refl is
-    where
-      go : (t : Bool) → formed k last p q r s ≡ t
-          → cond t (record { letter = k; a = value p; b = value q; c = value r; d = value s }) noLine ≡ l → Makes k last p q r s l
-      go true e same =
-          let (e₁, t₁) = and-iff (leb 1 k) _ .0 e in
-          let (e₂, t₂) = and-iff (eqb last 10) _ .0 t₁ in
-          let (e₃, t₃) = and-iff (fits true p) _ .0 t₂ in
-          let (e₄, t₄) = and-iff (fits true q) _ .0 t₃ in
-          let (e₅, e₆) = and-iff (fits (fieldUsed 3 k) r) _ .0 t₄ in
-          subst (Makes k last p q r s) same record {
-            letter = refl;
-            some = leb-true 1 k e₁;
-            end = eqb-true last 10 e₂;
-            a = fits-stands true p e₃;
-            b = fits-stands true q e₄;
-            c = fits-stands (fieldUsed 3 k) r e₅;
-            d = fits-stands (fieldUsed 4 k) s e₆;
-          }
-      go false e same = absurd (omega (arith, ap (λ x. x .letter) same))
+module _ (k last : ℕ) (p q r s : Field) where
+  -- what they say, where they make a line
+  abbrev said : Line
+  said = record { letter = k; a = value p; b = value q; c = value r; d = value s }
 
-  pub made : Makes k last p q r s l → (lineOf k last p q r s ≡ l) × (1 ≤ l .letter)
-  unfolding lineOf formed
-  made w =
-      let (e₁, a) = stands-fits true p (l .a) (w .a) in
-      let (e₂, b) = stands-fits true q (l .b) (w .b) in
-      let (e₃, c) = stands-fits (fieldUsed 3 (l .letter)) r (l .c) (w .c) in
-      let (e₄, d) = stands-fits (fieldUsed 4 (l .letter)) s (l .d) (w .d) in
-      let good : formed (l .letter) last p q r s ≡ true = rw (le-leb 1 (l .letter) (w .some), eq-eqb last 10 (w .end), e₁, e₂, e₃, e₄) in
-      (rw (w .letter, good) (λ i. record { letter = l .letter; a = a i; b = b i; c = c i; d = d i }), w .some)
+  formed-makes : formed k last p q r s ≡ true → Makes k last p q r s said
+  unfolding formed
+  formed-makes e =
+      let (e₁, t₁) = and-iff (leb 1 k) _ .0 e in
+      let (e₂, t₂) = and-iff (eqb last 10) _ .0 t₁ in
+      let (e₃, t₃) = and-iff (fits true p) _ .0 t₂ in
+      let (e₄, t₄) = and-iff (fits true q) _ .0 t₃ in
+      let (e₅, e₆) = and-iff (fits (fieldUsed 3 k) r) _ .0 t₄ in
+      record {
+        letter = refl;
+        some = leb-true 1 k e₁;
+        end = eqb-true last 10 e₂;
+        a = fits-stands true p e₃;
+        b = fits-stands true q e₄;
+        c = fits-stands (fieldUsed 3 k) r e₅;
+        d = fits-stands (fieldUsed 4 k) s e₆;
+      }
+
+  -- else it is malformed
+  pub not-made : (Makes k last p q r s said → ⊥) → noLine ≡ lineOf k last p q r s
+  unfolding lineOf
+  not-made h = rw (untrue (formed k last p q r s) (λ e. h (formed-makes e)))
+
+  module _ (l : Line) where
+    makes : (lineOf k last p q r s ≡ l) × (1 ≤ l .letter) → Makes k last p q r s l
+    unfolding lineOf
+    makes (is, m) = go (formed k last p q r s) refl is
+      where
+        go : (t : Bool) → formed k last p q r s ≡ t → cond t said noLine ≡ l → Makes k last p q r s l
+        go true e same = subst (Makes k last p q r s) same (formed-makes e)
+        go false e same = absurd (omega (arith, ap (λ x. x .letter) same))
+
+    pub made : Makes k last p q r s l → (lineOf k last p q r s ≡ l) × (1 ≤ l .letter)
+    unfolding lineOf formed
+    made w =
+        let (e₁, a) = stands-fits true p (l .a) (w .a) in
+        let (e₂, b) = stands-fits true q (l .b) (w .b) in
+        let (e₃, c) = stands-fits (fieldUsed 3 (l .letter)) r (l .c) (w .c) in
+        let (e₄, d) = stands-fits (fieldUsed 4 (l .letter)) s (l .d) (w .d) in
+        let good : formed (l .letter) last p q r s ≡ true = rw (le-leb 1 (l .letter) (w .some), eq-eqb last 10 (w .end), e₁, e₂, e₃, e₄) in
+        (rw (w .letter, good) (λ i. record { letter = l .letter; a = a i; b = b i; c = c i; d = d i }), w .some)
 
 -- the line of f that starts at i is l
 abbrev pub Reads : List ℕ → ℕ → Line → Type 0
@@ -136,15 +149,7 @@ Reads f i l = Makes (letterOf (getD f i 0)) (getD f (i + 21) 0) (fieldAt f (i + 
 
 pub line-iff : (f : List ℕ) (k : ℕ) (l : Line) → ((lineAt f k ≡ l) × (1 ≤ l .letter)) ↔ Reads f (start k) l
 unfolding lineAt
-line-iff f k l =
-    let i = start k in
-    let letter = letterOf (getD f i 0) in
-    let last = getD f (i + 21) 0 in
-    let p = fieldAt f (i + 1) in
-    let q = fieldAt f (i + 6) in
-    let r = fieldAt f (i + 11) in
-    let s = fieldAt f (i + 16) in
-    (makes letter last p q r s l, made letter last p q r s l)
+line-iff f k l = (makes _ _ _ _ _ _ l, made _ _ _ _ _ _ l)
 
 -- ---- its bytes
 

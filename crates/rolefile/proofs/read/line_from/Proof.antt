@@ -1,19 +1,20 @@
 -- A field that does not read as asked ends the line; where each does, the line is what they say.
 use mathlib.Core.Path.{sym, _∙_}
+use native.Mathlib.Omega.{arith}
 use borrow.Author.Needs.{needs}
-use Rattle.rolefile.proofs.Reading.{ended, got, unread, no-first, no-second, no-third, no-fourth, no-letter, no-end}
-use Rattle.rolefile.proofs.Written.{made}
+use Rattle.rolefile.proofs.Written.{made, not-made}
+use Rattle.rolefile.proofs.Reading.{taken-iff, no-number}
 use Rattle.rolefile.proofs.read.line_from.Statement.{statement}
 use Rattle.rolefile.proofs.read.line_from.Tie as tie
 
 returns : tie.Need-returns
-returns c = let l = c .before .before in c .no-line .ensures ∙ rw (← (l .letter .ensures)) (no-letter _ _ _ _ _ _ (c .before .if1 .taken))
+returns c = let l = c .before .before in c .no-line .ensures ∙ not-made _ _ _ _ _ _ (λ m. omega (arith, l .letter .ensures))
 
 returns-2 : tie.Need-returns-2
-returns-2 c = c .no-line2 .ensures ∙ no-first _ _ _ _ _ _ (unread _ _ (c .before .before .field .ensures) (c .before .match .keys2))
+returns-2 c = c .no-line2 .ensures ∙ not-made _ _ _ _ _ _ (λ m. no-number (c .before .before .field .ensures ∙ m .a) (c .before .match .keys2))
 
 returns-3 : tie.Need-returns-3
-returns-3 c = c .no-line3 .ensures ∙ no-second _ _ _ _ _ _ (unread _ _ (c .before .before .field2 .ensures) (c .before .match2 .keys2))
+returns-3 c = c .no-line3 .ensures ∙ not-made _ _ _ _ _ _ (λ m. no-number (c .before .before .field2 .ensures ∙ m .b) (c .before .match2 .keys2))
 
 returns-4 : tie.Need-returns-4
 returns-4 c =
@@ -21,8 +22,8 @@ returns-4 c =
     let q = r .before .before .before .before .before in
     let p = q .before .before .before .before in
     c .no-line4 .ensures
-    ∙ no-third _ _ _ _ _ _
-    (rw (r .before .field-count .ensures, p .before .before .letter .ensures) at (ended _ _ _ (r .taken-out-at .ensures) (c .before .match3 .keys2)))
+    ∙ not-made _ _ _ _ _ _ (λ m.
+    no-number (rw (r .before .field-count .ensures, p .before .before .letter .ensures) at (r .taken-out-at .ensures) ∙ taken-iff _ _ _ .1 (m .c)) (c .before .match3 .keys2))
 
 returns-5 : tie.Need-returns-5
 returns-5 c =
@@ -31,11 +32,11 @@ returns-5 c =
     let q = r .before .before .before .before .before in
     let p = q .before .before .before .before in
     c .no-line5 .ensures
-    ∙ no-fourth _ _ _ _ _ _
-    (rw (s .before .field-count2 .ensures, p .before .before .letter .ensures) at (ended _ _ _ (s .taken-out-at2 .ensures) (c .before .match4 .keys2)))
+    ∙ not-made _ _ _ _ _ _ (λ m.
+    no-number (rw (s .before .field-count2 .ensures, p .before .before .letter .ensures) at (s .taken-out-at2 .ensures) ∙ taken-iff _ _ _ .1 (m .d)) (c .before .match4 .keys2))
 
 returns-6 : tie.Need-returns-6
-returns-6 c = c .no-line6 .ensures ∙ no-end _ _ _ _ _ _ (c .before .if2 .taken)
+returns-6 c = c .no-line6 .ensures ∙ not-made _ _ _ _ _ _ (λ m. c .before .if2 .taken (m .end))
 
 returns-7 : tie.Need-returns-7
 returns-7 c =
@@ -50,8 +51,8 @@ returns-7 c =
       end = c .if2 .left;
       a = sym (p .field .ensures) ∙ q .before .before .a .given .1;
       b = sym (q .field2 .ensures) ∙ r .before .before .before .b .given .1;
-      c = rw (r .before .field-count .ensures) at (got _ _ _ _ (r .taken-out-at .ensures) (s .before .before .before .c .given .1));
-      d = rw (s .before .field-count2 .ensures) at (got _ _ _ _ (s .taken-out-at2 .ensures) (d .d .given .1));
+      c = rw (r .before .field-count .ensures) at (taken-iff _ _ _ .0 (sym (r .taken-out-at .ensures) ∙ s .before .before .before .c .given .1));
+      d = rw (s .before .field-count2 .ensures) at (taken-iff _ _ _ .0 (sym (s .taken-out-at2 .ensures) ∙ d .d .given .1));
     } .0)
 
 pub line-from-spec : {M : Type 1} → statement M
