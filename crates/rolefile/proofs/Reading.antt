@@ -1,6 +1,6 @@
 -- Reading a line field by field: what is taken out of a field, and that a field which does not read as asked ends the line. Assumes nothing.
 use Prim.Native.Nat.{ℕ, _+_, _*_, _≤_, _<_}
-use mathlib.Core.Path.{_≡_, refl, ap}
+use mathlib.Core.Path.{_≡_, refl}
 use mathlib.Core.Logic.{_↔_, ⊎-elim}
 use mathlib.Core.List.{List, [], _∷_}
 use mathlib.Core.Bool.{Bool, true, false, _&&_, cond}
@@ -43,11 +43,11 @@ module _ (f : List ℕ) (at : ℕ) where
       of : fits false (fieldAt f at) ≡ true → (eqb (four f at) 538976288 && eqb (getD f (at + 4) 0) 32) ≡ true
       of e =
           let s = field-blank f at .0 (fits-stands false (fieldAt f at) e .0) in
-          let e₀ : getD f at 0 ≡ 32 = ap (λ (l : List ℕ). getD l 0 0) s in
-          let e₁ : getD f (at + 1) 0 ≡ 32 = ap (λ (l : List ℕ). getD l 1 0) s in
-          let e₂ : getD f (at + 2) 0 ≡ 32 = ap (λ (l : List ℕ). getD l 2 0) s in
-          let e₃ : getD f (at + 3) 0 ≡ 32 = ap (λ (l : List ℕ). getD l 3 0) s in
-          let e₄ : getD f (at + 4) 0 ≡ 32 = ap (λ (l : List ℕ). getD l 4 0) s in
+          let e₀ : getD f at 0 ≡ 32 = cc in
+          let e₁ : getD f (at + 1) 0 ≡ 32 = cc in
+          let e₂ : getD f (at + 2) 0 ≡ 32 = cc in
+          let e₃ : getD f (at + 3) 0 ≡ 32 = cc in
+          let e₄ : getD f (at + 4) 0 ≡ 32 = cc in
           and-iff (eqb (four f at) 538976288) (eqb (getD f (at + 4) 0) 32) .1 (eq-eqb (four f at) 538976288 (omega arith), eq-eqb (getD f (at + 4) 0) 32 e₄)
 
 -- what is taken out of a field without use
