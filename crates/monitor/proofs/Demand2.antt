@@ -18,7 +18,7 @@ use Rattle.policy.specs.Flow.{flows, flowCircle}
 use Rattle.policy.specs.Image.{Loaded}
 use Rattle.policy.proofs.Outcomes.{accepted-iff}
 use Rattle.policy.proofs.Meaning.{counts-known, role-few, flow-file, circle-file}
-use Rattle.policy.proofs.Loads.{long-verdict}
+use Rattle.policy.proofs.Loads.{judged}
 use Rattle.monitor.specs.Calls.{unless, ifDone, written, partAt, opened, closed, taken, dropped, writeNumber}
 use Rattle.monitor.specs.Calls.{flowsNumber, circleNumber, Flows, Circles}
 use Rattle.monitor.specs.Runs.{Call, opens, closes, takes, drops, reads, writes, Memory, number, stateAfter, storeAfter, after, run}
@@ -182,7 +182,7 @@ module _ (f : List ℕ) (accepted : Accepted f) (xs ys : List ℕ) (v : Verdict)
   form = accepted .ordered .form
 
   load-done : v .number ≡ 0
-  load-done = ap (λ (w : Verdict). w .number) (load .answer ∙ sym (long-verdict f xs enough)) ∙ accepted-iff f .1 accepted
+  load-done = ap (λ (w : Verdict). w .number) (judged load enough) ∙ accepted-iff f .1 accepted
 
   loaded-stands : Stands f noSessions ys
   loaded-stands = image-stands f ys (rw (load .long) enough) (load .done load-done)

@@ -1,6 +1,6 @@
 -- A load: a state that is too short is refused first; the image is copied from a scratch state that began as zeros. Assumes nothing.
 use Prim.Native.Nat.{ℕ, _≤_, _<_}
-use mathlib.Core.Path.{_≡_, refl, ap, _∙_}
+use mathlib.Core.Path.{_≡_, refl, sym, ap, _∙_}
 use mathlib.Core.List.{List}
 use native.Mathlib.Omega.{arith}
 use lib.ListN.{length, replicate, getD-replicate}
@@ -37,9 +37,12 @@ load-short f xs v l e = record {
     short = unfold loadVerdict in rw (lt-leb stateSize (length xs) l)
 
 -- a state that is long enough gets the file's verdict
-pub long-verdict : (f xs : List ℕ) → 65536 ≤ length xs → verdict f ≡ loadVerdict (length xs) f
+long-verdict : (f xs : List ℕ) → 65536 ≤ length xs → verdict f ≡ loadVerdict (length xs) f
 unfolding loadVerdict
 long-verdict f xs l = rw (le-leb stateSize (length xs) l)
+
+pub judged : {f xs ys : List ℕ} {v : Verdict} → Loaded f v xs ys → 65536 ≤ length xs → v ≡ verdict f
+judged {f} {xs} load l = load .answer ∙ sym (long-verdict f xs l)
 
 pub load-refused : (f xs ys : List ℕ) (v : Verdict) → 65536 ≤ length xs → Built f v ys → (v .number ≡ 0 → ⊥) → Loaded f v xs xs
 load-refused f xs ys v l b h = record { answer = b .answer ∙ long-verdict f xs l; refused = λ h. refl; done = λ z. absurd (h z); rest = λ i m. refl; long = refl }

@@ -1,6 +1,6 @@
 -- The report by the verdict of a load, and whole where the buffer is long enough. Assumes nothing.
 use Prim.Native.Nat.{ℕ, _≤_}
-use mathlib.Core.Path.{_≡_, sym, _∙_}
+use mathlib.Core.Path.{_≡_, sym}
 use mathlib.Core.List.{List, _++_, append-nil}
 use native.Mathlib.Omega.{arith}
 use lib.ListN.{length, take}
@@ -9,7 +9,7 @@ use borrow.Author.Tests.{eq-eqb, ne-eqb}
 use Rattle.rolefile.specs.declared.Verdict.{Verdict}
 use Rattle.policy.specs.Verdict.{verdict}
 use Rattle.policy.specs.Image.{Loaded}
-use Rattle.policy.proofs.Loads.{long-verdict}
+use Rattle.policy.proofs.Loads.{judged}
 use Rattle.policy.proofs.Outcomes.{accepted-iff}
 use Rattle.io.specs.Counts.{Counts}
 use Rattle.text.specs.Text.{Puts}
@@ -20,22 +20,19 @@ use Rattle.rolecheck.proofs.Places.{Written, verdict-written}
 use Rattle.rolecheck.proofs.Fits.{report-length}
 
 module _ (f : List ℕ) {v : Verdict} {xs ys : List ℕ} (load : Loaded f v xs ys) (long : 65536 ≤ length xs) where
-  judged : v ≡ verdict f
-  judged = load .answer ∙ sym (long-verdict f xs long)
-
   pub load-written : Written v
-  load-written = rw judged (verdict-written f)
+  load-written = rw (judged load long) (verdict-written f)
 
   pub refused-report : (v .number ≡ 0 → ⊥) → line 86 3 (v .number) (v .first) (v .second) ≡ report f
   unfolding report
   refused-report h =
-      rw (judged, ne-eqb (verdict f .number) 0 (rw judged at h)) (sym (append-nil (line 86 3 (verdict f .number) (verdict f .first) (verdict f .second))))
+      rw (judged load long, ne-eqb (verdict f .number) 0 (rw (judged load long) at h)) (sym (append-nil (line 86 3 (verdict f .number) (verdict f .first) (verdict f .second))))
 
   pub accepted-report : v .number ≡ 0 → line 86 3 (v .number) (v .first) (v .second) ++ stateLines ys ≡ report f
   unfolding report
   accepted-report e =
-      let zero = rw judged at e in
-      rw (judged, eq-eqb (verdict f .number) 0 zero, lines-file f (accepted-iff f .0 zero .ordered .form) ys (rw (load .long) long) (load .done e .tables))
+      let zero = rw (judged load long) at e in
+      rw (judged load long, eq-eqb (verdict f .number) 0 zero, lines-file f (accepted-iff f .0 zero .ordered .form) ys (rw (load .long) long) (load .done e .tables))
 
 pub whole : (f : List ℕ) {r : ℕ} {xs ys : List ℕ} → 363308 ≤ length xs → Puts (report f) 0 xs r ys → Counts r ys × (take r ys ≡ report f)
 whole f {r} {xs} {ys} l puts =
