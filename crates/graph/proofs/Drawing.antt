@@ -1,37 +1,35 @@
 -- The tables that a graph is drawn by; and that its text sees of its relations only what they say of the things that are drawn. Assumes nothing.
 use Prim.Native.Nat.{ℕ, _+_, _*_, _≤_, _<_, min}
-use mathlib.Core.Path.{_≡_, _∙_}
+use mathlib.Core.Path.{_≡_, sym, _∙_}
 use mathlib.Core.Bool.{Bool, false, _&&_}
 use mathlib.Core.List.{List}
 use native.Mathlib.Omega.{arith}
-use native.Mathlib.Nat.{zero-add}
 use lib.ListN.{length, replicate, length-replicate}
 use Rattle.search.specs.Search.{Among}
 use Rattle.search.proofs.Found.{some-agree}
 use Rattle.roleset.proofs.Rows.{zero-rows}
-use Rattle.roleset.specs.Row.{member, united, Placed}
+use Rattle.roleset.specs.Row.{rowOf, member, united, Placed}
 use Rattle.order.specs.Closure.{Relation, path}
 use Rattle.order.specs.Table.{related, Tabled}
-use Rattle.order.proofs.Placing.{placing-left}
 use Rattle.order.proofs.Closure.{Agree, via-agree}
 use Rattle.text.specs.Text.{ascii}
 use Rattle.text.proofs.Each.{each-agree, each-pair-agree}
-use Rattle.policy.proofs.Flowing.{row-more}
+use Rattle.policy.proofs.Flowing.{row-left, row-more}
 use Rattle.graph.specs.Graph.{past, direct, directFlow, node, orderEdge, flowEdge, nodes, orderEdges, flowEdges, rolesText}
 
 -- ---- a table that is made row by row: its next row, empty so far, is united with another
 
 module _ (h : Relation) (u row : List ℕ) (i : ℕ) (long : length u ≡ 2048) (l : i < 128) (done : Tabled 0 i h (replicate 2048 0) u) where
+  zeros : length (replicate 2048 0) ≡ 2048
+  zeros = length-replicate {A = ℕ} 2048 0
+
   empty : (b : ℕ) → Among 128 b → member u (16 * i) b ≡ false
-  empty b w =
-      rw (zero-add (16 * i)) at (placing-left 0 h (replicate 2048 0) (omega (arith, length-replicate {A = ℕ} 2048 0)) i b u l w done)
-      ∙ zero-rows 2048 (16 * i) b (omega arith)
+  empty b w = row-left h (replicate 2048 0) u i (omega (arith, zeros)) (long ∙ sym zeros) l done b w ∙ zero-rows 2048 (rowOf 0 (i + 1)) b (omega arith)
 
   pub table-more : (v : List ℕ) → ((b : ℕ) → Among 128 b → member row 0 b ≡ h (i + 1) b) → Placed (16 * i) (united u (16 * i) row) u v
       → Tabled 0 (i + 1) h (replicate 2048 0) v
   table-more v new p =
-      row-more h (replicate 2048 0) u i (omega (arith, length-replicate {A = ℕ} 2048 0)) (omega (arith, length-replicate {A = ℕ} 2048 0)) l done v
-      (united u (16 * i) row) p (λ b w. rw (empty b w) (new b w))
+      row-more h (replicate 2048 0) u i (omega (arith, zeros)) (long ∙ sym zeros) l done v (united u (16 * i) row) p (λ b w. rw (empty b w) (new b w))
 
 -- ---- relations that agree
 

@@ -60,7 +60,7 @@ apart t r q = related t 0 r q && not (eqb q r)
 
 -- rows 1 to i have had their turn: row i + 1 is as it was, and has its turn
 module _ (h : Relation) (t u : List ℕ) (i : ℕ) (long : 2048 ≤ length t) (same : length u ≡ length t) (l : i < 128) (done : Tabled 0 i h t u) where
-  row-left : (q : ℕ) → Among 128 q → member u (16 * i) q ≡ related t 0 (i + 1) q
+  pub row-left : (q : ℕ) → Among 128 q → member u (16 * i) q ≡ related t 0 (i + 1) q
   row-left q w = rw (add-sub-cancel i 1, zero-add (16 * i)) (rw (zero-add (16 * i)) at (placing-left 0 h t (omega arith) i q u l w done))
 
   pub row-more : (v : List ℕ) (s : ℕ → Bool) → Placed (16 * i) s u v → ((q : ℕ) → Among 128 q → s q ≡ h (i + 1) q) → Tabled 0 (i + 1) h t v
