@@ -22,10 +22,9 @@ use Rattle.rolefile.specs.Section.{part}
 use Rattle.rolefile.proofs.Sections.{Section}
 use Rattle.rolefile.specs.WellFormed.{GoodLines}
 use Rattle.policy.specs.Policy.{dominates}
-use Rattle.policy.specs.Tables.{pairs}
+use Rattle.policy.specs.Tables.{pairs, Marking}
 use Rattle.policy.specs.Verdict.{orderVerdict, labelVerdict}
 use Rattle.policy.specs.Stages.{Paths, Closed}
-use Rattle.policy.proofs.Marked.{Marking}
 use Rattle.policy.proofs.Inside.{over-between}
 use Rattle.policy.proofs.Ranks.{pairs-say}
 

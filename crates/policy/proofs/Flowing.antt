@@ -1,24 +1,24 @@
 -- What is answered of a state and of a slice too short for one; and role flow, card by card, and as a table of role sets. Assumes nothing.
 use Prim.Native.Nat.{ℕ, _+_, _-_, _*_, _≤_, _<_}
 use mathlib.Core.Path.{_≡_, sym, _∙_}
-use mathlib.Core.Bool.{Bool, true, false, not, _&&_, _||_, cond, and-true, and-false, or-false}
+use mathlib.Core.Bool.{Bool, true, false, not, _&&_, cond, and-true, and-false, or-false}
 use mathlib.Core.List.{List}
 use native.Mathlib.Omega.{arith}
 use native.Mathlib.Nat.{add-sub-cancel, zero-add}
 use native.Mathlib.Decide.{ℕ-discrete}
-use lib.Dec.{leb, eqb}
+use lib.Dec.{leb}
 use lib.ListN.{length}
 use borrow.Author.Tests.{le-leb, lt-leb, leb-false, not-true, eq-eqb, ne-eqb}
 use Rattle.search.specs.Search.{Among, Lowest, some, first}
 use Rattle.search.proofs.Truth.{and-iff}
 use Rattle.search.proofs.Found.{first-agree, first-none, first-lowest, first-within}
-use Rattle.roleset.specs.Row.{rowOf, whole, member, removed, united, memberAfter, nextMember, Placed}
+use Rattle.roleset.specs.Row.{whole, member, removed, united, memberAfter, nextMember, Placed}
 use Rattle.roleset.proofs.Rows.{whole-true}
 use Rattle.order.specs.Closure.{Relation, path, loop, circle}
 use Rattle.order.specs.Table.{related, Tabled}
 use Rattle.order.proofs.Closure.{circle-agree}
 use Rattle.order.proofs.Placing.{placing-more, placing-pass, placing-left}
-use Rattle.policy.specs.Tables.{readersAt, writersAt, stateSize, isState, flowing}
+use Rattle.policy.specs.Tables.{readersAt, writersAt, stateSize, isState, flowsByCard, flowing, pastCard, apart}
 
 -- ---- whether a slice is a state
 
@@ -35,28 +35,16 @@ module _ (xs : List ℕ) where
 
 -- ---- card by card
 
--- r may write card o, and q may read it
-abbrev pub passing : List ℕ → ℕ → ℕ → ℕ → Bool
-passing xs r q o = member xs (rowOf writersAt o) r && member xs (rowOf readersAt o) q
-
 module _ (xs : List ℕ) (n r q : ℕ) where
   pub flow-self : r ≡ q → flowing xs n r q ≡ false
   unfolding flowing
   flow-self e = rw (eq-eqb r q e)
 
-  pub flow-other : (r ≡ q → ⊥) → flowing xs n r q ≡ some n (passing xs r q)
+  pub flow-other : (r ≡ q → ⊥) → flowing xs n r q ≡ some n (flowsByCard xs r q)
   unfolding flowing
   flow-other ne = rw (ne-eqb r q ne)
 
 -- ---- as a table of role sets at the start of a list: row r has the roles that r flows to
-
--- what card o adds
-abbrev pub pastCard : List ℕ → List ℕ → ℕ → Relation
-pastCard t xs o r q = related t 0 r q || passing xs r q o
-
--- without what relates a role to itself
-abbrev pub apart : List ℕ → Relation
-apart t r q = related t 0 r q && not (eqb q r)
 
 -- rows 1 to i have had their turn: row i + 1 is as it was, and has its turn
 module _ (h : Relation) (t u : List ℕ) (i : ℕ) (long : 2048 ≤ length t) (same : length u ≡ length t) (l : i < 128) (done : Tabled 0 i h t u) where
@@ -137,7 +125,7 @@ pub apart-row : (t u : List ℕ) (i q : ℕ) → 2048 ≤ length t → length u 
 apart-row t u i q long same l w done = rw (row-left (apart t) t u i long same l done q w)
 
 -- a table that says which role may write one of the first m cards that which role may read
-module _ (xs t : List ℕ) (m : ℕ) (said : (r q : ℕ) → Among 128 r → Among 128 q → related t 0 r q ≡ some m (passing xs r q)) where
+module _ (xs t : List ℕ) (m : ℕ) (said : (r q : ℕ) → Among 128 r → Among 128 q → related t 0 r q ≡ some m (flowsByCard xs r q)) where
   -- has the flow among the first m cards, once no role is related to itself
   pub apart-flows : (r q : ℕ) → Among 128 r → Among 128 q → apart t r q ≡ flowing xs m r q
   apart-flows r q v w = elim (ℕ-discrete r q) [

@@ -5,7 +5,6 @@ use mathlib.Core.Bool.{Bool, true, false, _&&_, _||_, or-false}
 use mathlib.Core.List.{List}
 use native.Mathlib.Nat.{add-sub-cancel}
 use native.Mathlib.Omega.{arith}
-use lib.Dec.{eqb}
 use lib.ListN.{length, getD}
 use borrow.Author.Tests.{ne-eqb}
 use Rattle.search.specs.Search.{Among, some}
@@ -17,32 +16,28 @@ use Rattle.order.specs.Bound.{lub}
 use Rattle.order.proofs.Closure.{Agree}
 use Rattle.order.proofs.Bound.{lub-agree}
 use Rattle.policy.specs.Policy.{levelAt, level, levelNumber}
-use Rattle.policy.specs.Tables.{byteOf, cardLabelsAt, gathered}
+use Rattle.policy.specs.Tables.{byteOf, cardLabelsAt, brings, gathered}
 use Rattle.policy.proofs.Relating.{row-united}
-
--- what card o + 1 brings to the row of label l
-abbrev brings : List ℕ → ℕ → ℕ → ℕ → ℕ → Bool
-brings xs at o l r = eqb (byteOf xs cardLabelsAt (o + 1)) l && member xs (rowOf at (o + 1)) r
 
 module _ (xs : List ℕ) (at o label : ℕ) (e : label ≡ getD xs (cardLabelsAt + o) 0) where
   byte-is : byteOf xs cardLabelsAt (o + 1) ≡ label
   byte-is = rw (add-sub-cancel o 1) (sym e)
 
   -- a card with no label brings nothing
-  pub brings-none : (g : List ℕ) (l r : ℕ) → (label ≡ l → ⊥) → member g (rowOf 0 l) r ≡ (member g (rowOf 0 l) r || brings xs at o l r)
+  pub brings-none : (g : List ℕ) (l r : ℕ) → (label ≡ l → ⊥) → member g (rowOf 0 l) r ≡ (member g (rowOf 0 l) r || brings xs at l r (o + 1))
   brings-none g l r ne = rw (byte-is, ne-eqb label l ne) (sym (or-false (member g (rowOf 0 l) r)))
 
   pub brings-row : (g h other : List ℕ) → length g ≡ 512 → Among 32 label → at + 16 * o + 16 ≤ length xs
       → ((r : ℕ) → member other 0 r ≡ (whole xs (at + 16 * o) && member xs (at + 16 * o) r))
       → Placed (rowOf 0 label) (united g (rowOf 0 label) other) g h
-      → (l r : ℕ) → Among 32 l → member h (rowOf 0 l) r ≡ (member g (rowOf 0 l) r || brings xs at o l r)
+      → (l r : ℕ) → Among 32 l → member h (rowOf 0 l) r ≡ (member g (rowOf 0 l) r || brings xs at l r (o + 1))
   brings-row g h other long v fits row p l r w =
       rw (byte-is, add-sub-cancel o 1)
       (row-united 0 32 label p v (member xs (at + 16 * o)) (omega arith) l r w (rw (row r, whole-true xs (at + 16 * o) fits)))
 
-pub gathered-more : (xs : List ℕ) (at o l r : ℕ) → (gathered xs at o l r || brings xs at o l r) ≡ gathered xs at (o + 1) l r
+pub gathered-more : (xs : List ℕ) (at o l r : ℕ) → (gathered xs at o l r || brings xs at l r (o + 1)) ≡ gathered xs at (o + 1) l r
 unfolding gathered
-gathered-more xs at o l r = sym (some-more (λ k. eqb (byteOf xs cardLabelsAt k) l && member xs (rowOf at k) r) o)
+gathered-more xs at o l r = sym (some-more (brings xs at l r) o)
 
 pub gathered-yet : (xs : List ℕ) (at l r : ℕ) → gathered xs at 0 l r ≡ false
 unfolding gathered

@@ -27,8 +27,8 @@ use Rattle.rolefile.specs.WellFormed.{GoodCounts, GoodLines}
 use Rattle.rolefile.proofs.Sections.{Section, says-three}
 use Rattle.policy.specs.declared.build.Parts.{Parts}
 use Rattle.policy.specs.Policy.{dominates, senior, may, mayAt, level, rLevel, wLevel, levelNumber}
-use Rattle.policy.specs.Tables.{cardLabelsAt, rLevelsAt, wLevelsAt, seniorsAt, readersAt, writersAt, byteOf, markAt}
-use Rattle.policy.specs.Tables.{grantedByLines, gathered, Bytes, GrantedRows}
+use Rattle.policy.specs.Tables.{rLevelsAt, wLevelsAt, seniorsAt, readersAt, writersAt, byteOf, markAt}
+use Rattle.policy.specs.Tables.{lineGrants, grantedByLines, brings, gathered, Bytes, GrantedRows}
 use Rattle.policy.specs.Image.{Labelled, Seniors, Permitting, Allows}
 use Rattle.policy.specs.Stages.{Ready, Zeros, Closed, Granting}
 use Rattle.policy.proofs.Readying.{good-of, counts-of, section-p, one-within, limits-p}
@@ -78,7 +78,7 @@ module _ (f xs : List ℕ) (good : GoodLines f) (few : roles f ≤ 128) (seniors
   unfolding grantedByLines may
   may-is d o r w =
       some-agree
-      (λ i. eqb (two p i) o && (eqb (three p i) d && (among 128 (one p i) && member xs (rowOf seniorsAt (one p i)) r)))
+      (λ i. lineGrants xs (one p i) (two p i) (three p i) d o r)
       (λ i. line i && senior f r (one p i))
       m (λ i v. rw (senior-row (one p i) r (role-within i v) w) (sym (and-assoc (eqb (two p i) o) (eqb (three p i) d) (senior f r (one p i)))))
       ∙ by-line (roles f) m (one p) (senior f r) line role-within
@@ -106,7 +106,7 @@ may-at-is : (f xs : List ℕ) → cards f ≤ 512 → Labelled f xs → (d at : 
 unfolding gathered mayAt
 may-at-is f xs few labelled d at allows l r w =
     some-agree
-    (λ o. eqb (byteOf xs cardLabelsAt o) l && member xs (rowOf at o) r)
+    (brings xs at l r)
     (λ o. may f d r o && eqb (cardLabel f o) l)
     (cards f) (λ o v.
     let u : Among 512 o = omega arith in

@@ -1,8 +1,8 @@
 -- Marks that the lines of a part make in a table, and the bytes of such a table. Assumes nothing.
 use Prim.Native.Nat.{ℕ, _+_, _*_, _-_}
 use mathlib.Core.Path.{_≡_, refl, sym, _∙_}
-use mathlib.Core.Bool.{Bool, false, _&&_, _||_, cond, or-false, or-comm}
-use mathlib.Core.List.{List, []}
+use mathlib.Core.Bool.{Bool, false, _||_, cond, or-false, or-comm}
+use mathlib.Core.List.{List}
 use native.Mathlib.Nat.{add-sub-cancel}
 use native.Mathlib.Omega.{arith}
 use native.Mathlib.Decide.{ℕ-discrete}
@@ -15,12 +15,8 @@ use Rattle.search.proofs.Found.{among-next}
 use Rattle.roleset.specs.Row.{Kept}
 use Rattle.order.specs.Table.{marks, mark}
 use Rattle.rolefile.specs.Section.{one, two}
-use Rattle.policy.specs.Tables.{dominanceAt, pairs, markAt}
+use Rattle.policy.specs.Tables.{dominanceAt, markAt, Bytes, Marking, WithPair}
 use Rattle.policy.proofs.Relating.{pairs-more, pairs-none}
-
--- the table r is t with a mark for a over b
-abbrev WithPair : ℕ → ℕ → List (List Bool) → List (List Bool) → Type 0
-WithPair a b t r = (x y : ℕ) → Among 32 x → Among 32 y → mark r x y ≡ (mark t x y || (eqb a x && eqb b y))
 
 -- a pair whose first is no label makes no mark
 pub pair-none : (a b : ℕ) (t : List (List Bool)) → (Among 32 a → ⊥) → WithPair a b t t
@@ -36,10 +32,6 @@ pair-one a b t row w l all x y u v = elim (ℕ-discrete x a) [
       rw (ne-eqb a x (λ e. q (omega arith)), getD-set-other t (a - 1) (x - 1) row [] (λ e. q (omega arith)))
       (sym (or-false (mark t x y)))
 ]
-
--- t has the marks of the first i lines of the part p
-abbrev pub Marking : List ℕ → ℕ → List (List Bool) → Type 0
-Marking p i t = (a b : ℕ) → Among 32 a → Among 32 b → mark t a b ≡ pairs p i a b
 
 pub marks-none : (p : List ℕ) → Marking p 0 (replicate 32 (replicate 32 false))
 marks-none p a b w v =
@@ -59,13 +51,11 @@ module _ (t : List (List Bool)) (xs : List ℕ) where
   put-none = record { rows = λ a b w. absurd (omega arith); rest = λ k o. refl }
 
   pub put-more : (i : ℕ) (ys zs : List ℕ) → Put i t xs ys
-      → ((b : ℕ) → Among 32 b → getD zs (dominanceAt + 32 * i + (b - 1)) 0 ≡ cond (marks (getD t i []) b) 1 0)
-      → Kept (dominanceAt + 32 * i) (dominanceAt + 32 * i + 32) ys zs
-      → Put (i + 1) t xs zs
-  put-more i ys zs p row kept = record {
+      → Bytes (dominanceAt + 32 * i) 32 (λ b. cond (marks (getD t i []) b) 1 0) ys zs → Put (i + 1) t xs zs
+  put-more i ys zs p row = let kept = row .rest in record {
     rows = λ a b w v.
         let s : dominanceAt + (32 * i + (b - 1)) ≡ dominanceAt + 32 * i + (b - 1) = omega arith in
         among-next (λ c. getD zs (markAt c b) 0 ≡ cond (mark t c b) 1 0) i
-        (λ c u. kept (markAt c b) (λ m. omega arith) ∙ p .rows c b u v) (rw (add-sub-cancel i 1, s) (row b v)) a w;
+        (λ c u. kept (markAt c b) (λ m. omega arith) ∙ p .rows c b u v) (rw (add-sub-cancel i 1, s) (row .bytes b v)) a w;
     rest = λ k o. kept k (λ m. omega (arith, o (omega arith))) ∙ p .rest k (λ m. omega (arith, o m));
   }

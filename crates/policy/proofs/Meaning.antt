@@ -10,7 +10,6 @@ use lib.ListN.{length}
 use borrow.Author.Tests.{eq-eqb}
 use Rattle.search.specs.Search.{Among}
 use Rattle.search.proofs.Found.{wider, some-agree, first-none, first-lowest-of}
-use Rattle.roleset.specs.Row.{member, rowOf}
 use Rattle.order.specs.Closure.{path, OnCircle}
 use Rattle.order.proofs.Closure.{path-iff, circle-misses, circle-agree}
 use Rattle.rolefile.specs.Form.{header}
@@ -19,7 +18,7 @@ use Rattle.rolefile.specs.WellFormed.{GoodCounts, WellFormed}
 use Rattle.rolefile.proofs.Formed.{header-counts}
 use Rattle.policy.specs.Policy.{dominates, may}
 use Rattle.policy.specs.Flow.{flows, flowCircle}
-use Rattle.policy.specs.Tables.{readersAt, writersAt, stateSize, marked, flowing, rolesUpTo, cardsUpTo, roleCount, flowsIn, circleIn}
+use Rattle.policy.specs.Tables.{stateSize, marked, flowsByCard, flowing, rolesUpTo, cardsUpTo, roleCount, flowsIn, circleIn}
 use Rattle.policy.specs.Accepted.{LowestOnCircle}
 use Rattle.policy.specs.Image.{Describes}
 use Rattle.policy.proofs.Inside.{over-between}
@@ -48,7 +47,7 @@ module _ (f : List ℕ) (form : WellFormed f) where
     flowing-file : (r q : ℕ) → Among 128 r → Among 128 q → flowing xs (cardsUpTo xs) r q ≡ flows f r q
     unfolding flowing flows
     flowing-file r q v w = rw cards-file (ap (λ (b : Bool). not (eqb r q) && b)
-        (some-agree (λ o. member xs (rowOf writersAt o) r && member xs (rowOf readersAt o) q) (λ o. may f 2 r o && may f 1 q o) (cards f)
+        (some-agree (flowsByCard xs r q) (λ o. may f 2 r o && may f 1 q o) (cards f)
         (λ o i.
         let few = counts-known .cards in
         let j : Among 512 o = omega arith in

@@ -1,19 +1,17 @@
 -- Tables of one byte for each thing: bytes that a loop writes from the front, and labels that the lines of a part note. Assumes nothing.
 use Prim.Native.Nat.{ℕ, _+_, _-_, _≤_}
 use mathlib.Core.Path.{_≡_, refl, _∙_}
-use mathlib.Core.Bool.{cond}
 use mathlib.Core.List.{List}
 use native.Mathlib.Omega.{arith}
 use native.Mathlib.Numerals.{add-one}
 use native.Mathlib.Decide.{ℕ-discrete}
-use lib.Dec.{eqb}
 use lib.ListN.{length, set}
 use lib.Seq.{getD-set-same, getD-set-other}
 use borrow.Author.Tests.{eq-eqb, ne-eqb}
 use Rattle.search.specs.Search.{Among}
 use Rattle.roleset.proofs.Rows.{Written, kept-more}
 use Rattle.rolefile.specs.Section.{one, two}
-use Rattle.policy.specs.Tables.{byteOf, Bytes, noted, notes}
+use Rattle.policy.specs.Tables.{byteOf, Bytes, noted, afterNote, notes}
 
 -- a table's bytes, all written one by one
 pub all-stored : {at i size : ℕ} (v : ℕ → ℕ) {xs ys : List ℕ} → Written at i (λ k. v (k + 1)) xs ys → i ≡ size → Bytes at size v xs ys
@@ -21,10 +19,6 @@ all-stored v w e = record {
   bytes = λ x l. let s : x - 1 + 1 ≡ x = omega arith in rw s at (w .done (x - 1) (omega arith));
   rest = λ k o. w .rest k (λ m. omega (arith, o m));
 }
-
--- thing y's byte when a label is noted for thing x
-abbrev afterNote : List ℕ → ℕ → ℕ → ℕ → ℕ → ℕ
-afterNote xs at x label y = cond (eqb x y) (noted (byteOf xs at y) label) (byteOf xs at y)
 
 module _ (at size x label : ℕ) (xs : List ℕ) where
   -- x is none of the table's things

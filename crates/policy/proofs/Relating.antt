@@ -16,7 +16,7 @@ use Rattle.roleset.specs.Row.{member, rowOf, added, joined, Kept, Placed}
 use Rattle.roleset.proofs.Rows.{row-kept, rows-apart, whole-true, zero-row}
 use Rattle.order.specs.Closure.{Relation}
 use Rattle.rolefile.specs.Section.{one, two, three}
-use Rattle.policy.specs.Tables.{seniorsAt, readersAt, writersAt, pairs, grantedByLines, Related, GrantedRows, Unites}
+use Rattle.policy.specs.Tables.{seniorsAt, readersAt, writersAt, pairs, lineGrants, grantedByLines, Related, GrantedRows, Unites}
 use Rattle.policy.specs.Stages.{Zeros}
 
 -- where one row of a table is placed, the others stay
@@ -121,10 +121,6 @@ granted-more {said} {more} {xs} {ys} {zs} t u = record {
   rest = λ i out. u .rest i out ∙ t .rest i out;
 }
 
--- what one line grants
-abbrev lineGrants : List ℕ → ℕ → ℕ → ℕ → Said
-lineGrants xs role card mode d o r = eqb card o && (eqb mode d && (among 128 role && member xs (rowOf seniorsAt role) r))
-
 -- where the table of a mode begins: that of the readers, or that of the writers
 abbrev pub modeAt : ℕ → ℕ
 modeAt d = readersAt + 8192 * (d - 1)
@@ -169,7 +165,7 @@ pub granted-line : (xs ys p : List ℕ) (i a b c d o r : ℕ) → a ≡ one p (i
 unfolding grantedByLines
 granted-line xs ys p i a b c d o r ea eb ec kept =
     rw (ap (λ x. grantedByLines xs p i d o r || (eqb b o && (eqb c d && x))) seniors, ea, eb, ec)
-    (sym (some-more (λ k. eqb (two p k) o && (eqb (three p k) d && (among 128 (one p k) && member xs (rowOf seniorsAt (one p k)) r))) i))
+    (sym (some-more (λ k. lineGrants xs (one p k) (two p k) (three p k) d o r) i))
   where
     seniors : (among 128 a && member ys (rowOf seniorsAt a) r) ≡ (among 128 a && member xs (rowOf seniorsAt a) r)
     seniors = and-when (among 128 a) (λ e.

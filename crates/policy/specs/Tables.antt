@@ -8,6 +8,7 @@ use lib.ListN.{length, getD}
 use Rattle.search.specs.Search.{among, some, Among}
 use Rattle.roleset.specs.Row.{member, rowOf, Kept}
 use Rattle.order.specs.Closure.{Relation, circle}
+use Rattle.order.specs.Table.{mark, related}
 use Rattle.rolefile.specs.declared.Verdict.{Verdict}
 use Rattle.rolefile.specs.Form.{fine, refusal, unless}
 use Rattle.rolefile.specs.Section.{one, two, three}
@@ -73,6 +74,10 @@ pairs p m x y = some m (λ i. eqb (one p i) x && eqb (two p i) y)
 unfoldable pub noted : ℕ → ℕ → ℕ
 noted old l = cond (eqb old 0) (l % 256) 255
 
+-- thing y's byte when a label is noted for thing x
+abbrev pub afterNote : List ℕ → ℕ → ℕ → ℕ → ℕ → ℕ
+afterNote xs at x label y = cond (eqb x y) (noted (byteOf xs at y) label) (byteOf xs at y)
+
 unfoldable pub notes : List ℕ → ℕ → ℕ → ℕ → ℕ
 notes p zero x old = old
 notes p (suc i) x old = cond (eqb (one p (suc i)) x) (noted (notes p i x old) (two p (suc i))) (notes p i x old)
@@ -81,13 +86,20 @@ notes p (suc i) x old = cond (eqb (one p (suc i)) x) (noted (notes p i x old) (t
 abbrev pub unlabelledByte : ℕ → Bool
 unlabelledByte v = eqb v 0 || eqb v 255
 
--- a line of mode d for card o has a role whose seniors, itself included, hold r
-unfoldable pub grantedByLines : List ℕ → List ℕ → ℕ → ℕ → ℕ → ℕ → Bool
-grantedByLines xs p m d o r = some m (λ i. eqb (two p i) o && (eqb (three p i) d && (among 128 (one p i) && member xs (rowOf seniorsAt (one p i)) r)))
+-- a line with these three numbers is of mode d for card o, and the seniors of its role, itself included, hold r
+abbrev pub lineGrants : List ℕ → ℕ → ℕ → ℕ → ℕ → ℕ → ℕ → Bool
+lineGrants xs role card mode d o r = eqb card o && (eqb mode d && (among 128 role && member xs (rowOf seniorsAt role) r))
 
--- of the first n cards, one of label l has r in its row of the table at `at`
+unfoldable pub grantedByLines : List ℕ → List ℕ → ℕ → ℕ → ℕ → ℕ → Bool
+grantedByLines xs p m d o r = some m (λ i. lineGrants xs (one p i) (two p i) (three p i) d o r)
+
+-- card o has label l, and r in its row of the table at `at`
+abbrev pub brings : List ℕ → ℕ → ℕ → ℕ → ℕ → Bool
+brings xs at l r o = eqb (byteOf xs cardLabelsAt o) l && member xs (rowOf at o) r
+
+-- one of the first n cards does so
 unfoldable pub gathered : List ℕ → ℕ → ℕ → ℕ → ℕ → Bool
-gathered xs at n l r = some n (λ o. eqb (byteOf xs cardLabelsAt o) l && member xs (rowOf at o) r)
+gathered xs at n l r = some n (brings xs at l r)
 
 -- ---- records of what the functions over the tables leave
 
@@ -111,10 +123,30 @@ pub record GrantedRows (said : ℕ → ℕ → ℕ → Bool) (xs ys : List ℕ) 
   pub writers : Unites writersAt 512 (said 2) xs ys
   pub rest : Kept readersAt 28688 xs ys
 
+-- tables of marks: t has those of the first m lines of the part p
+abbrev pub Marking : List ℕ → ℕ → List (List Bool) → Type 0
+Marking p m t = (a b : ℕ) → Among 32 a → Among 32 b → mark t a b ≡ pairs p m a b
+
+-- u is t with a mark for a over b
+abbrev pub WithPair : ℕ → ℕ → List (List Bool) → List (List Bool) → Type 0
+WithPair a b t u = (x y : ℕ) → Among 32 x → Among 32 y → mark u x y ≡ (mark t x y || (eqb a x && eqb b y))
+
 -- ---- role flow by the rows of the first n cards
 
+-- r may write card o, and q may read it
+abbrev pub flowsByCard : List ℕ → ℕ → ℕ → ℕ → Bool
+flowsByCard xs r q o = member xs (rowOf writersAt o) r && member xs (rowOf readersAt o) q
+
 unfoldable pub flowing : List ℕ → ℕ → Relation
-flowing xs n r q = not (eqb r q) && some n (λ o. member xs (rowOf writersAt o) r && member xs (rowOf readersAt o) q)
+flowing xs n r q = not (eqb r q) && some n (flowsByCard xs r q)
+
+-- what the table of role sets t says once card o is passed
+abbrev pub pastCard : List ℕ → List ℕ → ℕ → Relation
+pastCard t xs o r q = related t 0 r q || flowsByCard xs r q o
+
+-- what it says of two roles that are not the same
+abbrev pub apart : List ℕ → Relation
+apart t r q = related t 0 r q && not (eqb q r)
 
 -- the counts in a state, none above its limit
 abbrev pub rolesUpTo : List ℕ → ℕ

@@ -3,14 +3,11 @@
 // Every public function takes any slice. One that is too short to be a state has no roles.
 use super::tables;
 ghost use mathlib.Core.Path.{_≡_};
-ghost use mathlib.Core.Bool.{not, _&&_, _||_};
 ghost use Prim.Native.Nat.{ℕ, _+_, _≤_, _<_};
-ghost use lib.Dec.{eqb};
 ghost use lib.ListN.{length};
 ghost use Rattle.search.specs.Search.{some, Among};
-ghost use Rattle.roleset.specs.Row.{member, rowOf};
 ghost use Rattle.order.specs.Table.{related, Tabled};
-ghost use Rattle.policy.specs.Tables.{rLevelsAt, wLevelsAt, readersAt, writersAt, countIn, roleCount, levelIn, flowsIn, circleIn};
+ghost use Rattle.policy.specs.Tables.{rLevelsAt, wLevelsAt, flowsByCard, pastCard, apart, countIn, roleCount, levelIn, flowsIn, circleIn};
 
 // The count at `at` in the state, `most` where it is higher.
 fn count(s: &[u8], at: u16, most: usize) -> usize
@@ -60,7 +57,7 @@ pub fn w_level(s: &[u8], role: usize) -> u8
 // Whether role `from` may write card o + 1 and role `to` may read it.
 fn flows_by_card(s: &[u8], o: usize, from: usize, to: usize) -> bool
     requires { ⌜ (28688 ≤ length (now s)) × (o < 512) ⌝ }
-    ensures { λ r. ⌜ r ≡ (member (now (s .entry)) (rowOf writersAt (o + 1)) from && member (now (s .entry)) (rowOf readersAt (o + 1)) to) ⌝ }
+    ensures { λ r. ⌜ r ≡ flowsByCard (now (s .entry)) from to (o + 1) ⌝ }
 {
     roleset::has(s, 20496 + 16 * o, from) & roleset::has(s, 12304 + 16 * o, to)
 }
@@ -89,7 +86,7 @@ pub fn flows(s: &[u8], from: usize, to: usize) -> bool
 // Relates each role that may write card o + 1 to each role that may read it.
 fn flow_past(t: &mut [u8], s: &[u8], o: usize)
     requires { ⌜ (2048 ≤ length (now t)) × (28688 ≤ length (now s)) × (o < 512) ⌝ }
-    ensures { λ _. ⌜ Tabled 0 128 (λ r q. related (now (t .entry)) 0 r q || (member (now (s .entry)) (rowOf writersAt (o + 1)) r && member (now (s .entry)) (rowOf readersAt (o + 1)) q)) (now (t .entry)) (now (t .exit)) ⌝ }
+    ensures { λ _. ⌜ Tabled 0 128 (pastCard (now (t .entry)) (now (s .entry)) (o + 1)) (now (t .entry)) (now (t .exit)) ⌝ }
 {
     let writers = roleset::row(s, 20496 + 16 * o);
     let readers = roleset::row(s, 12304 + 16 * o);
@@ -107,7 +104,7 @@ fn flow_past(t: &mut [u8], s: &[u8], o: usize)
 // Relates each role that may write one of the first n cards to each role that may read that card.
 fn flow_table(s: &[u8], n: usize) -> [u8; 2048]
     requires { ⌜ (28688 ≤ length (now s)) × (n ≤ 512) ⌝ }
-    ensures { λ t. ⌜ ((r q : ℕ) → Among 128 r → Among 128 q → related t 0 r q ≡ some n (λ o. member (now (s .entry)) (rowOf writersAt o) r && member (now (s .entry)) (rowOf readersAt o) q)) ⌝ }
+    ensures { λ t. ⌜ ((r q : ℕ) → Among 128 r → Among 128 q → related t 0 r q ≡ some n (flowsByCard (now (s .entry)) r q)) ⌝ }
 {
     let mut t = [0u8; 2048];
     let mut o = 0;
@@ -121,7 +118,7 @@ fn flow_table(s: &[u8], n: usize) -> [u8; 2048]
 // Takes each role out of its own row.
 fn remove_itself(t: &mut [u8])
     requires { ⌜ 2048 ≤ length (now t) ⌝ }
-    ensures { λ _. ⌜ Tabled 0 128 (λ r q. related (now (t .entry)) 0 r q && not (eqb q r)) (now (t .entry)) (now (t .exit)) ⌝ }
+    ensures { λ _. ⌜ Tabled 0 128 (apart (now (t .entry))) (now (t .entry)) (now (t .exit)) ⌝ }
 {
     let mut i = 0;
     while i < 128 {

@@ -1,13 +1,11 @@
 // Tables of one byte for each thing: clearances and card labels.
 use rolefile::read;
 ghost use mathlib.Core.Path.{_≡_};
-ghost use mathlib.Core.Bool.{cond};
-ghost use lib.Dec.{eqb};
 ghost use Prim.Native.Nat.{_+_, _≤_};
 ghost use lib.ListN.{length};
 ghost use Rattle.search.specs.Search.{first};
 ghost use Rattle.rolefile.specs.Line.{lines};
-ghost use Rattle.policy.specs.Tables.{byteOf, Bytes, noted, notes, unlabelledByte};
+ghost use Rattle.policy.specs.Tables.{byteOf, Bytes, noted, afterNote, notes, unlabelledByte};
 
 // The byte for a label where `old` was there before: 255 where it is the second.
 fn noted(old: u8, label: usize) -> u8
@@ -22,7 +20,7 @@ fn noted(old: u8, label: usize) -> u8
 // Notes a label for thing x, if it is one of the table's.
 fn note(s: &mut [u8], at: usize, size: usize, x: usize, label: usize)
     requires { ⌜ (at + size ≤ length (now s)) × (size ≤ 512) ⌝ }
-    ensures { λ _. ⌜ Bytes at size (λ y. cond (eqb x y) (noted (byteOf (now (s .entry)) at y) label) (byteOf (now (s .entry)) at y)) (now (s .entry)) (now (s .exit)) ⌝ }
+    ensures { λ _. ⌜ Bytes at size (afterNote (now (s .entry)) at x label) (now (s .entry)) (now (s .exit)) ⌝ }
 {
     if !search::among(size as u64, x as u64) {
         return;

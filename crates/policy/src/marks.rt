@@ -1,20 +1,19 @@
 // Dominance: the marks of the D lines, and the closed marks as bytes.
 use rolefile::read;
 ghost use mathlib.Core.Path.{_≡_};
-ghost use mathlib.Core.Bool.{_||_, _&&_, cond};
-ghost use Prim.Native.Nat.{ℕ, _+_, _-_, _≤_};
-ghost use lib.Dec.{eqb};
+ghost use mathlib.Core.Bool.{cond};
+ghost use Prim.Native.Nat.{ℕ, _+_, _≤_};
 ghost use lib.ListN.{length, getD};
 ghost use Rattle.search.specs.Search.{Among};
 ghost use Rattle.roleset.specs.Row.{Kept};
 ghost use Rattle.order.specs.Table.{marks, mark};
 ghost use Rattle.rolefile.specs.Line.{lines};
-ghost use Rattle.policy.specs.Tables.{pairs, markAt};
+ghost use Rattle.policy.specs.Tables.{markAt, Bytes, Marking, WithPair};
 
 // Marks a over b in the table, if both are labels.
 fn add_pair(t: &mut [[bool; 32]; 32], a: usize, b: usize)
     requires { ⌜ length (now t) ≡ 32 ⌝ }
-    ensures { λ _. ⌜ (length (now (t .exit)) ≡ 32) × ((x y : ℕ) → Among 32 x → Among 32 y → mark (now (t .exit)) x y ≡ (mark (now (t .entry)) x y || (eqb a x && eqb b y))) ⌝ }
+    ensures { λ _. ⌜ (length (now (t .exit)) ≡ 32) × WithPair a b (now (t .entry)) (now (t .exit)) ⌝ }
 {
     if !search::among(32, a as u64) {
         return;
@@ -27,7 +26,7 @@ fn add_pair(t: &mut [[bool; 32]; 32], a: usize, b: usize)
 // The marks of the first m lines of a part.
 pub fn table_of(p: &[u8], m: usize) -> [[bool; 32]; 32]
     requires { ⌜ m ≤ lines (now p) ⌝ }
-    ensures { λ r. ⌜ ((a b : ℕ) → Among 32 a → Among 32 b → mark r a b ≡ pairs (now (p .entry)) m a b) ⌝ }
+    ensures { λ r. ⌜ Marking (now (p .entry)) m r ⌝ }
 {
     let mut t = [[false; 32]; 32];
     let mut i = 0;
@@ -50,7 +49,7 @@ fn byte(on: bool) -> u8
 // Puts a row of marks at `at`, a byte for each.
 fn put_row(s: &mut [u8], at: usize, row: [bool; 32])
     requires { ⌜ at + 32 ≤ length (now s) ⌝ }
-    ensures { λ _. ⌜ (((b : ℕ) → Among 32 b → getD (now (s .exit)) (at + (b - 1)) 0 ≡ cond (marks row b) 1 0) × Kept at (at + 32) (now (s .entry)) (now (s .exit))) ⌝ }
+    ensures { λ _. ⌜ Bytes at 32 (λ b. cond (marks row b) 1 0) (now (s .entry)) (now (s .exit)) ⌝ }
 {
     let mut j = 0;
     while j < 32 {

@@ -4,10 +4,8 @@ ghost use mathlib.Core.Bool.{_&&_};
 ghost use Prim.Native.Nat.{_+_, _*_, _≤_};
 ghost use lib.Dec.{eqb};
 ghost use lib.ListN.{length};
-ghost use Rattle.search.specs.Search.{among};
-ghost use Rattle.roleset.specs.Row.{member, rowOf};
 ghost use Rattle.rolefile.specs.Line.{lines};
-ghost use Rattle.policy.specs.Tables.{seniorsAt, pairs, grantedByLines, Related, GrantedRows};
+ghost use Rattle.policy.specs.Tables.{pairs, lineGrants, grantedByLines, Related, GrantedRows};
 
 // Puts a role into the row of thing x, if it is one of the table's.
 fn relate(s: &mut [u8], at: usize, size: usize, x: usize, role: usize)
@@ -51,7 +49,7 @@ pub fn relate_back(s: &mut [u8], at: usize, size: usize, p: &[u8], m: usize)
 // Joins the seniors of a role into the card's row of the mode's table, if the numbers are such.
 fn grant(s: &mut [u8], role: usize, card: usize, mode: usize)
     requires { ⌜ 28688 ≤ length (now s) ⌝ }
-    ensures { λ _. ⌜ GrantedRows (λ d o r. eqb card o && (eqb mode d && (among 128 role && member (now (s .entry)) (rowOf seniorsAt role) r))) (now (s .entry)) (now (s .exit)) ⌝ }
+    ensures { λ _. ⌜ GrantedRows (lineGrants (now (s .entry)) role card mode) (now (s .entry)) (now (s .exit)) ⌝ }
 {
     if !search::among(128, role as u64) {
         return;

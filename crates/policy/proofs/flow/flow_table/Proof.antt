@@ -9,13 +9,13 @@ use Rattle.search.specs.Search.{some, Among}
 use Rattle.search.proofs.Found.{some-more, some-yet}
 use Rattle.roleset.proofs.Rows.{zero-rows}
 use Rattle.order.specs.Table.{related}
-use Rattle.policy.proofs.Flowing.{passing}
+use Rattle.policy.specs.Tables.{flowsByCard}
 use Rattle.policy.proofs.flow.flow_table.Statement.{statement}
 use Rattle.policy.proofs.flow.flow_table.Tie as tie
 
 abbrev Inv-loop : tie.InvT-loop
 Inv-loop s n t₀ o₀ t o =
-    (o ≤ n) × (length t ≡ 2048) × ((r q : ℕ) → Among 128 r → Among 128 q → related t 0 r q ≡ some o (passing s r q))
+    (o ≤ n) × (length t ≡ 2048) × ((r q : ℕ) → Among 128 r → Among 128 q → related t 0 r q ≡ some o (flowsByCard s r q))
 
 abbrev μ-loop : tie.MeasureT-loop
 μ-loop s n t₀ o₀ t o = n - o
@@ -30,7 +30,7 @@ loop-again c =
       search needs,
       search needs,
       λ r q u v. c .before .flow-past .ensures .rows (search needs) .done r q u v
-          ∙ rw (w .inv .2 r q u v) (sym (some-more (passing xs r q) (w .o))),
+          ∙ rw (w .inv .2 r q u v) (sym (some-more (flowsByCard xs r q) (w .o))),
     )
 
 returns : tie.Need-returns Inv-loop μ-loop

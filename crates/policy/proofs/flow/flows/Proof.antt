@@ -9,20 +9,20 @@ use borrow.Author.Needs.{needs}
 use denote.Ref.{now}
 use Rattle.search.specs.Search.{some}
 use Rattle.search.proofs.Found.{some-found, some-more, some-yet}
-use Rattle.policy.specs.Tables.{cardsUpTo, isState, stateSize, flowing}
-use Rattle.policy.proofs.Flowing.{no-state, a-state, of-state, passing, flow-self, flow-other}
+use Rattle.policy.specs.Tables.{cardsUpTo, isState, stateSize, flowsByCard, flowing}
+use Rattle.policy.proofs.Flowing.{no-state, a-state, of-state, flow-self, flow-other}
 use Rattle.policy.proofs.flow.flows.Statement.{statement}
 use Rattle.policy.proofs.flow.flows.Tie as tie
 
 abbrev Inv-loop : tie.InvT-loop
-Inv-loop s from to n o₀ o = (n ≡ cardsUpTo s) × (o ≤ n) × (some o (passing s from to) ≡ false)
+Inv-loop s from to n o₀ o = (n ≡ cardsUpTo s) × (o ≤ n) × (some o (flowsByCard s from to) ≡ false)
 
 abbrev μ-loop : tie.MeasureT-loop
 μ-loop s from to n o₀ o = n - o
 
 -- what is found in a state
 module _ (xs : List ℕ) (from to : ℕ) (whole : stateSize ≤ length xs) (b : Bool) where
-  found : (from ≡ to → ⊥) → b ≡ some (cardsUpTo xs) (passing xs from to) → b ≡ (isState xs && flowing xs (cardsUpTo xs) from to)
+  found : (from ≡ to → ⊥) → b ≡ some (cardsUpTo xs) (flowsByCard xs from to) → b ≡ (isState xs && flowing xs (cardsUpTo xs) from to)
   found ne e = rw (a-state xs whole, flow-other xs (cardsUpTo xs) from to ne) e
 
 returns : tie.Need-returns Inv-loop μ-loop
@@ -44,7 +44,7 @@ returns-3 c =
     let a = turn .before .before .before .before .before .args in
     let w = turn .loop in
     found (now (a .s)) (a .from) (a .to) (search needs) _ (turn .before .before .if2 .left)
-    (some-found (passing (now (a .s)) (a .from) (a .to)) (cardsUpTo (now (a .s))) (w .o) (omega arith) (rw (c .before .flows-by-card .ensures) at (c .if3 .taken)))
+    (some-found (flowsByCard (now (a .s)) (a .from) (a .to)) (cardsUpTo (now (a .s))) (w .o) (omega arith) (rw (c .before .flows-by-card .ensures) at (c .if3 .taken)))
 
 loop-again : tie.Need-loop-again Inv-loop μ-loop
 loop-again c =
@@ -53,7 +53,7 @@ loop-again c =
     let w = turn .loop in (
       w .inv .0,
       search needs,
-      some-more (passing (now (a .s)) (a .from) (a .to)) (w .o) ∙ rw (w .inv .2) (rw (c .before .flows-by-card .ensures) at (c .if3 .left)),
+      some-more (flowsByCard (now (a .s)) (a .from) (a .to)) (w .o) ∙ rw (w .inv .2) (rw (c .before .flows-by-card .ensures) at (c .if3 .left)),
     )
 
 returns-4 : tie.Need-returns-4 Inv-loop μ-loop

@@ -7,7 +7,8 @@ use denote.Ref.{now}
 use lib.ListN.{length}
 use Rattle.order.specs.Table.{Tabled}
 use Rattle.order.proofs.Placing.{placing-none}
-use Rattle.policy.proofs.Flowing.{apart, row-more, apart-row}
+use Rattle.policy.specs.Tables.{apart}
+use Rattle.policy.proofs.Flowing.{row-more, apart-row}
 use Rattle.policy.proofs.flow.remove_itself.Statement.{statement}
 use Rattle.policy.proofs.flow.remove_itself.Tie as tie
 

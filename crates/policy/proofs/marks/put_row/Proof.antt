@@ -27,8 +27,7 @@ loop-again c =
 
 returns : tie.Need-returns Inv-loop μ-loop
 returns c =
-    let b = all-stored {size = 32} (byteAt (c .before .before .before .args .t3)) (c .before .loop .inv .1) (omega arith) in
-    (b .bytes, b .rest)
+    all-stored (byteAt (c .before .before .before .args .t3)) (c .before .loop .inv .1) (omega arith)
 
 pub put-row-spec : {M : Type 1} → statement M
 put-row-spec =

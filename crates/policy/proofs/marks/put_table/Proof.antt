@@ -16,9 +16,8 @@ abbrev μ-loop : tie.MeasureT-loop
 
 loop-again : tie.Need-loop-again Inv-loop μ-loop
 loop-again c =
-    let e = c .before .before .put-row .ensures in
     let w = c .before .before .before .before .before .before .loop in
-    (search needs, search needs, put-more _ _ (w .i) (w .s) _ (w .inv .2) (e .0) (e .1))
+    (search needs, search needs, put-more _ _ (w .i) (w .s) _ (w .inv .2) (c .before .before .put-row .ensures))
 
 returns : tie.Need-returns Inv-loop μ-loop
 returns c =
