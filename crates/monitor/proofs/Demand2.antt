@@ -158,25 +158,6 @@ rule-not-21 f size t (writes p o k bytes) = part-not-21 f 2 size t p o k (length
 
 -- ---- from a load on
 
-same-state : (xs a b : List ℕ) (c : Call) → stateAfter (record { state = xs; store = a }) c ≡ stateAfter (record { state = xs; store = b }) c
-unfolding stateAfter
-same-state xs a b (opens p u l) = refl
-same-state xs a b (closes p) = refl
-same-state xs a b (takes p r) = refl
-same-state xs a b (drops p r) = refl
-same-state xs a b (reads p o k n) = refl
-same-state xs a b (writes p o k bytes) = refl
-
--- the stores that the calls were lent do not bear on the state that they leave
-state-run : (cs : List Call) (xs a b : List ℕ) → run (record { state = xs; store = a }) cs .state ≡ run (record { state = xs; store = b }) cs .state
-unfolding run
-state-run [] xs a b = refl
-state-run (c ∷ cs) xs a b =
-    let m : Memory = record { state = xs; store = a } in
-    let n : Memory = record { state = xs; store = b } in
-    ap (λ (x : List ℕ). run (record { state = x; store = storeAfter m c }) cs .state) (same-state xs a b c)
-    ∙ state-run cs (stateAfter n c) (storeAfter m c) (storeAfter n c)
-
 module _ (f : List ℕ) (accepted : Accepted f) (xs ys : List ℕ) (v : Verdict) (enough : 65536 ≤ length xs) (load : Loaded f v xs ys) where
   form : WellFormed f
   form = accepted .ordered .form

@@ -171,7 +171,7 @@ rule-iff f a size cs (drops p r) = drop-iff f cs p r
 rule-iff f a size cs (reads p o k n) = part-iff f cs 1 size p o k n
 rule-iff f a size cs (writes p o k bytes) = part-iff f cs 2 size p o k (length bytes)
 
--- the calls so far may have been lent any stores (`state-run`), and this one another
+-- this call may be lent another store than the calls so far
 pub done-iff : (f : List ℕ) → Accepted f → (xs ys : List ℕ) (v : Verdict) → 65536 ≤ length xs → Loaded f v xs ys → (store : List ℕ) (cs : List Call) (lent : List ℕ) (c : Call)
     → (number (record { state = run (record { state = ys; store = store }) cs .state; store = lent }) c ≡ 0) ↔ Granted f (length lent) cs c
 done-iff f a xs ys v enough load store cs lent c =
