@@ -9,7 +9,6 @@ use native.Mathlib.Omega.{arith}
 use lib.Dec.{eqb}
 use lib.ListN.{length}
 use borrow.Author.Tests.{le-leb, eqb-true, eq-eqb}
-use Rattle.search.specs.Search as search
 use Rattle.search.specs.Search.{among, Among}
 use Rattle.search.proofs.Truth.{or-iff, and-iff, among-iff}
 use Rattle.search.proofs.Found.{some-iff, some-agree}

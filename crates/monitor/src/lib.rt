@@ -10,7 +10,6 @@ mod rules;
 mod sessions;
 mod state;
 
-use rolefile::Verdict;
 ghost use mathlib.Core.Path.{_≡_};
 ghost use Rattle.policy.specs.Image.{Loaded};
 ghost use Rattle.monitor.specs.Rights.{Cans};
