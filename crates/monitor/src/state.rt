@@ -63,7 +63,7 @@ pub fn user_at(s: &[u8], place: u64) -> u64
 // The label of the session at the place.
 pub fn label_at(s: &[u8], place: u64) -> u64
     requires { ⌜ Among 64 place ⌝ }
-    ensures { λ r. ⌜ (r ≡ session.labelAt (now (s .entry)) place) × (r < 256) ⌝ }
+    ensures { λ r. ⌜ r ≡ session.labelAt (now (s .entry)) place ⌝ }
 {
     tables::byte(s, place_at(place) + 2) as u64
 }

@@ -6,7 +6,7 @@ use Rattle.monitor.proofs.state.label_at.Tie as tie
 
 returns : tie.Need-returns
 unfolding labelAt
-returns c = (rw (← c .before .place-at .ensures) (c .byte .ensures), search needs)
+returns c = rw (← c .before .place-at .ensures) (c .byte .ensures)
 
 pub label-at-spec : {M : Type 1} → statement M
 label-at-spec =
