@@ -8,6 +8,7 @@ use native.Mathlib.Decide.{ℕ-discrete}
 use borrow.Author.Tests.{ne-eqb}
 use lib.Bits.{bitOr, bitXor, or-lt, xor-lt}
 use lib.ListN.{length, getD, set, length-set}
+use lib.Pow.{pow-lt}
 use lib.Seq.{getD-set-same, getD-set-other}
 use Rattle.search.specs.Search.{among, Among}
 use Rattle.search.proofs.Truth.{either, either-by}
@@ -16,9 +17,6 @@ use Rattle.roleset.proofs.Bits.{shifted}
 use Rattle.roleset.proofs.Rows.{added-placed, removed-placed, placed-once, unwritten}
 use Rattle.monitor.specs.Session.{heldAt}
 use Rattle.monitor.specs.Calls.{taken, dropped}
-
-shifted-byte : (k : ℕ) → k < 8 → 2 ^ k < 256
-shifted-byte k l = rw (← shifted k l) (omega arith)
 
 -- the row with the byte of role r written
 module _ (xs : List ℕ) (at r : ℕ) (fits : at + 16 ≤ length xs) (w : Among 128 r) where
@@ -64,13 +62,13 @@ module _ (xs : List ℕ) (at r : ℕ) (fits : at + 16 ≤ length xs) (w : Among 
     byte-less : (b : Bool) (j : ℕ) → getD (less b) j 0 < 256
     byte-less b =
         either (λ (ys : List ℕ). (j : ℕ) → getD ys j 0 < 256) b _ xs
-        (byte-set (bitXor (getD xs i 0) (2 ^ k)) (xor-lt 8 _ _ (xs-bytes i) (shifted-byte k small))) xs-bytes
+        (byte-set (bitXor (getD xs i 0) (2 ^ k)) (xor-lt 8 _ _ (xs-bytes i) (pow-lt small))) xs-bytes
 
     module _ (ys : List ℕ) (long : length ys ≡ length xs) (ys-bytes : (j : ℕ) → getD ys j 0 < 256) where
       pub added-is : Placed at (added xs at r) xs ys → ys ≡ set xs i (bitOr (getD xs i 0) (2 ^ k))
       added-is p =
           placed-once at (added xs at r) xs ys _ p more-placed long (length-set xs i _) ys-bytes
-          (byte-set (bitOr (getD xs i 0) (2 ^ k)) (or-lt 8 _ _ (xs-bytes i) (shifted-byte k small)))
+          (byte-set (bitOr (getD xs i 0) (2 ^ k)) (or-lt 8 _ _ (xs-bytes i) (pow-lt small)))
 
       pub removed-is : Placed at (removed xs at r) xs ys → ys ≡ less (member xs at r)
       removed-is p =
