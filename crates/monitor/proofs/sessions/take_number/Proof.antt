@@ -1,5 +1,6 @@
 -- Each number goes by the test that gave it and those before it.
 use borrow.Author.Needs.{needs}
+use Rattle.search.specs.Search.{Among}
 use Rattle.monitor.specs.Calls.{takeNumber}
 use Rattle.monitor.proofs.Answers.{session-row, place-known, role-known}
 use Rattle.monitor.proofs.sessions.take_number.Statement.{statement}
@@ -25,18 +26,12 @@ returns-5 : tie.Need-returns-5
 unfolding takeNumber
 returns-5 c = search session-row depth 10 fits 5000
 
-entitled-at-requires : tie.Need-entitled-at-requires
-entitled-at-requires c κs =
+-- the place and the role are in range
+known : (c : tie.Else2) → let a = c .before .before .before .before .before .args in Among 64 (a .place) × Among 128 (a .role)
+known c =
     let t = c .before .before in
     let e = t .before .session-number .ensures in
     (place-known _ _ e (t .if1 .left), role-known _ _ e (t .if1 .left) _ (c .before .within-count .ensures) (c .if2 .left))
-
-fitting-at-requires : tie.Need-fitting-at-requires
-fitting-at-requires c κs =
-    let d = c .before .before in
-    let t = d .before .before in
-    let e = t .before .session-number .ensures in
-    (place-known _ _ e (t .if1 .left), role-known _ _ e (t .if1 .left) _ (d .before .within-count .ensures) (d .if2 .left))
 
 pub take-number-spec : {M : Type 1} → statement M
 take-number-spec =
@@ -46,8 +41,8 @@ take-number-spec =
     returns
     (λ c κs. search needs)
     returns-2
-    entitled-at-requires
+    (λ c κs. known c)
     returns-3
-    fitting-at-requires
+    (λ c κs. known (c .before .before))
     returns-4
     returns-5)
