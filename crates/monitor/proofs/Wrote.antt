@@ -7,16 +7,12 @@ use lib.ListN.{length, getD}
 use Rattle.policy.specs.Tables.{writersAt}
 use Rattle.monitor.specs.Calls.{ifDone, partAt, writeNumber, writeStore}
 use Rattle.monitor.proofs.Answers.{part-fits}
-use Rattle.monitor.proofs.Frames.{length-written, written-in, written-out}
+use Rattle.monitor.proofs.Frames.{written-in, written-out}
 
 module _ (xs store : List ℕ) (p o k : ℕ) (bytes : List ℕ) (done : writeNumber xs store p o k bytes ≡ 0) where
   -- the part written lies in the store
   pub inside : partAt o k + length bytes ≤ length store
   inside = let f = part-fits writersAt xs (length store) p o k (length bytes) done in omega (arith, f .card, f .inCard, f .inStore)
-
-  pub write-length : length (writeStore xs store p o k bytes) ≡ length store
-  unfolding ifDone
-  write-length = rw done (length-written store (partAt o k) bytes inside)
 
   pub write-in : (i : ℕ) → i < length bytes → getD (writeStore xs store p o k bytes) (partAt o k + i) 0 ≡ getD bytes i 0
   unfolding ifDone
