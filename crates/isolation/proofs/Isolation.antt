@@ -15,10 +15,10 @@ use Rattle.policy.specs.Tables.{writersAt}
 use Rattle.monitor.specs.Calls.{written, partAt, readNumber, writeNumber}
 use Rattle.monitor.specs.Runs.{Call, opens, closes, takes, drops, reads, writes, Memory, number, part, storeAfter, after, run}
 use Rattle.monitor.specs.Rules.{Sessions, noSessions, rule, next}
-use Rattle.monitor.proofs.Answers.{part-fits}
+use Rattle.monitor.proofs.Answers.{both-ways, either-way, part-fits}
 use Rattle.monitor.proofs.Frames.{written-out}
 use Rattle.monitor.proofs.Wrote.{inside}
-use Rattle.monitor.proofs.Orderly.{part-done, both-ways, either-way}
+use Rattle.monitor.proofs.Orderly.{part-done}
 use Rattle.monitor.proofs.Demand2.{Runs, runs-next, runs-number, loaded-runs}
 use Rattle.isolation.specs.TwoRuns.{answer, Open, noneOpen, track, under, shared, sharedCalls, Shown, shown, SameCards, Alike, Isolated}
 use Rattle.isolation.proofs.Tracking.{Fits, none-fits, placeOf, next-other, fits-track}

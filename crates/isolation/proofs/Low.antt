@@ -19,9 +19,10 @@ use Rattle.monitor.specs.Calls.{ifDone, written, partAt, writeNumber}
 use Rattle.monitor.specs.Runs.{Call, opens, closes, takes, drops, reads, writes, Memory, number, storeAfter}
 use Rattle.monitor.specs.Places.{isFree, put}
 use Rattle.monitor.specs.Rules.{Session, Sessions, sessionRule, fittingByFile, givesByFile, openRule, closeRule, takeRule, dropRule, partRule, rule, sessionOf, holding, without, next}
+use Rattle.monitor.proofs.Answers.{both-ways}
 use Rattle.monitor.proofs.Frames.{written-in, written-out}
 use Rattle.monitor.proofs.Wrote.{inside}
-use Rattle.monitor.proofs.Orderly.{Orderly, admitted, part-done, both-ways}
+use Rattle.monitor.proofs.Orderly.{Orderly, admitted, part-done}
 use Rattle.monitor.proofs.Places.{put-at}
 use Rattle.isolation.specs.TwoRuns.{Open, track, under, shared, SameCards}
 use Rattle.isolation.proofs.Levels.{label-of-card, reads-below, writes-above}

@@ -14,7 +14,8 @@ use Rattle.monitor.specs.Calls.{unless, ifDone}
 use Rattle.monitor.specs.Runs.{Call, opens, closes, takes, drops, reads, writes}
 use Rattle.monitor.specs.Places.{isFree, put}
 use Rattle.monitor.specs.Rules.{Session, Sessions, noSessions, openRule, closeRule, takeRule, dropRule, sessionOf, holding, without, next}
-use Rattle.monitor.proofs.Orderly.{Orderly, opening, session-granted, either-way}
+use Rattle.monitor.proofs.Answers.{either-way}
+use Rattle.monitor.proofs.Orderly.{Orderly, opening, session-granted}
 use Rattle.monitor.proofs.Places.{put-everywhere, put-at, put-other}
 use Rattle.isolation.specs.TwoRuns.{Open, noneOpen, grants, track}
 

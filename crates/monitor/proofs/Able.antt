@@ -25,8 +25,8 @@ use Rattle.monitor.specs.Calls.{unless, ifDone}
 use Rattle.monitor.specs.Runs.{Call, opens, takes, Memory, after, run}
 use Rattle.monitor.specs.Rules.{Session, Sessions, noSessions, entitledByFile, fittingByFile, givesByFile, openRule, takeRule, partRule, rule, sessionOf, holding, next, sessions}
 use Rattle.monitor.specs.Rights.{canNumber, tableOf, roleCould, could, Cans, canRule, couldByFile, useOf, CouldUse}
-use Rattle.monitor.proofs.Answers.{unless-done}
-use Rattle.monitor.proofs.Orderly.{Orderly, opening, taking, part-done, both-ways}
+use Rattle.monitor.proofs.Answers.{unless-done, both-ways}
+use Rattle.monitor.proofs.Orderly.{Orderly, opening, taking, part-done}
 use Rattle.monitor.proofs.Stands.{Stands}
 use Rattle.monitor.proofs.InFile.{test-same, test-passed, sound-file, cleared-file, entitled-file, fitting-file}
 use Rattle.monitor.proofs.Places.{put-at}

@@ -42,19 +42,26 @@ unfolding unless
 unless-done true n rest l h = (refl, h)
 unless-done false n rest l h = absurd (omega arith)
 
--- ---- what a call leaves, where its number N is r
+-- ---- what a call leaves
+
+-- what holds of two outcomes where the number is 0, and of two others, holds of those that the number picks
+pub both-ways : {A B : Type 0} (P : A → B → Type 0) (n : ℕ) (a c : A) (b d : B) → (n ≡ 0 → P a b) → P c d → P (ifDone n a c) (ifDone n b d)
+unfolding ifDone
+both-ways P zero a c b d h k = h refl
+both-ways P (suc n) a c b d h k = k
+
+-- the same of one outcome
+pub either-way : {A : Type 0} (P : A → Type 0) (n : ℕ) (new old : A) → (n ≡ 0 → P new) → P old → P (ifDone n new old)
+either-way P n new old = both-ways (λ a b. P a) n new old new old
+
+-- where the call's number N is r
 module _ {A : Type 0} (N : ℕ) (new old : A) {r : ℕ} (e : r ≡ N) where
   pub left : {t : A} → r ≡ 0 → t ≡ new → t ≡ ifDone N new old
   unfolding ifDone
   left h f = rw (← e, h) f
 
   pub kept : (r ≡ 0 → ⊥) → old ≡ ifDone N new old
-  unfolding ifDone
-  kept h = rw (← e) (refused r h)
-    where
-      refused : (n : ℕ) → (n ≡ 0 → ⊥) → old ≡ ifDone n new old
-      refused zero h = absurd (h refl)
-      refused (suc n) h = refl
+  kept h = rw (← e) (either-way (λ x. old ≡ x) r new old (λ z. absurd (h z)) refl)
 
 pub ruleset outcome = (left, kept)
 

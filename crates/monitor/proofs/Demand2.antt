@@ -24,10 +24,10 @@ use Rattle.monitor.specs.Calls.{flowsNumber, circleNumber, Flows, Circle
 use Rattle.monitor.specs.Runs.{Call, opens, closes, takes, drops, reads, writes, Memory, number, stateAfter, storeAfter, after, run}
 use Rattle.monitor.specs.Places.{put}
 use Rattle.monitor.specs.Rules.{Session, Sessions, noSessions, sessionRule, atSessionByFile, openRule, closeRule, takeRule, dropRule, partRule, rule, sessionOf, holding, without, next, sessions}
-use Rattle.monitor.proofs.Answers.{unless-done}
+use Rattle.monitor.proofs.Answers.{unless-done, both-ways, either-way}
 use Rattle.monitor.proofs.Frames.{length-written}
 use Rattle.monitor.proofs.Wrote.{inside}
-use Rattle.monitor.proofs.Orderly.{Orderly, no-sessions-orderly, opening, session-done, taking, both-ways, either-way, orderly-next, dropping}
+use Rattle.monitor.proofs.Orderly.{Orderly, no-sessions-orderly, opening, session-done, taking, orderly-next, dropping}
 use Rattle.monitor.proofs.Stands.{SessionAt, Stands, image-stands, stands-put, opened-touched, opened-place, closed-touched, closed-place, taken-touched, taken-place, dropped-touched, dropped-place}
 use Rattle.monitor.proofs.InFile.{test-passed, sound-file, open-file, close-file, take-file, drop-file, part-file}
 

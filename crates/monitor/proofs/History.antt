@@ -18,8 +18,9 @@ use Rattle.monitor.specs.Runs.{Call, opens, closes, takes, drops, reads,
 use Rattle.monitor.specs.Places.{isFree, put}
 use Rattle.monitor.specs.Rules.{Session, Sessions, noSessions, openRule, closeRule, takeRule, dropRule, rule, sessionOf, holding, without, next, sessions}
 use Rattle.monitor.specs.Granted.{ends, NoneEnds, Since, OpenFor, Holds}
+use Rattle.monitor.proofs.Answers.{either-way}
 use Rattle.monitor.proofs.Places.{put-at, put-other}
-use Rattle.monitor.proofs.Orderly.{Admitted, Orderly, no-sessions-orderly, opening, session-done, admitted, session-granted, either-way, orderly-next}
+use Rattle.monitor.proofs.Orderly.{Admitted, Orderly, no-sessions-orderly, opening, session-done, admitted, session-granted, orderly-next}
 
 -- ---- lists of calls
 

@@ -1,5 +1,5 @@
 -- What the rules have seen to of every session: its place, user, label and roles are the file's, and each role held fits its label. Assumes nothing.
-use Prim.Native.Nat.{ℕ, zero, suc, _+_, _*_, _≤_}
+use Prim.Native.Nat.{ℕ, _+_, _*_, _≤_}
 use mathlib.Core.Path.{_≡_, refl}
 use mathlib.Core.Logic.{⊎-elim}
 use mathlib.Core.List.{List}
@@ -12,11 +12,11 @@ use Rattle.search.specs.Search.{among, Among}
 use Rattle.search.proofs.Truth.{or-iff, and-iff, among-iff}
 use Rattle.rolefile.specs.Said.{labels, roles, users, cards, clearance}
 use Rattle.policy.specs.Policy.{dominates}
-use Rattle.monitor.specs.Calls.{unless, ifDone}
+use Rattle.monitor.specs.Calls.{unless}
 use Rattle.monitor.specs.Runs.{Call, opens, closes, takes, drops, reads, writes}
 use Rattle.monitor.specs.Places.{isFree, put}
 use Rattle.monitor.specs.Rules.{Session, Sessions, noSessions, sessionRule, atSessionByFile, entitledByFile, fittingByFile, givesByFile, openRule, closeRule, takeRule, dropRule, partRule, sessionOf, holding, without, next}
-use Rattle.monitor.proofs.Answers.{unless-done}
+use Rattle.monitor.proofs.Answers.{unless-done, either-way}
 use Rattle.monitor.proofs.Places.{put-everywhere}
 
 pub record Admitted (f : List ℕ) (p : ℕ) (s : Session) : Type 0 where
@@ -127,16 +127,6 @@ part-done f m t size p o k n h =
     }
 
 -- ---- each call keeps it so
-
--- what holds of two outcomes where the number is 0, and of two others, holds of those that the number picks
-pub both-ways : {A B : Type 0} (P : A → B → Type 0) (n : ℕ) (a c : A) (b d : B) → (n ≡ 0 → P a b) → P c d → P (ifDone n a c) (ifDone n b d)
-unfolding ifDone
-both-ways P zero a c b d h k = h refl
-both-ways P (suc n) a c b d h k = k
-
--- the same of one outcome
-pub either-way : {A : Type 0} (P : A → Type 0) (n : ℕ) (new old : A) → (n ≡ 0 → P new) → P old → P (ifDone n new old)
-either-way P n new old = both-ways (λ a b. P a) n new old new old
 
 module _ (f : List ℕ) (t : Sessions) (known : Orderly f t) where
   pub orderly-next : (c : Call) → Orderly f (next f t c)
