@@ -3,26 +3,25 @@
 use Prim.Native.Nat.{ℕ, zero, suc, _+_, _*_, _-_, _≤_, _<_}
 use mathlib.Core.Path.{_≡_, refl, sym, ap, _∙_}
 use mathlib.Core.List.{List}
-use mathlib.Core.Bool.{true, false, _&&_, cond, false≢true}
+use mathlib.Core.Bool.{true, false, cond, false≢true}
 use mathlib.Core.Option.{Option, none, some, Option·map}
 use native.Mathlib.Omega.{arith}
 use native.Mathlib.Decide.{ℕ-discrete, decLt}
 use lib.ListN.{length, getD, take, drop, length-drop}
 use lib.Seq.{length-take-le, getD-take, getD-drop, ext-getD}
 use Rattle.search.specs.Search.{Among}
-use Rattle.search.proofs.Truth.{and-iff, untrue, both, false-iff}
-use Rattle.search.proofs.Found.{some-iff}
+use Rattle.search.proofs.Truth.{untrue, both, false-iff}
 use Rattle.rolefile.specs.Said.{labels, roles, cards, cardLabel}
 use Rattle.policy.specs.Policy.{dominates, may}
 use Rattle.policy.specs.Accepted.{Accepted}
 use Rattle.monitor.specs.Calls.{ifDone, written, partAt, writeNumber}
 use Rattle.monitor.specs.Runs.{Call, opens, closes, takes, drops, reads, writes, Memory, number, storeAfter}
 use Rattle.monitor.specs.Places.{isFree, put}
-use Rattle.monitor.specs.Rules.{Session, Sessions, sessionRule, fittingByFile, givesByFile, openRule, closeRule, takeRule, dropRule, partRule, rule, sessionOf, holding, without, next}
+use Rattle.monitor.specs.Rules.{Session, Sessions, sessionRule, fittingByFile, openRule, closeRule, takeRule, dropRule, partRule, rule, sessionOf, holding, without, next}
 use Rattle.monitor.proofs.Answers.{both-ways}
 use Rattle.monitor.proofs.Frames.{written-in, written-out}
 use Rattle.monitor.proofs.Wrote.{inside}
-use Rattle.monitor.proofs.Orderly.{Orderly, admitted, part-done}
+use Rattle.monitor.proofs.Orderly.{Orderly, admitted, gives-iff, part-done}
 use Rattle.monitor.proofs.Places.{put-at}
 use Rattle.isolation.specs.TwoRuns.{Open, track, under, shared, SameCards}
 use Rattle.isolation.proofs.Levels.{label-of-card, reads-below, writes-above}
@@ -139,13 +138,11 @@ module _ (f : List ℕ) (accepted : Accepted f) (L : ℕ) (label : Among (labels
     pub role : (r : ℕ) × (may f mode r o ≡ true) × (fittingByFile f level r ≡ true)
 
   use-of : (mode size p o k n : ℕ) → partRule f mode s size p o k n ≡ 0 → Use mode p o
-  unfolding givesByFile
   use-of mode size p o k n z =
       let u = part-done f mode s size p o k n z in
       let x = u .session in
       let adm = admitted f s known p x (u .found) in
-      let (r, w, e) = some-iff (λ r. x .held r && may f mode r o) (roles f) .0 (u .used) in
-      let (holds, gives) = and-iff (x .held r) (may f mode r o) .0 e in
+      let (r, w, holds, gives) = gives-iff f mode x o .0 (u .used) in
       record { card = u .card; level = x .label; inside = adm .label; tracked = fits p ∙ ap labelOf (u .found); role = (r, gives, adm .roles r holds .1) }
 
   pub read-under : (size p o k n : ℕ) → partRule f 1 s size p o k n ≡ 0 → under f L (t p) ≡ true → dominates f L (cardLabel f o) ≡ true

@@ -26,7 +26,7 @@ use Rattle.monitor.specs.Runs.{Call, opens, takes, Memory, after, run}
 use Rattle.monitor.specs.Rules.{Session, Sessions, noSessions, entitledByFile, fittingByFile, givesByFile, openRule, takeRule, partRule, rule, sessionOf, holding, next, sessions}
 use Rattle.monitor.specs.Rights.{canNumber, tableOf, roleCould, could, Cans, canRule, couldByFile, useOf, CouldUse}
 use Rattle.monitor.proofs.Answers.{unless-done, both-ways}
-use Rattle.monitor.proofs.Orderly.{Orderly, opening, taking, part-done}
+use Rattle.monitor.proofs.Orderly.{Orderly, opening, taking, gives-iff, part-done}
 use Rattle.monitor.proofs.Stands.{Stands}
 use Rattle.monitor.proofs.InFile.{test-same, test-passed, sound-file, cleared-file, entitled-file, fitting-file}
 use Rattle.monitor.proofs.Places.{put-at}
@@ -126,17 +126,12 @@ module _ (f : List ℕ) (size p u l : ℕ) (place : Among 64 p) (enough : 64 * c
   use-rule (suc (suc (suc m))) o t w = absurd (omega arith)
 
   holds-one : (m o r : ℕ) → givesByFile f m (holding r (sessionOf u l)) o ≡ true → may f m r o ≡ true
-  unfolding givesByFile
   holds-one m o r h =
-      let (q, w, e) = some-iff (λ q. holding r (sessionOf u l) .held q && may f m q o) (roles f) .0 h in
-      let (held, gives) = and-iff (holding r (sessionOf u l) .held q) (may f m q o) .0 e in
+      let (q, w, held, gives) = gives-iff f m (holding r (sessionOf u l)) o .0 h in
       ⊎-elim (λ x. absurd (false≢true x)) (λ x. rw (eqb-true q r x) at gives) (or-iff false (eqb q r) .0 held)
 
   holds-use : (m o r : ℕ) → Among (roles f) r → may f m r o ≡ true → givesByFile f m (holding r (sessionOf u l)) o ≡ true
-  unfolding givesByFile
-  holds-use m o r w h =
-      some-iff (λ q. holding r (sessionOf u l) .held q && may f m q o) (roles f) .1
-      (r, w, and-iff (holding r (sessionOf u l) .held r) (may f m r o) .1 (or-iff false (eqb r r) .1 (inr (eq-eqb r r refl)), h))
+  holds-use m o r w h = gives-iff f m (holding r (sessionOf u l)) o .1 (r, w, or-iff false (eqb r r) .1 (inr (eq-eqb r r refl)), h)
 
   -- the three calls let through, by the rules
   record Let (o m r : ℕ) : Type 0 where

@@ -3,13 +3,13 @@ use Prim.Native.Nat.{ℕ, _+_, _*_, _≤_}
 use mathlib.Core.Path.{_≡_, refl, sym, _∙_}
 use mathlib.Core.Logic.{_↔_}
 use mathlib.Core.List.{List}
-use mathlib.Core.Bool.{Bool, true, _&&_, false≢true}
+use mathlib.Core.Bool.{true, false≢true}
 use mathlib.Core.Option.{Option, none, some}
 use lib.ListN.{length}
 use borrow.Author.Tests.{le-leb}
 use Rattle.search.specs.Search.{Among}
-use Rattle.search.proofs.Truth.{and-iff, and-both, among-iff}
-use Rattle.search.proofs.Found.{some-iff}
+use Rattle.search.proofs.Truth.{and-both, among-iff}
+use Rattle.search.proofs.Found.{some-both}
 use Rattle.order.specs.Closure.{PartialOrder}
 use Rattle.rolefile.specs.declared.Verdict.{Verdict}
 use Rattle.rolefile.specs.Said.{labels, roles, users, cards, assigned}
@@ -22,7 +22,7 @@ use Rattle.monitor.specs.Runs.{Call, opens, closes, takes, drops, reads,
 use Rattle.monitor.specs.Places.{isFree}
 use Rattle.monitor.specs.Rules.{Session, Sessions, noSessions, entitledByFile, fittingByFile, givesByFile, openRule, closeRule, takeRule, dropRule, partRule, rule, sessions}
 use Rattle.monitor.specs.Granted.{OpenFor, Holds, MayOpen, OpenPlace, MayTake, MayDrop, MayUse, Granted}
-use Rattle.monitor.proofs.Orderly.{Orderly, no-sessions-orderly, opening, session-done, admitted, session-granted, taking, dropping, part-done}
+use Rattle.monitor.proofs.Orderly.{Orderly, no-sessions-orderly, opening, session-done, admitted, session-granted, taking, dropping, gives-iff, part-done}
 use Rattle.monitor.proofs.History.{orderly-sessions, session-with, Opened, open-for-iff, holds-iff}
 use Rattle.monitor.proofs.Demand2.{answers}
 
@@ -96,13 +96,7 @@ module _ (f : List ℕ) (cs : List Call) where
 
   entitled-by-file-iff : (u r : ℕ) → (entitledByFile f u r ≡ true) ↔ ((q : ℕ) × Among (roles f) q × (assigned f u q ≡ true) × (senior f q r ≡ true))
   unfolding entitledByFile
-  entitled-by-file-iff u r = (
-    λ h. let (q, w, e) = some-iff test (roles f) .0 h in let (a, s) = and-iff (assigned f u q) (senior f q r) .0 e in (q, w, a, s),
-    λ (q, w, a, s). some-iff test (roles f) .1 (q, w, and-iff (assigned f u q) (senior f q r) .1 (a, s)),
-  )
-    where
-      test : ℕ → Bool
-      test q = assigned f u q && senior f q r
+  entitled-by-file-iff u r = some-both (assigned f u) (λ q. senior f q r) (roles f)
 
   take-iff : PartialOrder (labels f) (dominates f) → (p r : ℕ) → (takeRule f now p r ≡ 0) ↔ MayTake f cs p r
   unfolding takeRule unless
@@ -123,19 +117,12 @@ module _ (f : List ℕ) (cs : List Call) where
   -- ---- read and write
 
   gives-by-file-iff : (m p o : ℕ) (s : Session) → now p ≡ some s → (givesByFile f m s o ≡ true) ↔ ((r : ℕ) × Holds f cs p r × (may f m r o ≡ true))
-  unfolding givesByFile
   gives-by-file-iff m p o s e = (
-    λ h.
-        let (r, w, k) = some-iff test (roles f) .0 h in
-        let (a, b) = and-iff (s .held r) (may f m r o) .0 k in
-        (r, holds-iff f cs p r .0 (rw e a), b),
+    λ h. let (r, w, a, b) = gives-iff f m s o .0 h in (r, holds-iff f cs p r .0 (rw e a), b),
     λ (r, k, b).
         let a : s .held r ≡ true = rw e at (holds-iff f cs p r .1 k) in
-        some-iff test (roles f) .1 (r, admitted f now known p s e .roles r a .0, and-iff (s .held r) (may f m r o) .1 (a, b)),
+        gives-iff f m s o .1 (r, admitted f now known p s e .roles r a .0, a, b),
   )
-    where
-      test : ℕ → Bool
-      test r = s .held r && may f m r o
 
   part-iff : (m size p o k n : ℕ) → (partRule f m now size p o k n ≡ 0) ↔ MayUse f cs m size p o k n
   unfolding partRule unless

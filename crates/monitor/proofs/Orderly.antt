@@ -1,7 +1,7 @@
 -- What the rules have seen to of every session: its place, user, label and roles are the file's, and each role held fits its label. Assumes nothing.
 use Prim.Native.Nat.{ℕ, _+_, _*_, _≤_}
 use mathlib.Core.Path.{_≡_, refl}
-use mathlib.Core.Logic.{⊎-elim}
+use mathlib.Core.Logic.{_↔_, ⊎-elim}
 use mathlib.Core.List.{List}
 use mathlib.Core.Bool.{true, not, false≢true}
 use mathlib.Core.Option.{Option, none, some, Option·map}
@@ -10,8 +10,9 @@ use lib.Dec.{leb, eqb}
 use borrow.Author.Tests.{eqb-true, leb-true}
 use Rattle.search.specs.Search.{among, Among}
 use Rattle.search.proofs.Truth.{or-iff, and-iff, among-iff}
+use Rattle.search.proofs.Found.{some-both}
 use Rattle.rolefile.specs.Said.{labels, roles, users, cards, clearance}
-use Rattle.policy.specs.Policy.{dominates}
+use Rattle.policy.specs.Policy.{dominates, may}
 use Rattle.monitor.specs.Calls.{unless}
 use Rattle.monitor.specs.Runs.{Call, opens, closes, takes, drops, reads, writes}
 use Rattle.monitor.specs.Places.{isFree, put}
@@ -99,6 +100,11 @@ taking f r s h =
 
 pub dropping : (f : List ℕ) (r : ℕ) → unless (among (roles f) r) 25 0 ≡ 0 → Among (roles f) r
 dropping f r h = among-iff (roles f) r .0 (unless-done (among (roles f) r) 25 0 (omega arith) h .0)
+
+-- the roles held give the use of a card exactly where one of them may
+pub gives-iff : (f : List ℕ) (m : ℕ) (s : Session) (o : ℕ) → (givesByFile f m s o ≡ true) ↔ ((r : ℕ) × Among (roles f) r × (s .held r ≡ true) × (may f m r o ≡ true))
+unfolding givesByFile
+gives-iff f m s o = some-both (s .held) (λ r. may f m r o) (roles f)
 
 -- a read or a write that is done
 pub record Using (f : List ℕ) (m : ℕ) (t : Sessions) (size p o k n : ℕ) : Type 0 where

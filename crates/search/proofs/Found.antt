@@ -258,3 +258,10 @@ module _ (p : ℕ → Bool) (m n : ℕ) (vain : first m p ≡ 0) where
         holds = low .holds;
         lower = λ b v k. past b v (λ u. low .lower (b - m) u (omega arith));
       })
+
+-- one of the things has both
+pub some-both : (p q : ℕ → Bool) (n : ℕ) → (some n (λ a. p a && q a) ≡ true) ↔ ((a : ℕ) × Among n a × (p a ≡ true) × (q a ≡ true))
+some-both p q n = (
+  λ h. let (a, w, e) = some-iff (λ a. p a && q a) n .0 h in let (x, y) = and-iff (p a) (q a) .0 e in (a, w, x, y),
+  λ (a, w, x, y). some-iff (λ a. p a && q a) n .1 (a, w, and-iff (p a) (q a) .1 (x, y)),
+)
