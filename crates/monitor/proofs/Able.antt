@@ -25,7 +25,7 @@ use Rattle.monitor.specs.Calls.{unless, ifDone}
 use Rattle.monitor.specs.Runs.{Call, opens, takes, Memory, after, run}
 use Rattle.monitor.specs.Rules.{Session, Sessions, noSessions, entitledByFile, fittingByFile, givesByFile, openRule, takeRule, partRule, rule, sessionOf, holding, next, sessions}
 use Rattle.monitor.specs.Rights.{canNumber, tableOf, roleCould, could, Cans, canRule, couldByFile, useOf, CouldUse}
-use Rattle.monitor.proofs.Answers.{unless-done, both-ways}
+use Rattle.monitor.proofs.Answers.{unless-done, figure-same}
 use Rattle.monitor.proofs.Orderly.{Orderly, opening, taking, gives-iff, part-done}
 use Rattle.monitor.proofs.Stands.{Stands}
 use Rattle.monitor.proofs.InFile.{test-same, test-passed, sound-file, cleared-file, entitled-file, fitting-file}
@@ -230,11 +230,8 @@ module _ (f : List ℕ) (accepted : Accepted f) (xs ys : List ℕ) (v : Verdict)
   can-file u l o m n figure h =
       let e = h .number ∙ number-by f good t (ran .known) end (ran .stands) u l o m in (
         e,
-        h .answer
-            ∙ rw (← (h .number))
-            (both-ways (λ x y. x ≡ y) n _ 0 _ 0
-            (λ z. let a = can-done f u l o m (sym e ∙ z) in rw (could-by f good t (ran .known) end (ran .stands) u l o m (a .user) (a .label) (a .card) (a .mode)))
-            refl),
+        figure-same n (h .number) (h .answer) (λ z.
+            let a = can-done f u l o m (sym e ∙ z) in could-by f good t (ran .known) end (ran .stands) u l o m (a .user) (a .label) (a .card) (a .mode)),
       )
     where
       good : WellFormed f

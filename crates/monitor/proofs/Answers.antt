@@ -2,7 +2,7 @@
 use Prim.Native.Nat.{ℕ, zero, suc, _+_, _*_, _≤_, _<_}
 use mathlib.Core.Path.{_≡_, refl, sym, _∙_}
 use mathlib.Core.List.{List}
-use mathlib.Core.Bool.{Bool, true, false, not}
+use mathlib.Core.Bool.{Bool, true, false, not, cond}
 use native.Mathlib.Omega.{arith}
 use borrow.Author.Tests.{leb-true}
 use lib.Dec.{eqb}
@@ -53,6 +53,10 @@ both-ways P (suc n) a c b d h k = k
 -- the same of one outcome
 pub either-way : {A : Type 0} (P : A → Type 0) (n : ℕ) (new old : A) → (n ≡ 0 → P new) → P old → P (ifDone n new old)
 either-way P n new old = both-ways (λ a b. P a) n new old new old
+
+-- the figure of a question, by another test that says the same where the question is done
+pub figure-same : (n : ℕ) {N figure : ℕ} {a b : Bool} → n ≡ N → figure ≡ ifDone N (cond a 1 0) 0 → (n ≡ 0 → a ≡ b) → figure ≡ ifDone n (cond b 1 0) 0
+figure-same n {N} {figure} {a} {b} e answer same = answer ∙ rw (← e) (both-ways (λ x y. x ≡ y) n (cond a 1 0) 0 (cond b 1 0) 0 (λ z. rw (same z)) refl)
 
 -- where the call's number N is r
 module _ {A : Type 0} (N : ℕ) (new old : A) {r : ℕ} (e : r ≡ N) where

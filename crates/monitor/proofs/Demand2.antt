@@ -24,7 +24,7 @@ use Rattle.monitor.specs.Calls.{flowsNumber, circleNumber, Flows, Circle
 use Rattle.monitor.specs.Runs.{Call, opens, closes, takes, drops, reads, writes, Memory, number, stateAfter, storeAfter, after, run}
 use Rattle.monitor.specs.Places.{put}
 use Rattle.monitor.specs.Rules.{Session, Sessions, noSessions, sessionRule, atSessionByFile, openRule, closeRule, takeRule, dropRule, partRule, rule, sessionOf, holding, without, next, sessions}
-use Rattle.monitor.proofs.Answers.{unless-done, both-ways, either-way}
+use Rattle.monitor.proofs.Answers.{unless-done, both-ways, either-way, figure-same}
 use Rattle.monitor.proofs.Frames.{length-written}
 use Rattle.monitor.proofs.Wrote.{inside}
 use Rattle.monitor.proofs.Orderly.{Orderly, no-sessions-orderly, opening, session-done, taking, orderly-next, dropping}
@@ -196,17 +196,13 @@ module _ (f : List ℕ) (accepted : Accepted f) (xs ys : List ℕ) (v : Verdict)
         let e : n ≡ unless (among (roles f) q) 25 (unless (among (roles f) r) 25 0) =
         h .number ∙ test-passed 21 (sound-file f form (sessions f noSessions cs) (w .known) (left .state) (w .stands)) ∙ rw (tables .counted .roles) in (
           e,
-          h .answer
-              ∙ rw (← (h .number))
-              (both-ways (λ x y. x ≡ y) n _ 0 _ 0
-              (λ z.
+          figure-same n (h .number) (h .answer) (λ z.
               let (u, rest) = unless-done (among (roles f) q) 25 _ (omega arith) (sym e ∙ z) in
               let (v, end) = unless-done (among (roles f) r) 25 0 (omega arith) rest in
               let i = among-iff (roles f) q .0 u in
               let j = among-iff (roles f) r .0 v in
               let few = counts-known f form .roles in
-              rw (flow-file f form (left .state) tables (w .stands .long) q r (omega arith) (omega arith)))
-              refl),
+              flow-file f form (left .state) tables (w .stands .long) q r (omega arith) (omega arith)),
         )
 
     pub circle-answers : (n figure : ℕ) → Circles (left .state) n figure → (n ≡ 0) × (figure ≡ flowCircle f)
