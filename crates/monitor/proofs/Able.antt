@@ -2,7 +2,7 @@
 use Prim.Native.Nat.{ℕ, zero, suc, _*_, _≤_}
 use mathlib.Core.Path.{_≡_, refl, sym, ap, _∙_}
 use mathlib.Core.Logic.{_↔_, inr, ⊎-elim}
-use mathlib.Core.List.{List}
+use mathlib.Core.List.{List, []}
 use mathlib.Core.Bool.{Bool, true, false, _&&_, cond, false≢true}
 use mathlib.Core.Option.{some, Option·some-injective}
 use native.Mathlib.Omega.{arith}
@@ -176,69 +176,63 @@ figure-one zero true = (λ e. (refl, refl), λ e. refl)
 figure-one zero false = (λ e. absurd (omega arith), λ (e, b). absurd (false≢true b))
 figure-one (suc n) b = (λ e. absurd (omega arith), λ (e, b). absurd (omega arith))
 
--- from the state that a load left, at any place and with a store that has all cards
-module _ (f : List ℕ) (accepted : Accepted f) (xs ys : List ℕ) (v : Verdict) (long : 65536 ≤ length xs) (load : Loaded f v xs ys)
-    (store : List ℕ) (enough : 64 * cards f ≤ length store) (p : ℕ) (place : Among 64 p) (u l o m : ℕ) (mode : Among 2 m) where
+module _ (f : List ℕ) (accepted : Accepted f) (xs ys : List ℕ) (v : Verdict) (long : 65536 ≤ length xs) (load : Loaded f v xs ys) (store : List ℕ) where
   form : WellFormed f
   form = accepted .ordered .form
 
   abbrev start : Memory
   start = record { state = ys; store = store }
 
-  runs : Runs f noSessions (length store) start
-  runs = loaded-runs f accepted xs ys v long load store
+  -- on every state that a load and calls left: by the file, and never 21
+  module _ (cs : List Call) where
+    abbrev end : List ℕ
+    end = run start cs .state
 
-  runs-one : Runs f (next f noSessions (opens p u l)) (length store) (after start (opens p u l))
-  runs-one = runs-next f form noSessions (length store) start runs (opens p u l)
+    pub can-file : (u l o m n figure : ℕ) → Cans end u l o m n figure → (n ≡ canRule f u l o m) × (figure ≡ ifDone n (cond (couldByFile f u l o m) 1 0) 0)
+    can-file u l o m n figure h =
+        let e = h .number ∙ number-by f form t (ran .known) end (ran .stands) u l o m in (
+          e,
+          figure-same n (h .number) (h .answer) (λ z.
+              let a = can-done f u l o m (sym e ∙ z) in could-by f form t (ran .known) end (ran .stands) u l o m (a .user) (a .label) (a .card) (a .mode)),
+        )
+      where
+        t : Sessions
+        t = sessions f noSessions cs
 
-  runs-two : (r : ℕ) → Runs f (next f (next f noSessions (opens p u l)) (takes p r)) (length store) (after (after start (opens p u l)) (takes p r))
-  runs-two r = runs-next f form (next f noSessions (opens p u l)) (length store) (after start (opens p u l)) runs-one (takes p r)
+        ran : Runs f t (length store) (run start cs)
+        ran = left-runs f accepted xs ys v long load store cs
 
-  granting : (r : ℕ) → Let f (length store) p u l place enough o m r ↔ CouldUse start p u l o m r
-  unfolding rule
-  granting r =
-      let a = runs-number f form noSessions (length store) start runs (opens p u l) in
-      let b = runs-number f form _ (length store) _ runs-one (takes p r) in
-      let c = runs-number f form _ (length store) _ (runs-two r) (useOf m p o) ∙ use-rule f (length store) p u l place enough m o _ mode in (
-        λ x. record { opened = a ∙ x .opened; taken = b ∙ x .taken; used = c ∙ x .used },
-        λ x. record { opened = sym a ∙ x .opened; taken = sym b ∙ x .taken; used = sym c ∙ x .used },
-      )
+  -- from the state that a load left, at any place and with a store that has all cards
+  module _ (enough : 64 * cards f ≤ length store) (p : ℕ) (place : Among 64 p) (u l o m : ℕ) (mode : Among 2 m) where
+    runs : Runs f noSessions (length store) start
+    runs = loaded-runs f accepted xs ys v long load store
 
-  same : Able f u l o m → could ys u l o (tableOf m) ≡ couldByFile f u l o m
-  same a = could-by f form noSessions (runs .known) ys (runs .stands) u l o m (a .user) (a .label) (a .card) (a .mode)
+    runs-one : Runs f (next f noSessions (opens p u l)) (length store) (after start (opens p u l))
+    runs-one = runs-next f form noSessions (length store) start runs (opens p u l)
 
-  pub can-iff : (n figure : ℕ) → Cans ys u l o m n figure → (figure ≡ 1) ↔ ((r : ℕ) × CouldUse start p u l o m r)
-  can-iff n figure h =
-      let by = number-by f form noSessions (runs .known) ys (runs .stands) u l o m in
-      let one = figure-one (canNumber ys u l o m) (could ys u l o (tableOf m)) in (
-        λ e.
-            let (z, held) = one .0 (sym (h .answer) ∙ e) in
-            let a = can-done f u l o m (sym by ∙ z) in
-            let (r, x) = come f (length store) p u l place enough o m a (sym (same a) ∙ held) in
-            (r, granting r .0 x),
-        λ (r, x).
-            let (a, held) = came f (length store) p u l place enough o m r mode (granting r .1 x) in
-            h .answer ∙ one .1 (by ∙ able-done f u l o m a, same a ∙ held),
-      )
+    runs-two : (r : ℕ) → Runs f (next f (next f noSessions (opens p u l)) (takes p r)) (length store) (after (after start (opens p u l)) (takes p r))
+    runs-two r = runs-next f form (next f noSessions (opens p u l)) (length store) (after start (opens p u l)) runs-one (takes p r)
 
--- on every state that a load and calls left: by the file, and never 21
-module _ (f : List ℕ) (accepted : Accepted f) (xs ys : List ℕ) (v : Verdict) (long : 65536 ≤ length xs) (load : Loaded f v xs ys) (store : List ℕ) (cs : List Call) where
-  abbrev end : List ℕ
-  end = run (record { state = ys; store = store }) cs .state
+    granting : (r : ℕ) → Let f (length store) p u l place enough o m r ↔ CouldUse start p u l o m r
+    unfolding rule
+    granting r =
+        let a = runs-number f form noSessions (length store) start runs (opens p u l) in
+        let b = runs-number f form _ (length store) _ runs-one (takes p r) in
+        let c = runs-number f form _ (length store) _ (runs-two r) (useOf m p o) ∙ use-rule f (length store) p u l place enough m o _ mode in (
+          λ x. record { opened = a ∙ x .opened; taken = b ∙ x .taken; used = c ∙ x .used },
+          λ x. record { opened = sym a ∙ x .opened; taken = sym b ∙ x .taken; used = sym c ∙ x .used },
+        )
 
-  pub can-file : (u l o m n figure : ℕ) → Cans end u l o m n figure → (n ≡ canRule f u l o m) × (figure ≡ ifDone n (cond (couldByFile f u l o m) 1 0) 0)
-  can-file u l o m n figure h =
-      let e = h .number ∙ number-by f good t (ran .known) end (ran .stands) u l o m in (
-        e,
-        figure-same n (h .number) (h .answer) (λ z.
-            let a = can-done f u l o m (sym e ∙ z) in could-by f good t (ran .known) end (ran .stands) u l o m (a .user) (a .label) (a .card) (a .mode)),
-      )
-    where
-      good : WellFormed f
-      good = accepted .ordered .form
-
-      t : Sessions
-      t = sessions f noSessions cs
-
-      ran : Runs f (sessions f noSessions cs) (length store) (run (record { state = ys; store = store }) cs)
-      ran = left-runs f accepted xs ys v long load store cs
+    pub can-iff : (n figure : ℕ) → Cans ys u l o m n figure → (figure ≡ 1) ↔ ((r : ℕ) × CouldUse start p u l o m r)
+    unfolding run
+    can-iff n figure h =
+        let (by, told) = can-file [] u l o m n figure h in
+        let one = figure-one n (couldByFile f u l o m) in (
+          λ e.
+              let (z, held) = one .0 (sym told ∙ e) in
+              let (r, x) = come f (length store) p u l place enough o m (can-done f u l o m (sym by ∙ z)) held in
+              (r, granting r .0 x),
+          λ (r, x).
+              let (a, held) = came f (length store) p u l place enough o m r mode (granting r .1 x) in
+              told ∙ one .1 (by ∙ able-done f u l o m a, held),
+        )
