@@ -1,8 +1,8 @@
 -- A state stands for the sessions that the calls left: its tables describe the file, and each place's bytes are its session's. A call that writes one place and no
 -- more keeps it so. Assumes nothing.
-use Prim.Native.Nat.{ℕ, suc, _+_, _-_, _≤_, _<_}
+use Prim.Native.Nat.{ℕ, suc, _+_, _≤_, _<_}
 use mathlib.Core.Path.{_≡_, refl, ap, _∙_}
-use mathlib.Core.List.{List, _∷_}
+use mathlib.Core.List.{List}
 use mathlib.Core.Bool.{Bool}
 use mathlib.Core.Option.{Option, none, some}
 use native.Mathlib.Nat.{add-zero}
@@ -16,7 +16,7 @@ use Rattle.roleset.proofs.Rows.{zero-row, same-bytes}
 use Rattle.policy.specs.Image.{Describes, Image}
 use Rattle.policy.proofs.Builds.{describes-stays}
 use Rattle.monitor.specs.Session.{placeAt, heldAt}
-use Rattle.monitor.specs.Calls.{written, opened, closed, taken, dropped}
+use Rattle.monitor.specs.Calls.{written, sessionBytes, opened, closed, taken, dropped}
 use Rattle.monitor.specs.Places.{put}
 use Rattle.monitor.specs.Rules.{Session, Sessions, noSessions, sessionOf, holding, without}
 use Rattle.monitor.proofs.Frames.{length-written, written-in, written-out}
@@ -86,12 +86,9 @@ module _ (xs : List ℕ) (p : ℕ) (long : 65536 ≤ length xs) (w : Among 64 p)
     rest = λ i out. written-out xs (placeAt p) bytes (omega arith) i (λ l. omega (arith, out l));
   }
 
-  abbrev session : ℕ → ℕ → List ℕ
-  session u l = 1 ∷ (u - 1) ∷ l ∷ replicate 17 0
-
   pub opened-touched : (u l : ℕ) → Touched p xs (opened xs p u l)
   unfolding opened
-  opened-touched u l = whole-touched (session u l) refl
+  opened-touched u l = whole-touched (sessionBytes u l) refl
 
   pub opened-place : (u l : ℕ) → 1 ≤ u → PlaceIs (opened xs p u l) p (some (sessionOf u l))
   unfolding opened
@@ -103,16 +100,16 @@ module _ (xs : List ℕ) (p : ℕ) (long : 65536 ≤ length xs) (w : Among 64 p)
   }
     where
       ys : List ℕ
-      ys = written xs (placeAt p) (session u l)
+      ys = written xs (placeAt p) (sessionBytes u l)
 
-      byte : (k : ℕ) → k < 20 → getD ys (placeAt p + k) 0 ≡ getD (session u l) k 0
-      byte k m = written-in xs (placeAt p) (session u l) (omega arith) k m
+      byte : (k : ℕ) → k < 20 → getD ys (placeAt p + k) 0 ≡ getD (sessionBytes u l) k 0
+      byte k m = written-in xs (placeAt p) (sessionBytes u l) (omega arith) k m
 
       no-role : (k : ℕ) → k < 16 → getD ys (heldAt p + k) 0 ≡ 0
       no-role k m =
           let z : heldAt p + k ≡ placeAt p + (4 + k) = omega arith in
           let n : 4 + k ≡ suc (suc (suc (suc k))) = omega arith in
-          ap (λ (i : ℕ). getD ys i 0) z ∙ byte (4 + k) (omega arith) ∙ ap (λ (i : ℕ). getD (session u l) i 0) n ∙ getD-replicate 17 (suc k) 0 0 (omega arith)
+          ap (λ (i : ℕ). getD ys i 0) z ∙ byte (4 + k) (omega arith) ∙ ap (λ (i : ℕ). getD (sessionBytes u l) i 0) n ∙ getD-replicate 17 (suc k) 0 0 (omega arith)
 
   pub closed-touched : Touched p xs (closed xs p)
   unfolding closed

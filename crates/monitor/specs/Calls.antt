@@ -46,8 +46,12 @@ openNumber xs p u l =
     (unless (cleared xs u l) 26
     0)))))
 
+-- the bytes of a place with a session that holds no role
+abbrev pub sessionBytes : ℕ → ℕ → List ℕ
+sessionBytes u l = 1 ∷ (u - 1) ∷ l ∷ replicate 17 0
+
 unfoldable pub opened : List ℕ → ℕ → ℕ → ℕ → List ℕ
-opened xs p u l = written xs (placeAt p) (1 ∷ (u - 1) ∷ l ∷ replicate 17 0)
+opened xs p u l = written xs (placeAt p) (sessionBytes u l)
 
 abbrev pub openState : List ℕ → ℕ → ℕ → ℕ → List ℕ
 openState xs p u l = ifDone (openNumber xs p u l) (opened xs p u l) xs
