@@ -165,14 +165,6 @@ module _ (f : List ℕ) (form : WellFormed f) (t : Sessions) (known : Orderly f 
   unfolding closeNumber closeRule
   close-file p = session-file p (λ s. 0) (λ s a adm. refl)
 
-  user-is : (p : ℕ) (s : Session) → SessionAt xs p s → userAt xs p ≡ s .user
-  unfolding userAt
-  user-is p s a = a .user
-
-  label-is : (p : ℕ) (s : Session) → SessionAt xs p s → labelAt xs p ≡ s .label
-  unfolding labelAt
-  label-is p s a = a .label
-
   pub take-file : (p r : ℕ) → takeNumber xs p r ≡ takeRule f t p r
   unfolding takeNumber takeRule
   take-file p r =
@@ -180,9 +172,9 @@ module _ (f : List ℕ) (form : WellFormed f) (t : Sessions) (known : Orderly f 
       test-same (among (rolesIn xs) r) (among (roles f) r) 25 (rw (stands .tables .counted .roles)) (λ role.
       let w = among-iff (roles f) r .0 role in
       test-same (entitled xs (userAt xs p) r) (entitledByFile f (s .user) r) 27
-      (ap (λ (u : ℕ). entitled xs u r) (user-is p s a) ∙ entitled-file (s .user) r (adm .user) w) (λ member.
+      (ap (λ (u : ℕ). entitled xs u r) (a .user) ∙ entitled-file (s .user) r (adm .user) w) (λ member.
       test-same (fitting xs (labelAt xs p) r) (fittingByFile f (s .label) r) 28
-      (ap (λ (l : ℕ). fitting xs l r) (label-is p s a) ∙ fitting-file (s .label) r (adm .label) w) (λ suited. refl))))
+      (ap (λ (l : ℕ). fitting xs l r) (a .label) ∙ fitting-file (s .label) r (adm .label) w) (λ suited. refl))))
 
   pub drop-file : (p r : ℕ) → dropNumber xs p r ≡ dropRule f t p r
   unfolding dropNumber dropRule

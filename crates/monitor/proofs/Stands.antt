@@ -15,7 +15,7 @@ use Rattle.roleset.specs.Row.{member, Kept, Placed, added, removed}
 use Rattle.roleset.proofs.Rows.{zero-row, same-bytes}
 use Rattle.policy.specs.Image.{Describes, Image}
 use Rattle.policy.proofs.Builds.{describes-stays}
-use Rattle.monitor.specs.Session.{placeAt, heldAt}
+use Rattle.monitor.specs.Session.{placeAt, userAt, labelAt, heldAt}
 use Rattle.monitor.specs.Calls.{written, sessionBytes, opened, closed, taken, dropped}
 use Rattle.monitor.specs.Places.{put}
 use Rattle.monitor.specs.Rules.{Session, Sessions, noSessions, sessionOf, holding, without}
@@ -25,8 +25,8 @@ use Rattle.monitor.proofs.Holding.{more-placed, less-placed, length-les
 
 pub record SessionAt (xs : List ℕ) (p : ℕ) (s : Session) : Type 0 where
   pub used : getD xs (placeAt p) 0 ≡ 1
-  pub user : getD xs (placeAt p + 1) 0 + 1 ≡ s .user
-  pub label : getD xs (placeAt p + 2) 0 ≡ s .label
+  pub user : userAt xs p ≡ s .user
+  pub label : labelAt xs p ≡ s .label
   pub held : (r : ℕ) → member xs (heldAt p) r ≡ s .held r
 
 abbrev pub PlaceIs : List ℕ → ℕ → Option Session → Type 0
@@ -59,6 +59,7 @@ module _ (f : List ℕ) (t : Sessions) (xs ys : List ℕ) (p : ℕ) (stands : St
       touched .rest (placeAt q + k) (λ m. elim (decLt q p) [ yes i ↦ absurd (omega arith) | no i ↦ elim (decLt p q) [ yes j ↦ omega arith | no j ↦ absurd (n (omega arith)) ] ])
 
   place-elsewhere : (q : ℕ) → Among 64 q → (q ≡ p → ⊥) → (s : Option Session) → PlaceIs xs q s → PlaceIs ys q s
+  unfolding userAt labelAt
   place-elsewhere q v n none e = rw add-zero at (elsewhere q v n 0 (omega arith)) ∙ e
   place-elsewhere q v n (some s) a = record {
     used = rw add-zero at (elsewhere q v n 0 (omega arith)) ∙ a .used;
@@ -91,7 +92,7 @@ module _ (xs : List ℕ) (p : ℕ) (long : 65536 ≤ length xs) (w : Among 64 p)
   opened-touched u l = whole-touched (sessionBytes u l) refl
 
   pub opened-place : (u l : ℕ) → 1 ≤ u → PlaceIs (opened xs p u l) p (some (sessionOf u l))
-  unfolding opened
+  unfolding opened userAt labelAt
   opened-place u l i = record {
     used = rw add-zero at (byte 0 (omega arith));
     user = rw (byte 1 (omega arith)) (omega arith);
@@ -126,6 +127,7 @@ module _ (xs : List ℕ) (p : ℕ) (long : 65536 ≤ length xs) (w : Among 64 p)
 
     row-place : (s : Session) → SessionAt xs p s → (next : ℕ → Bool) → ((r : ℕ) → held r ≡ next r)
         → SessionAt ys p (record { user = s .user; label = s .label; held = next })
+    unfolding userAt labelAt
     row-place s a next agree = record {
       used = placed .rest (placeAt p) (λ l. absurd (omega arith)) ∙ a .used;
       user = rw (placed .rest (placeAt p + 1) (λ l. absurd (omega arith))) (a .user);
