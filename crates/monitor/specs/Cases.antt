@@ -66,21 +66,25 @@ pub record Case : Type 0 where
   pub file : List String
   pub expected : Findings
 
+-- the file that the document shows
+abbrev pub example : List String
+example =
+    "H    2    2    1    2"
+    ∷ "D    2    1          "
+    ∷ "S    2    1          "
+    ∷ "U    1    2          "
+    ∷ "O    1    1          "
+    ∷ "O    2    2          "
+    ∷ "P    1    1    1     "
+    ∷ "P    2    2    2     "
+    ∷ "A    1    2          "
+    ∷ []
+
 unfoldable pub cases : List Case
 cases =
     record {
       -- "the file above: accepted"
-      file =
-          "H    2    2    1    2"
-          ∷ "D    2    1          "
-          ∷ "S    2    1          "
-          ∷ "U    1    2          "
-          ∷ "O    1    1          "
-          ∷ "O    2    2          "
-          ∷ "P    1    1    1     "
-          ∷ "P    2    2    2     "
-          ∷ "A    1    2          "
-          ∷ [];
+      file = example;
       expected = record { verdict = fine; rows = (1, 1, 0) ∷ (2, 1, 2) ∷ []; circle = some 0; flows = (1, 2, false) ∷ (2, 1, false) ∷ []; calls = [] };
     }
     ∷ record {
@@ -209,17 +213,7 @@ cases =
     }
     ∷ record {
       -- "user 1 at label 1 takes role 2, writes card 2: 0, reads card 2: 29", of the file above
-      file =
-          "H    2    2    1    2"
-          ∷ "D    2    1          "
-          ∷ "S    2    1          "
-          ∷ "U    1    2          "
-          ∷ "O    1    1          "
-          ∷ "O    2    2          "
-          ∷ "P    1    1    1     "
-          ∷ "P    2    2    2     "
-          ∷ "A    1    2          "
-          ∷ [];
+      file = example;
       expected = record {
         verdict = fine;
         rows = [];
