@@ -1,6 +1,6 @@
 -- The review functions in the file's own terms, for every state that a load of an accepted file and any calls left: `review-…`. What a user's roles at a label give is what
 -- `monitor_can` answers (`review-can`). Assumes nothing.
-use Prim.Native.Nat.{ℕ, _≤_}
+use Prim.Native.Nat.{ℕ}
 use mathlib.Core.Path.{_≡_, _∙_}
 use mathlib.Core.List.{List}
 use mathlib.Core.Logic.{inl}
@@ -15,7 +15,7 @@ use Rattle.rolefile.specs.Said.{labels, roles, users, cards, clearance, assigne
 use Rattle.rolefile.specs.WellFormed.{WellFormed}
 use Rattle.policy.specs.Policy.{dominates, senior, may}
 use Rattle.policy.specs.Tables.{word}
-use Rattle.policy.proofs.Meaning.{counts-known, marked-file}
+use Rattle.policy.proofs.Meaning.{counts-known, role-few, marked-file}
 use Rattle.monitor.specs.Session.{sound, entitled, fitting}
 use Rattle.monitor.specs.Rules.{Sessions, entitledByFile, fittingByFile}
 use Rattle.monitor.specs.Rights.{tableOf, roleCould, could, couldByFile}
@@ -97,9 +97,6 @@ module _ (f : List ℕ) (form : WellFormed f) (t : Sessions) (orderly : Orderly 
 
   -- ---- what a set of the file's roles gives
 
-  few : roles f ≤ 128
-  few = counts-known f form .roles
-
   module _ (o m : ℕ) (held : ℕ → Bool) (i : Among (cards f) o) (j : Among 2 m) (known : (r : ℕ) → held r ≡ true → Among (roles f) r) where
     abbrev gives : ℕ → Bool
     gives r = member xs (rowOf (tableOf m) o) r && held r
@@ -109,12 +106,12 @@ module _ (f : List ℕ) (form : WellFormed f) (t : Sessions) (orderly : Orderly 
     unfolding giveCard
     gives-by p agree =
         rw (card o i, among-iff 2 m .1 j)
-        (some-first (roles f) few gives p (λ r k e. known r (and-iff (member xs (rowOf (tableOf m) o) r) (held r) .0 e .1)) agree)
+        (some-first (roles f) (counts-known f form .roles) gives p (λ r k e. known r (and-iff (member xs (rowOf (tableOf m) o) r) (held r) .0 e .1)) agree)
 
     pub review-gives : giveCard xs m o held ≡ search.some (roles f) (λ r. may f m r o && held r)
     review-gives =
         let few-cards = counts-known f form .cards in
-        gives-by (λ r. may f m r o && held r) (λ r k. rw (table-says f form t orderly xs stands m j o r (omega arith) (omega (arith, few))))
+        gives-by (λ r. may f m r o && held r) (λ r k. rw (table-says f form t orderly xs stands m j o r (omega arith) (role-few f form r k)))
 
   -- ---- what the roles that a user may take at a label give
 

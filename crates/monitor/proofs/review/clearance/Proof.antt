@@ -1,5 +1,4 @@
 -- None of a user that the state does not know.
-use Prim.Native.Nat.{ℕ, _≤_, _<_}
 use native.Mathlib.Omega.{arith}
 use borrow.Author.Needs.{needs}
 use Rattle.search.proofs.Truth.{passed, failed}
@@ -8,15 +7,12 @@ use Rattle.monitor.proofs.Known.{user}
 use Rattle.monitor.proofs.review.clearance.Statement.{statement}
 use Rattle.monitor.proofs.review.clearance.Tie as tie
 
-below : {u : ℕ} → u ≤ 256 → u < 65536
-below l = omega arith
-
 returns : tie.Need-returns
 unfolding clearanceOf
 returns c = (rw (failed (c .before .known .ensures) (c .if1 .taken)), omega arith)
 
 byte-of-requires : tie.Need-byte-of-requires
-byte-of-requires c κs = let u = user _ _ (passed (c .before .known .ensures) (c .if1 .left)) in (omega arith, below (u .1), u .0)
+byte-of-requires c κs = let u = user _ (c .before .before .before .args .user) (passed (c .before .known .ensures) (c .if1 .left)) in (omega arith, omega arith, u .0)
 
 returns-2 : tie.Need-returns-2
 unfolding clearanceOf
