@@ -20,7 +20,7 @@ use Rattle.monitor.proofs.Frames.{written-out}
 use Rattle.monitor.proofs.Wrote.{inside}
 use Rattle.monitor.proofs.Orderly.{part-done}
 use Rattle.monitor.proofs.Demand2.{Runs, runs-next, runs-number, loaded-runs}
-use Rattle.isolation.specs.TwoRuns.{answer, Open, noneOpen, track, under, shared, sharedCalls, Shown, shown, SameCards, Alike, Isolated}
+use Rattle.isolation.specs.TwoRuns.{answer, Open, noneOpen, track, under, shared, sharedCalls, Shown, shown, SameCards, Alike, SameFor, Isolated}
 use Rattle.isolation.proofs.Tracking.{Fits, none-fits, placeOf, next-other, fits-track}
 use Rattle.isolation.proofs.Low.{SameSessions, same-number, next-same, cards-after, bytes-same, read-under, write-over}
 
@@ -146,7 +146,7 @@ module _ (f : List ℕ) (accepted : Accepted f) (L : ℕ) (label : Among (labels
   -- ---- a run, and the run of its shared calls
 
   abbrev Like : Open → Memory → Memory → List Call → List Call → Type 0
-  Like t m₁ m₂ cs ds = Alike f L (shown f L t m₁ cs) (shown f L t m₂ ds) × SameCards f L (run m₁ cs .store) (run m₂ ds .store)
+  Like t m₁ m₂ cs ds = SameFor f L (shown f L t m₁ cs) (shown f L t m₂ ds) (run m₁ cs) (run m₂ ds)
 
   turn : (b : Bool) (t : Open) (s₁ s₂ : Sessions) (m₁ m₂ : Memory) (c : Call) (cs : List Call) → shared f L t c ≡ b → Pair t s₁ s₂ m₁ m₂
       → ((u : Open) (r₁ r₂ : Sessions) (n₁ n₂ : Memory) → Pair u r₁ r₂ n₁ n₂ → Like u n₁ n₂ cs (sharedCalls f L u cs))

@@ -5,7 +5,7 @@ use mathlib.Core.Path.{_≡_}
 use mathlib.Core.List.{List, [], _∷_}
 use Rattle.monitor.specs.Calls.{Opens, Closes, Takes, Drops, readNumber, readBytes, Writes}
 use Rattle.monitor.specs.Runs.{Call, opens, closes, takes, drops, reads, writes, Memory}
-use Rattle.isolation.specs.TwoRuns.{Answer, Open, noneOpen, track, shared, keep, Shown, SameCards, Alike, OfTwoRuns}
+use Rattle.isolation.specs.TwoRuns.{Answer, Open, noneOpen, track, shared, keep, Shown, SameFor, OfTwoRuns}
 
 -- the call c, made on the memory m, answered a and left n
 abbrev pub Made : Memory → Call → Answer → Memory → Type 0
@@ -27,4 +27,4 @@ abbrev pub IsolatedExports : List ℕ → Type 0
 IsolatedExports f =
     OfTwoRuns f (λ L m₁ m₂ cs₁ cs₂.
     (xs₁ xs₂ : List Shown) (e₁ e₂ : Memory) → Makes f L noneOpen m₁ cs₁ xs₁ e₁ → Makes f L noneOpen m₂ cs₂ xs₂ e₂
-    → Alike f L xs₁ xs₂ × SameCards f L (e₁ .store) (e₂ .store))
+    → SameFor f L xs₁ xs₂ e₁ e₂)

@@ -92,6 +92,10 @@ Alike f L [] (y ∷ ys) = ⊥
 Alike f L (x ∷ xs) [] = ⊥
 Alike f L (x ∷ xs) (y ∷ ys) = (x .answer ≡ y .answer) × SameCards f L (x .store) (y .store) × Alike f L xs ys
 
+-- two runs alike for L: what each shows, and the cards at the end
+abbrev pub SameFor : List ℕ → ℕ → List Shown → List Shown → Memory → Memory → Type 0
+SameFor f L xs₁ xs₂ e₁ e₂ = Alike f L xs₁ xs₂ × SameCards f L (e₁ .store) (e₂ .store)
+
 -- the state that one load of the file left, whatever 65,536 bytes or more were there before
 pub record Start (f : List ℕ) : Type 0 where
   pub before : List ℕ
