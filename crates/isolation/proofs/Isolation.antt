@@ -92,17 +92,17 @@ module _ (f : List ℕ) (accepted : Accepted f) (L : ℕ) (label : Among (labels
 
   -- ---- any other call
 
-  module _ (t : Open) (s : Sessions) (m : Memory) (runs : Runs f s size m) (fits : Fits t s) where
-    -- it is none of openings and closings, and its place is not under L
-    other-call : (c : Call) → shared f L t c ≡ false → (track f t c ≡ t) × (under f L (t (placeOf c)) ≡ false)
-    unfolding shared track
-    other-call (opens p u l) h = absurd (true≢false h)
-    other-call (closes p) h = absurd (true≢false h)
-    other-call (takes p r) h = (refl, h)
-    other-call (drops p r) h = (refl, h)
-    other-call (reads p o k n) h = (refl, h)
-    other-call (writes p o k bytes) h = (refl, h)
+  -- it is none of openings and closings, and its place is not under L
+  other-call : (t : Open) (c : Call) → shared f L t c ≡ false → (track f t c ≡ t) × (under f L (t (placeOf c)) ≡ false)
+  unfolding shared track
+  other-call t (opens p u l) h = absurd (true≢false h)
+  other-call t (closes p) h = absurd (true≢false h)
+  other-call t (takes p r) h = (refl, h)
+  other-call t (drops p r) h = (refl, h)
+  other-call t (reads p o k n) h = (refl, h)
+  other-call t (writes p o k bytes) h = (refl, h)
 
+  module _ (t : Open) (s : Sessions) (m : Memory) (runs : Runs f s size m) (fits : Fits t s) where
     other-sessions : (c : Call) → under f L (t (placeOf c)) ≡ false → SameSessions f L t (next f s c) s
     other-sessions c h q k = next-other f s c q (λ e. both k (rw e at h))
 
@@ -133,7 +133,7 @@ module _ (f : List ℕ) (accepted : Accepted f) (L : ℕ) (label : Among (labels
   other-pair : (t : Open) (s₁ s₂ : Sessions) (m₁ m₂ : Memory) → Pair t s₁ s₂ m₁ m₂ → (c : Call) → shared f L t c ≡ false
       → Pair t (next f s₁ c) s₂ (after m₁ c) m₂
   other-pair t s₁ s₂ m₁ m₂ pair c h =
-      let (same, high) = other-call t s₁ m₁ (pair .runs₁) (pair .fits₁) c h in
+      let (same, high) = other-call t c h in
       record {
         runs₁ = runs-next f form s₁ size m₁ (pair .runs₁) c;
         runs₂ = pair .runs₂;
@@ -157,7 +157,7 @@ module _ (f : List ℕ) (accepted : Accepted f) (L : ℕ) (label : Among (labels
       let (alike, end) = rest (track f t c) (next f s₁ c) (next f s₂ c) (after m₁ c) (after m₂ c) next-pair in
       rw (h, h) ((same-answer t s₁ s₂ m₁ m₂ pair c h, next-pair .cards, alike), end)
   turn false t s₁ s₂ m₁ m₂ c cs h pair rest =
-      let (same, high) = other-call t s₁ m₁ (pair .runs₁) (pair .fits₁) c h in
+      let (same, high) = other-call t c h in
       rw (h, same) (rest t (next f s₁ c) s₂ (after m₁ c) m₂ (other-pair t s₁ s₂ m₁ m₂ pair c h))
 
   like-shared : (cs : List Call) (t : Open) (s₁ s₂ : Sessions) (m₁ m₂ : Memory) → Pair t s₁ s₂ m₁ m₂ → Like t m₁ m₂ cs (sharedCalls f L t cs)
@@ -183,24 +183,10 @@ isolation f accepted a b L label s₁ s₂ long same cs₁ cs₂ same-shared =
     let m₂ : Memory = record { state = b .state; store = s₂ } in
     let r₁ = loaded-runs f accepted (a .before) (a .state) (a .verdict) (a .enough) (a .load) s₁ in
     let r₂ : Runs f noSessions (length s₁) m₂ = rw (← long) at (loaded-runs f accepted (b .before) (b .state) (b .verdict) (b .enough) (b .load) s₂) in
-    let itself : Pair f accepted L label (length s₁) noneOpen noSessions noSessions m₁ m₁ = record {
-      runs₁ = r₁;
-      runs₂ = r₁;
-      fits₁ = none-fits;
-      fits₂ = none-fits;
-      sessions = λ p k. refl;
-      cards = λ o i w d l. refl;
-    } in
-    let other : Pair f accepted L label (length s₁) noneOpen noSessions noSessions m₂ m₁ = record {
-      runs₁ = r₂;
-      runs₂ = r₁;
-      fits₁ = none-fits;
-      fits₂ = none-fits;
-      sessions = λ p k. refl;
-      cards = λ o i w d l. sym (same o i w d l);
-    } in
-    let (x, end₁) = like-shared f accepted L label (length s₁) cs₁ noneOpen noSessions noSessions m₁ m₁ itself in
-    let (y, end₂) = rw (sym same-shared) at (like-shared f accepted L label (length s₁) cs₂ noneOpen noSessions noSessions m₂ m₁ other) in
+    let begins : (m : Memory) → Runs f noSessions (length s₁) m → SameCards f L (m .store) s₁ → Pair f accepted L label (length s₁) noneOpen noSessions noSessions m m₁ =
+    λ m r c. record { runs₁ = r; runs₂ = r₁; fits₁ = none-fits; fits₂ = none-fits; sessions = λ p k. refl; cards = c } in
+    let (x, end₁) = like-shared f accepted L label (length s₁) cs₁ noneOpen noSessions noSessions m₁ m₁ (begins m₁ r₁ (λ o i w d l. refl)) in
+    let (y, end₂) = rw (sym same-shared) at (like-shared f accepted L label (length s₁) cs₂ noneOpen noSessions noSessions m₂ m₁ (begins m₂ r₂ (λ o i w d l. sym (same o i w d l)))) in
     record {
       answers = alike-both f L (shown f L noneOpen m₁ cs₁) (shown f L noneOpen m₂ cs₂) (shown f L noneOpen m₁ (sharedCalls f L noneOpen cs₁)) x y;
       cards = λ o i w d l. end₁ o i w d l ∙ sym (end₂ o i w d l);
