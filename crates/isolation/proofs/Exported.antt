@@ -2,7 +2,7 @@
 use Prim.Native.Nat.{ℕ}
 use mathlib.Core.Path.{_≡_, ap, _∙_}
 use mathlib.Core.List.{List, [], _∷_}
-use Rattle.monitor.specs.Runs.{Call, opens, closes, takes, drops, reads, writes, Memory, number, part, stateAfter, storeAfter, after, run}
+use Rattle.monitor.specs.Runs.{Call, opens, closes, takes, drops, reads, writes, Memory, number, partOf, part, stateAfter, storeOf, storeAfter, after, run}
 use Rattle.isolation.specs.TwoRuns.{Answer, answer, Open, noneOpen, track, Shown, shown}
 use Rattle.isolation.specs.Exported.{Made, Makes, IsolatedExports}
 use Rattle.isolation.proofs.Isolation.{isolation}
@@ -14,7 +14,7 @@ answered m n c a e b s t = (λ i. record { number = e i; bytes = b i }, λ i. re
 
 -- the contracts leave a call one answer and one outcome
 pub made-once : (m : Memory) (c : Call) (a : Answer) (n : Memory) → Made m c a n → (a ≡ answer m c) × (n ≡ after m c)
-unfolding number part stateAfter storeAfter
+unfolding number partOf stateAfter storeOf
 made-once m (opens p u l) a n (h, s, b) = answered m n (opens p u l) a (h .number) b (h .state) s
 made-once m (closes p) a n (h, s, b) = answered m n (closes p) a (h .number) b (h .state) s
 made-once m (takes p r) a n (h, s, b) = answered m n (takes p r) a (h .number) b (h .state) s

@@ -13,7 +13,7 @@ use Rattle.rolefile.specs.WellFormed.{WellFormed}
 use Rattle.policy.specs.Accepted.{Accepted}
 use Rattle.policy.specs.Tables.{writersAt}
 use Rattle.monitor.specs.Calls.{written, partAt, readNumber, writeNumber}
-use Rattle.monitor.specs.Runs.{Call, opens, closes, takes, drops, reads, writes, Memory, number, part, storeAfter, after, run}
+use Rattle.monitor.specs.Runs.{Call, opens, closes, takes, drops, reads, writes, Memory, number, partOf, part, storeOf, storeAfter, after, run}
 use Rattle.monitor.specs.Rules.{Sessions, noSessions, rule, next}
 use Rattle.monitor.proofs.Answers.{both-ways, either-way, part-fits}
 use Rattle.monitor.proofs.Frames.{written-out}
@@ -46,11 +46,10 @@ module _ (f : List ℕ) (accepted : Accepted f) (L : ℕ) (label : Among (labels
         ∙ same-number f L t s₁ s₂ (pair .fits₁) (pair .fits₂) (pair .sessions) size c h
         ∙ sym (runs-number f form s₂ size m₂ (pair .runs₂) c)
 
-    read-bytes : (p o k n : ℕ) → c ≡ reads p o k n → part m₁ (reads p o k n) ≡ part m₂ (reads p o k n)
-    unfolding number part rule shared
+    read-bytes : (p o k n : ℕ) → c ≡ reads p o k n → partOf (number m₂ (reads p o k n)) (m₁ .store) (reads p o k n) ≡ part m₂ (reads p o k n)
+    unfolding number partOf rule shared
     read-bytes p o k n e =
-        rw (rw e at numbers)
-        (both-ways (λ a b. a ≡ b) (readNumber (m₂ .state) (m₂ .store) p o k n) (take n (drop (partAt o k) (m₁ .store))) [] (take n (drop (partAt o k) (m₂ .store))) []
+        both-ways (λ a b. a ≡ b) (readNumber (m₂ .state) (m₂ .store) p o k n) (take n (drop (partAt o k) (m₁ .store))) [] (take n (drop (partAt o k) (m₂ .store))) []
         (λ z.
         let y = sym (runs-number f form s₂ size m₂ (pair .runs₂) (reads p o k n)) ∙ z in
         let u = part-done f 1 s₂ size p o k n y in
@@ -63,13 +62,13 @@ module _ (f : List ℕ) (accepted : Accepted f) (L : ℕ) (label : Among (labels
         let w = u .inCard in
         let j : partAt o k + i ≡ 64 * (o - 1) + (k + i) = omega arith in
         rw j (pair .cards o (k + i) (u .card) d (omega arith))))
-        refl)
+        refl
 
     parts : part m₁ c ≡ part m₂ c
-    unfolding part
-    parts = by c refl
+    unfolding partOf
+    parts = rw numbers (by c refl)
       where
-        by : (d : Call) → c ≡ d → part m₁ d ≡ part m₂ d
+        by : (d : Call) → c ≡ d → partOf (number m₂ d) (m₁ .store) d ≡ part m₂ d
         by (opens p u l) e = refl
         by (closes p) e = refl
         by (takes p r) e = refl
@@ -107,7 +106,7 @@ module _ (f : List ℕ) (accepted : Accepted f) (L : ℕ) (label : Among (labels
     other-sessions c h q k = next-other f s c q (λ e. both k (rw e at h))
 
     other-cards : (c : Call) → under f L (t (placeOf c)) ≡ false → SameCards f L (storeAfter m c) (m .store)
-    unfolding storeAfter number rule
+    unfolding storeOf number rule
     other-cards (opens p u l) h = λ o i w d l. refl
     other-cards (closes p) h = λ o i w d l. refl
     other-cards (takes p r) h = λ o i w d l. refl

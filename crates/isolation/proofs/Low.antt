@@ -15,7 +15,7 @@ use Rattle.rolefile.specs.Said.{labels, roles, cards, cardLabel}
 use Rattle.policy.specs.Policy.{dominates, may}
 use Rattle.policy.specs.Accepted.{Accepted}
 use Rattle.monitor.specs.Calls.{ifDone, written, partAt, writeNumber}
-use Rattle.monitor.specs.Runs.{Call, opens, closes, takes, drops, reads, writes, Memory, number, storeAfter}
+use Rattle.monitor.specs.Runs.{Call, opens, closes, takes, drops, reads, writes, Memory, number, storeOf, storeAfter}
 use Rattle.monitor.specs.Places.{isFree, put}
 use Rattle.monitor.specs.Rules.{Session, Sessions, sessionRule, fittingByFile, openRule, closeRule, takeRule, dropRule, partRule, rule, sessionOf, holding, without, next}
 use Rattle.monitor.proofs.Answers.{both-ways}
@@ -100,7 +100,7 @@ module _ (s t bytes : List ℕ) (at : ℕ) (fits-s : at + length bytes ≤ lengt
 -- the same call with the same number
 pub cards-after : (f : List ℕ) (L : ℕ) (m₁ m₂ : Memory) (c : Call) → number m₁ c ≡ number m₂ c → SameCards f L (m₁ .store) (m₂ .store)
     → SameCards f L (storeAfter m₁ c) (storeAfter m₂ c)
-unfolding number storeAfter
+unfolding number storeOf
 cards-after f L m₁ m₂ (opens p u l) e h = h
 cards-after f L m₁ m₂ (closes p) e h = h
 cards-after f L m₁ m₂ (takes p r) e h = h

@@ -20,14 +20,14 @@ use Rattle.policy.specs.Verdict.{orderVerdict, labelVerdict, roleVerdict, assig
 use Rattle.policy.specs.Accepted.{Accepted}
 use Rattle.policy.proofs.Outcomes.{accepted-fine}
 use Rattle.monitor.specs.Calls.{unless, ifDone}
-use Rattle.monitor.specs.Runs.{Call}
+use Rattle.monitor.specs.Runs.{Call, partOf, storeOf}
 use Rattle.monitor.specs.Rules.{noSessions, entitledByFile, fittingByFile, givesByFile, openRule, closeRule, takeRule, dropRule, partRule, rule, next}
 use Rattle.monitor.specs.Cases.{line, bytes}
 use Rattle.monitor.proofs.Demand2.{loaded-runs}
 use Rattle.isolation.specs.TwoRuns.{Answer, noneOpen, grants, track, shared, sharedCalls, shown, SameCards, Start}
 use Rattle.isolation.specs.Worked.{file, firstStore, secondStore, firstRun, secondRun, done, low, highFirst, highSecond}
 use Rattle.isolation.proofs.Begins.{start}
-use Rattle.isolation.proofs.ByFile.{partBy, storeBy, shownBy, shown-by}
+use Rattle.isolation.proofs.ByFile.{shownBy, shown-by}
 
 abbrev answersBy : ℕ → List ℕ → List Call → List Answer
 answersBy L store cs = map (λ x. x .answer) (shownBy file L 192 noneOpen noSessions store cs)
@@ -50,7 +50,7 @@ unfolding file line bytes firstStore secondStore firstRun secondRun low highFirs
     column columns letterOf fields formed lineOf lineAt says last labelBy some every first via upper isLeast least lub
     dominates senior may mayAt level rLevel wLevel
     unless ifDone entitledByFile fittingByFile givesByFile openRule closeRule takeRule dropRule partRule rule next
-    grants track shared partBy storeBy shownBy
+    grants track shared partOf storeOf shownBy
 computed = (refl, refl, refl, refl)
 
 -- ---- the pair falls under demand 3 for label 2

@@ -21,7 +21,7 @@ use Rattle.policy.proofs.Meaning.{counts-known, role-few, flow-file, circle-fil
 use Rattle.policy.proofs.Loads.{judged}
 use Rattle.monitor.specs.Calls.{unless, ifDone, written, partAt, opened, closed, taken, dropped, writeNumber}
 use Rattle.monitor.specs.Calls.{flowsNumber, circleNumber, Flows, Circles}
-use Rattle.monitor.specs.Runs.{Call, opens, closes, takes, drops, reads, writes, Memory, number, stateAfter, storeAfter, after, run}
+use Rattle.monitor.specs.Runs.{Call, opens, closes, takes, drops, reads, writes, Memory, number, stateAfter, storeOf, storeAfter, after, run}
 use Rattle.monitor.specs.Places.{put}
 use Rattle.monitor.specs.Rules.{Session, Sessions, noSessions, sessionRule, atSessionByFile, openRule, closeRule, takeRule, dropRule, partRule, rule, sessionOf, holding, without, next, sessions}
 use Rattle.monitor.proofs.Answers.{unless-done, both-ways, either-way, figure-same}
@@ -33,7 +33,7 @@ use Rattle.monitor.proofs.InFile.{test-passed, sound-file, open-file, c
 
 -- a write keeps the store's length
 pub store-length : (m : Memory) (c : Call) → length (storeAfter m c) ≡ length (m .store)
-unfolding storeAfter
+unfolding number storeOf
 store-length m (opens p u l) = refl
 store-length m (closes p) = refl
 store-length m (takes p r) = refl

@@ -133,9 +133,13 @@ readNumber xs store p o k n = partNumber readersAt xs (length store) p o k n
 abbrev pub writeNumber : List ℕ → List ℕ → ℕ → ℕ → ℕ → List ℕ → ℕ
 writeNumber xs store p o k bytes = partNumber writersAt xs (length store) p o k (length bytes)
 
+-- the bytes that a read answered with this number hands back
+abbrev pub partBytes : ℕ → List ℕ → ℕ → ℕ → ℕ → List ℕ
+partBytes number store o k n = ifDone number (take n (drop (partAt o k) store)) []
+
 -- the bytes that a read hands back, and where they stand in a store that starts at byte base of its block
 abbrev pub readBytes : List ℕ → List ℕ → ℕ → ℕ → ℕ → ℕ → List ℕ
-readBytes xs store p o k n = ifDone (readNumber xs store p o k n) (take n (drop (partAt o k) store)) []
+readBytes xs store p o k n = partBytes (readNumber xs store p o k n) store o k n
 
 abbrev pub readFrom : ℕ → List ℕ → List ℕ → ℕ → ℕ → ℕ → ℕ → ℕ
 readFrom base xs store p o k n = ifDone (readNumber xs store p o k n) (partAt o k + base) base
@@ -146,9 +150,12 @@ pub record Reads (xs : List ℕ) (store : RefT (List ℕ)) (p o k n : ℕ) (part
   pub block : part .ptr .0 ≡ store .ptr .0
   pub start : part .ptr .1 ≡ readFrom (store .ptr .1) xs (store .now) p o k n
 
--- "A write puts the given bytes at the offset and changes no other byte"
+-- "A write puts the given bytes at the offset and changes no other byte": the store that one answered with this number leaves
+abbrev pub partStore : ℕ → List ℕ → ℕ → ℕ → List ℕ → List ℕ
+partStore number store o k bytes = ifDone number (written store (partAt o k) bytes) store
+
 abbrev pub writeStore : List ℕ → List ℕ → ℕ → ℕ → ℕ → List ℕ → List ℕ
-writeStore xs store p o k bytes = ifDone (writeNumber xs store p o k bytes) (written store (partAt o k) bytes) store
+writeStore xs store p o k bytes = partStore (writeNumber xs store p o k bytes) store o k bytes
 
 pub record Writes (xs old : List ℕ) (p o k : ℕ) (bytes : List ℕ) (n : ℕ) (new : List ℕ) : Type 0 where
   pub number : n ≡ writeNumber xs old p o k bytes

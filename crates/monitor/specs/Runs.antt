@@ -2,7 +2,7 @@
 use Prim.Native.Nat.{ℕ}
 use mathlib.Core.List.{List, [], _∷_}
 use Rattle.monitor.specs.Calls.{openNumber, openState, closeNumber, closeState, takeNumber, takeState, dropNumber, dropState}
-use Rattle.monitor.specs.Calls.{readNumber, readBytes, writeNumber, writeStore}
+use Rattle.monitor.specs.Calls.{readNumber, partBytes, writeNumber, partStore}
 
 -- the six calls. "A read stands for both its calls", and "a write brings its bytes along as part of the call"
 pub data Call : Type 0 where
@@ -26,14 +26,17 @@ number m (drops p r) = dropNumber (m .state) p r
 number m (reads p o k n) = readNumber (m .state) (m .store) p o k n
 number m (writes p o k bytes) = writeNumber (m .state) (m .store) p o k bytes
 
--- the bytes of a read's part; the other calls hand back none
-unfoldable pub part : Memory → Call → List ℕ
-part m (opens p u l) = []
-part m (closes p) = []
-part m (takes p r) = []
-part m (drops p r) = []
-part m (reads p o k n) = readBytes (m .state) (m .store) p o k n
-part m (writes p o k bytes) = []
+-- the bytes of the part that a read answered with this number hands back; the other calls hand back none
+unfoldable pub partOf : ℕ → List ℕ → Call → List ℕ
+partOf number store (opens p u l) = []
+partOf number store (closes p) = []
+partOf number store (takes p r) = []
+partOf number store (drops p r) = []
+partOf number store (reads p o k n) = partBytes number store o k n
+partOf number store (writes p o k bytes) = []
+
+abbrev pub part : Memory → Call → List ℕ
+part m c = partOf (number m c) (m .store) c
 
 unfoldable pub stateAfter : Memory → Call → List ℕ
 stateAfter m (opens p u l) = openState (m .state) p u l
@@ -43,13 +46,17 @@ stateAfter m (drops p r) = dropState (m .state) p r
 stateAfter m (reads p o k n) = m .state
 stateAfter m (writes p o k bytes) = m .state
 
-unfoldable pub storeAfter : Memory → Call → List ℕ
-storeAfter m (opens p u l) = m .store
-storeAfter m (closes p) = m .store
-storeAfter m (takes p r) = m .store
-storeAfter m (drops p r) = m .store
-storeAfter m (reads p o k n) = m .store
-storeAfter m (writes p o k bytes) = writeStore (m .state) (m .store) p o k bytes
+-- the store that a call answered with this number leaves
+unfoldable pub storeOf : ℕ → List ℕ → Call → List ℕ
+storeOf number store (opens p u l) = store
+storeOf number store (closes p) = store
+storeOf number store (takes p r) = store
+storeOf number store (drops p r) = store
+storeOf number store (reads p o k n) = store
+storeOf number store (writes p o k bytes) = partStore number store o k bytes
+
+abbrev pub storeAfter : Memory → Call → List ℕ
+storeAfter m c = storeOf (number m c) (m .store) c
 
 abbrev pub after : Memory → Call → Memory
 after m c = record { state = stateAfter m c; store = storeAfter m c }
