@@ -1,11 +1,11 @@
 -- Rows of tests whose answers are those of calls, and what it tells that a state knows a number. Assumes nothing.
 use Prim.Native.Nat.{ℕ, _≤_}
-use mathlib.Core.Path.{_≡_}
+use mathlib.Core.Path.{_≡_, refl}
 use mathlib.Core.List.{List}
-use mathlib.Core.Bool.{Bool, true, false, not, _&&_}
+use mathlib.Core.Bool.{Bool, true, false, not, _&&_, cond}
 use native.Mathlib.Omega.{arith}
 use lib.ListN.{length}
-use Rattle.search.specs.Search.{among, Among}
+use Rattle.search.specs.Search.{Among}
 use Rattle.search.proofs.Truth.{and-iff, among-iff, passed, failed, either-by}
 use Rattle.search.proofs.Found.{wider}
 use Rattle.policy.specs.Tables.{word}
@@ -24,12 +24,6 @@ module _ (t rest : Bool) {r : Bool} (e : r ≡ t) where
 pub ruleset tests = (fails, holds)
 
 module _ (xs : List ℕ) where
-  inside : (at x : ℕ) → known xs at x ≡ true → Sound xs × Among (word xs at) x
-  inside at x h = let a = and-iff _ _ .0 h in (sound-of xs (a .0), among-iff _ _ .0 (a .1))
-
-  pub long : (at x : ℕ) → known xs at x ≡ true → 65536 ≤ length xs
-  long at x h = inside at x h .0 .long
-
   few : (n at : ℕ) → (Sound xs → word xs at ≤ n) → knownCount xs at ≤ n
   few n at most = either-by (λ k. k ≤ n) (sound xs) (word xs at) 0 (λ e. most (sound-of xs e)) (λ e. omega arith)
 
@@ -45,18 +39,25 @@ module _ (xs : List ℕ) where
   pub few-cards : knownCount xs 6 ≤ 512
   few-cards = few 512 6 (λ s. s .cards)
 
-  -- with a limit to how many there are
-  within : (n at x : ℕ) → known xs at x ≡ true → (Sound xs → word xs at ≤ n) → Among n x
-  within n at x h few = let (s, a) = inside at x h in wider (word xs at) n (few s) a
+  inside : (at x : ℕ) → known xs at x ≡ true → Among (knownCount xs at) x
+  inside at x = among-iff (knownCount xs at) x .0
 
   pub role : (r : ℕ) → isRole xs r ≡ true → Among 128 r
-  role r h = within 128 2 r h (λ s. s .roles)
+  role r h = wider (knownCount xs 2) 128 few-roles (inside 2 r h)
 
   pub user : (u : ℕ) → isUser xs u ≡ true → Among 256 u
-  user u h = within 256 4 u h (λ s. s .users)
+  user u h = wider (knownCount xs 4) 256 few-users (inside 4 u h)
 
   pub card : (o : ℕ) → isCard xs o ≡ true → Among 512 o
-  card o h = within 512 6 o h (λ s. s .cards)
+  card o h = wider (knownCount xs 6) 512 few-cards (inside 6 o h)
+
+  -- only a sound state knows a number
+  pub long : (at x : ℕ) → known xs at x ≡ true → 65536 ≤ length xs
+  long at x h = sound-of xs (by (sound xs) (inside at x h)) .long
+    where
+      by : (b : Bool) → Among (cond b (word xs at) 0) x → b ≡ true
+      by true w = refl
+      by false w = absurd (omega arith)
 
   -- a role that a user is entitled to, or may take, is one of the state's
   entitled-is-role : (u r : ℕ) → entitledTo xs u r ≡ true → isRole xs r ≡ true
@@ -75,4 +76,4 @@ module _ (xs : List ℕ) where
 
   -- and so within the state's count
   pub may-known : (u l r : ℕ) → mayTake xs u l r ≡ true → r ≤ knownCount xs 2
-  may-known u l r h = let s = and-iff (sound xs) (among (word xs 2) r) .0 (may-is-role u l r h) in rw (s .0) (among-iff (word xs 2) r .0 (s .1) .1)
+  may-known u l r h = inside 2 r (may-is-role u l r h) .1

@@ -27,7 +27,7 @@ knownCards xs = knownCount xs 6
 
 -- x is one of them
 abbrev pub known : List ℕ → ℕ → ℕ → Bool
-known xs at x = sound xs && among (word xs at) x
+known xs at x = among (knownCount xs at) x
 
 abbrev pub isLabel : List ℕ → ℕ → Bool
 isLabel xs l = known xs 0 l

@@ -53,10 +53,7 @@ pub fn cards(s: &[u8]) -> u64
 fn known(s: &[u8], at: u16, x: u64) -> bool
     ensures { λ r. ⌜ r ≡ review.known (now (s .entry)) at x ⌝ }
 {
-    if !state::sound(s) {
-        return false;
-    }
-    state::within_count(s, at, x)
+    search::among(known_count(s, at), x)
 }
 
 // The user's clearance, or 0.
