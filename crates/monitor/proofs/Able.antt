@@ -32,6 +32,13 @@ use Rattle.monitor.proofs.InFile.{test-same, test-passed, sound-file, c
 use Rattle.monitor.proofs.Places.{put-at}
 use Rattle.monitor.proofs.Demand2.{Runs, runs-next, runs-number, loaded-runs, left-runs}
 
+-- the modes are 1 and 2
+by-mode : (P : ℕ → Type 0) → P 1 → P 2 → (m : ℕ) → Among 2 m → P m
+by-mode P reads writes zero w = absurd (omega arith)
+by-mode P reads writes (suc zero) w = reads
+by-mode P reads writes (suc (suc zero)) w = writes
+by-mode P reads writes (suc (suc (suc m))) w = absurd (omega arith)
+
 -- ---- by the file
 
 module _ (f : List ℕ) (form : WellFormed f) (t : Sessions) (known : Orderly f t) (xs : List ℕ) (stands : Stands f t xs) where
@@ -48,10 +55,7 @@ module _ (f : List ℕ) (form : WellFormed f) (t : Sessions) (known : Orderly f 
 
   -- the table of a mode says who may
   pub table-says : (m : ℕ) → Among 2 m → Allows f m (tableOf m) xs
-  table-says zero w o r i j = absurd (omega arith)
-  table-says (suc zero) w o r i j = stands .tables .permitting .readers o r i j
-  table-says (suc (suc zero)) w o r i j = stands .tables .permitting .writers o r i j
-  table-says (suc (suc (suc m))) w o r i j = absurd (omega arith)
+  table-says = by-mode (λ m. Allows f m (tableOf m) xs) (stands .tables .permitting .readers) (stands .tables .permitting .writers)
 
   pub could-by : (u l o m : ℕ) → Among (users f) u → Among (labels f) l → Among (cards f) o → Among 2 m → could xs u l o (tableOf m) ≡ couldByFile f u l o m
   unfolding could couldByFile roleCould
@@ -120,10 +124,7 @@ module _ (f : List ℕ) (size p u l : ℕ) (place : Among 64 p) (enough : 64 * c
   -- the use of a card
   use-rule : (m o : ℕ) (t : Sessions) → Among 2 m → rule f size t (useOf m p o) ≡ partRule f m t size p o 0 0
   unfolding rule
-  use-rule zero o t w = absurd (omega arith)
-  use-rule (suc zero) o t w = refl
-  use-rule (suc (suc zero)) o t w = refl
-  use-rule (suc (suc (suc m))) o t w = absurd (omega arith)
+  use-rule m o t = by-mode (λ m. rule f size t (useOf m p o) ≡ partRule f m t size p o 0 0) refl refl m
 
   holds-one : (m o r : ℕ) → givesByFile f m (holding r (sessionOf u l)) o ≡ true → may f m r o ≡ true
   holds-one m o r h =
