@@ -2,8 +2,8 @@
 -- the state standing for the sessions, and a load's image stands for none. Assumes nothing.
 use Prim.Native.Nat.{ℕ, _≤_}
 use mathlib.Core.Path.{_≡_, refl, sym, ap, _∙_}
-use mathlib.Core.List.{List, [], _∷_}
-use mathlib.Core.Bool.{Bool, cond}
+use mathlib.Core.List.{List, _∷_}
+use mathlib.Core.Bool.{Bool, true, cond}
 use mathlib.Core.Option.{Option, none, some, Option·map}
 use native.Mathlib.Omega.{arith}
 use lib.ListN.{length}
@@ -17,8 +17,9 @@ use Rattle.policy.specs.Accepted.{Accepted}
 use Rattle.policy.specs.Flow.{flows, flowCircle}
 use Rattle.policy.specs.Image.{Loaded}
 use Rattle.policy.proofs.Outcomes.{accepted-iff}
-use Rattle.policy.proofs.Meaning.{counts-known, role-few, flow-file, circle-file}
+use Rattle.policy.proofs.Meaning.{role-few, flow-file, circle-file}
 use Rattle.policy.proofs.Loads.{judged}
+use Rattle.monitor.specs.Session.{sound}
 use Rattle.monitor.specs.Calls.{unless, ifDone, written, partAt, opened, closed, taken, dropped, writeNumber}
 use Rattle.monitor.specs.Calls.{flowsNumber, circleNumber, Flows, Circles}
 use Rattle.monitor.specs.Runs.{Call, opens, closes, takes, drops, reads, writes, Memory, number, stateAfter, storeOf, storeAfter, after, run}
@@ -178,6 +179,9 @@ module _ (f : List ℕ) (accepted : Accepted f) (xs ys : List ℕ) (v : Verdict)
     pub left-runs : Runs f (sessions f noSessions cs) (length store) left
     left-runs = runs-after f form cs noSessions (length store) (record { state = ys; store = store }) (loaded-runs store)
 
+    left-sound : sound (left .state) ≡ true
+    left-sound = let r = left-runs in sound-file f form (sessions f noSessions cs) (r .known) (left .state) (r .stands)
+
     -- what each call is answered, whatever store it is lent, by the file and the calls so far
     pub answers : (lent : List ℕ) (c : Call) → number (record { state = left .state; store = lent }) c ≡ rule f (length lent) (sessions f noSessions cs) c
     answers lent c = let r = left-runs in number-file f form (sessions f noSessions cs) (r .known) (record { state = left .state; store = lent }) (r .stands) c
@@ -194,20 +198,18 @@ module _ (f : List ℕ) (accepted : Accepted f) (xs ys : List ℕ) (v : Verdict)
         let w = left-runs in
         let tables = w .stands .tables in
         let e : n ≡ unless (among (roles f) q) 25 (unless (among (roles f) r) 25 0) =
-        h .number ∙ test-passed 21 (sound-file f form (sessions f noSessions cs) (w .known) (left .state) (w .stands)) ∙ rw (tables .counted .roles) in (
+        h .number ∙ test-passed 21 left-sound ∙ rw (tables .counted .roles) in (
           e,
           figure-same n (h .number) (h .answer) (λ z.
               let (u, rest) = unless-done (among (roles f) q) 25 _ (omega arith) (sym e ∙ z) in
               let (v, end) = unless-done (among (roles f) r) 25 0 (omega arith) rest in
-              let i = among-iff (roles f) q .0 u in
-              let j = among-iff (roles f) r .0 v in
-              let few = counts-known f form .roles in
-              flow-file f form (left .state) tables (w .stands .long) q r (omega arith) (omega arith)),
+              flow-file f form (left .state) tables (w .stands .long) q r
+              (role-few f form q (among-iff (roles f) q .0 u)) (role-few f form r (among-iff (roles f) r .0 v))),
         )
 
     pub circle-answers : (n figure : ℕ) → Circles (left .state) n figure → (n ≡ 0) × (figure ≡ flowCircle f)
     unfolding circleNumber ifDone
     circle-answers n figure h =
         let w = left-runs in
-        let e : circleNumber (left .state) ≡ 0 = test-passed 21 (sound-file f form (sessions f noSessions cs) (w .known) (left .state) (w .stands)) in
+        let e : circleNumber (left .state) ≡ 0 = test-passed 21 left-sound in
         (h .number ∙ e, h .answer ∙ rw e (circle-file f form (left .state) (w .stands .tables) (w .stands .long)))
