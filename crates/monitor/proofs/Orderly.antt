@@ -3,7 +3,7 @@ use Prim.Native.Nat.{ℕ, _+_, _*_, _≤_}
 use mathlib.Core.Path.{_≡_, refl}
 use mathlib.Core.Logic.{_↔_, ⊎-elim}
 use mathlib.Core.List.{List}
-use mathlib.Core.Bool.{true, not, false≢true}
+use mathlib.Core.Bool.{Bool, true, not, false≢true}
 use mathlib.Core.Option.{Option, none, some, Option·map}
 use native.Mathlib.Omega.{arith}
 use lib.Dec.{leb, eqb}
@@ -134,6 +134,11 @@ part-done f m t size p o k n h =
 
 -- ---- each call keeps it so
 
+-- a session with other roles, each the file's and fitting its label
+with-roles : (f : List ℕ) (p : ℕ) (s : Session) (held : ℕ → Bool) → Admitted f p s → ((r : ℕ) → held r ≡ true → Among (roles f) r × (fittingByFile f (s .label) r ≡ true))
+    → Admitted f p (record { user = s .user; label = s .label; held = held })
+with-roles f p s held a fit = record { place = a .place; user = a .user; label = a .label; roles = fit }
+
 module _ (f : List ℕ) (t : Sessions) (known : Orderly f t) where
   pub orderly-next : (c : Call) → Orderly f (next f t c)
   unfolding next closeRule takeRule dropRule
@@ -151,12 +156,8 @@ module _ (f : List ℕ) (t : Sessions) (known : Orderly f t) where
       let (w, b, c) = taking f r s (a .done) in
       let m = admitted f t known p s (a .found) in
       orderly-put f t p (Option·map (holding r) (t p)) known
-      (rw (a .found) (record {
-        place = a .place;
-        user = m .user;
-        label = m .label;
-        roles = λ q e. ⊎-elim (m .roles q) (λ i. rw (eqb-true q r i) (w, c)) (or-iff (s .held q) (eqb q r) .0 e);
-      })))
+      (rw (a .found) (with-roles f p s (holding r s .held) m (λ q e.
+      ⊎-elim (m .roles q) (λ i. rw (eqb-true q r i) (w, c)) (or-iff (s .held q) (eqb q r) .0 e)))))
       known
   orderly-next (drops p r) = either-way (Orderly f) (dropRule f t p r) (put t p (Option·map (without r) (t p))) t
       (λ h.
@@ -164,12 +165,7 @@ module _ (f : List ℕ) (t : Sessions) (known : Orderly f t) where
       let s = a .session in
       let m = admitted f t known p s (a .found) in
       orderly-put f t p (Option·map (without r) (t p)) known
-      (rw (a .found) (record {
-        place = a .place;
-        user = m .user;
-        label = m .label;
-        roles = λ q e. m .roles q (and-iff (s .held q) (not (eqb q r)) .0 e .0);
-      })))
+      (rw (a .found) (with-roles f p s (without r s .held) m (λ q e. m .roles q (and-iff (s .held q) (not (eqb q r)) .0 e .0)))))
       known
   orderly-next (reads p o k n) = known
   orderly-next (writes p o k bytes) = known
