@@ -26,7 +26,7 @@ use Rattle.monitor.specs.Runs.{Call, opens, takes, Memory, after, run}
 use Rattle.monitor.specs.Rules.{Session, Sessions, noSessions, entitledByFile, fittingByFile, givesByFile, openRule, takeRule, partRule, rule, sessionOf, holding, next, sessions}
 use Rattle.monitor.specs.Rights.{canNumber, tableOf, roleCould, could, Cans, canRule, couldByFile, useOf, CouldUse}
 use Rattle.monitor.proofs.Answers.{unless-done, figure-same}
-use Rattle.monitor.proofs.Orderly.{Orderly, opening, taking, gives-iff, part-done}
+use Rattle.monitor.proofs.Orderly.{Orderly, opening, opening-done, taking, gives-iff, part-done}
 use Rattle.monitor.proofs.Stands.{Stands}
 use Rattle.monitor.proofs.InFile.{test-same, test-passed, sound-file, cleared-file, entitled-file, fitting-file}
 use Rattle.monitor.proofs.Places.{put-at}
@@ -141,12 +141,12 @@ module _ (f : List ℕ) (size p u l : ℕ) (place : Among 64 p) (enough : 64 * c
     pub used : partRule f m (two r) size p o 0 0 ≡ 0
 
   come : (o m : ℕ) → Able f u l o m → couldByFile f u l o m ≡ true → (r : ℕ) × Let o m r
-  unfolding couldByFile openRule takeRule partRule unless
+  unfolding couldByFile takeRule partRule unless
   come o m a h =
       let (r, w, e) = some-iff (λ r. entitledByFile f u r && (fittingByFile f l r && may f m r o)) (roles f) .0 h in
       let (b, x) = and-iff (entitledByFile f u r) (fittingByFile f l r && may f m r o) .0 e in
       let (s, g) = and-iff (fittingByFile f l r) (may f m r o) .0 x in
-      let opened : openRule f noSessions p u l ≡ 0 = rw (among-iff 64 p .1 place, among-iff (users f) u .1 (a .user), among-iff (labels f) l .1 (a .label), a .cleared) in
+      let opened = opening-done f noSessions p u l (record { place = place; free = refl; user = a .user; label = a .label; cleared = a .cleared }) in
       let taken : takeRule f one p r ≡ 0 = rw (among-iff 64 p .1 place, session-one opened, among-iff (roles f) r .1 w, b, s) in (
         r,
         record {

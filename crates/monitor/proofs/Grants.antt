@@ -12,7 +12,7 @@ use Rattle.search.proofs.Truth.{and-both, among-iff}
 use Rattle.search.proofs.Found.{some-both}
 use Rattle.order.specs.Closure.{PartialOrder}
 use Rattle.rolefile.specs.declared.Verdict.{Verdict}
-use Rattle.rolefile.specs.Said.{labels, roles, users, cards, assigned}
+use Rattle.rolefile.specs.Said.{labels, roles, cards, assigned}
 use Rattle.policy.specs.Policy.{dominates, senior, may}
 use Rattle.policy.specs.Accepted.{ReadsUnder, WritesOver, Accepted}
 use Rattle.policy.specs.Image.{Loaded}
@@ -22,7 +22,7 @@ use Rattle.monitor.specs.Runs.{Call, opens, closes, takes, drops, reads,
 use Rattle.monitor.specs.Places.{isFree}
 use Rattle.monitor.specs.Rules.{Session, Sessions, noSessions, entitledByFile, fittingByFile, givesByFile, openRule, closeRule, takeRule, dropRule, partRule, rule, sessions}
 use Rattle.monitor.specs.Granted.{OpenFor, Holds, MayOpen, OpenPlace, MayTake, MayDrop, MayUse, Granted}
-use Rattle.monitor.proofs.Orderly.{Orderly, no-sessions-orderly, opening, session-done, admitted, session-granted, taking, dropping, gives-iff, part-done}
+use Rattle.monitor.proofs.Orderly.{Orderly, no-sessions-orderly, opening, opening-done, session-done, admitted, session-granted, taking, dropping, gives-iff, part-done}
 use Rattle.monitor.proofs.History.{orderly-sessions, session-with, Opened, open-for-iff, holds-iff}
 use Rattle.monitor.proofs.Demand2.{answers}
 
@@ -59,19 +59,13 @@ module _ (f : List ℕ) (cs : List Call) where
       by (some s) e free = absurd (free (s .user) (s .label) (there p s e .since))
 
   open-iff : (p u l : ℕ) → (openRule f now p u l ≡ 0) ↔ MayOpen f cs p u l
-  unfolding openRule unless
   open-iff p u l = (
     λ h.
         let o = opening f now p u l h in
         record { place = o .place; free = free-iff p .0 (o .free); user = o .user; label = o .label; cleared = o .cleared },
     λ g.
-        rw (
-          among-iff 64 p .1 (g .place),
-          free-iff p .1 (g .free),
-          among-iff (users f) u .1 (g .user),
-          among-iff (labels f) l .1 (g .label),
-          g .cleared,
-        ),
+        opening-done f now p u l
+        (record { place = g .place; free = free-iff p .1 (g .free); user = g .user; label = g .label; cleared = g .cleared }),
   )
 
   close-iff : (p : ℕ) → (closeRule now p ≡ 0) ↔ OpenPlace f cs p

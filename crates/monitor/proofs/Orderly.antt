@@ -64,6 +64,12 @@ opening f t p u l h =
       cleared = e .0;
     }
 
+-- the converse
+pub opening-done : (f : List ℕ) (t : Sessions) (p u l : ℕ) → Opening f t p u l → openRule f t p u l ≡ 0
+unfolding openRule unless
+opening-done f t p u l o =
+    rw (among-iff 64 p .1 (o .place), o .free, among-iff (users f) u .1 (o .user), among-iff (labels f) l .1 (o .label), o .cleared)
+
 -- the place has a session
 pub record At (t : Sessions) (p : ℕ) (rule : Session → ℕ) : Type 0 where
   pub place : Among 64 p
