@@ -1,7 +1,6 @@
 // What the program is asked.
 use rolefile::read;
 ghost use mathlib.Core.Path.{_≡_};
-ghost use Prim.Native.Nat.{_<_};
 ghost use Rattle.rights.specs.Arguments as arguments;
 
 // The usage; or of the file that argument `file` names the graph, where `drawn`, or its users' rights.
@@ -12,7 +11,7 @@ pub enum Request {
 
 // What one to five digits come to, or 0 for any other text.
 fn numeral(t: &[u8]) -> u64
-    ensures { λ r. ⌜ (r ≡ arguments.numeral (now (t .entry))) × (r < 100000) ⌝ }
+    ensures { λ r. ⌜ r ≡ arguments.numeral (now (t .entry)) ⌝ }
 {
     if 5 < t.len() {
         return 0;

@@ -22,9 +22,6 @@ use Rattle.rights.proofs.arguments.numeral.Tie as tie
 abbrev digit : List ℕ → ℕ → Bool
 digit t k = isDigit (getD t (k - 1) 0)
 
-few : (i : ℕ) → i ≤ 5 → 10 ^ i ≤ 100000
-few i l = pow-le-pow-right {n = 10} (omega arith) l
-
 module _ (t : List ℕ) where
   begun : 0 ≡ valueOf 0 t
   unfolding valueOf
@@ -53,7 +50,7 @@ abbrev μ-loop : tie.MeasureT-loop
 μ-loop t value₀ i₀ value i = length t - i
 
 returns : tie.Need-returns Inv-loop μ-loop
-returns c = (long _ (c .if1 .taken), omega arith)
+returns c = long _ (c .if1 .taken)
 
 loop-holds : tie.Need-loop-holds Inv-loop μ-loop
 loop-holds c = (search needs, search needs, begun _, every-yet _, omega arith, omega arith)
@@ -83,7 +80,7 @@ returns-2 : tie.Need-returns-2 Inv-loop μ-loop
 returns-2 c =
     let w = c .before .before .before .before .loop in
     let t = now (c .before .before .before .before .before .before .before .args .t) in
-    (other t (w .inv .0) (fails t (w .i) (search needs) (failed (c .before .is-digit .ensures) (c .if2 .taken))), omega arith)
+    other t (w .inv .0) (fails t (w .i) (search needs) (failed (c .before .is-digit .ensures) (c .if2 .taken)))
 
 mul-value : tie.Need-mul-value Inv-loop μ-loop
 mul-value c = let w = c .before .before .before .before .loop in omega (arith, w .inv .4, w .inv .5)
@@ -107,7 +104,7 @@ loop-again c =
       rw (w .inv .2) (more t (w .i)),
       next t (w .i) (w .inv .3) d,
       step t (w .i) (w .value) (w .inv .4) d,
-      few (w .i + 1) (search needs),
+      pow-le-pow-right {n = 10} (omega arith) {j = 5} (search needs),
     )
 
 returns-3 : tie.Need-returns-3 Inv-loop μ-loop
@@ -115,7 +112,7 @@ returns-3 c =
     let w = c .before .loop in
     let t = now (c .before .before .before .before .args .t) in
     let all : w .i ≡ length t = omega arith in
-    (w .inv .2 ∙ rw all (whole t (w .inv .0) (rw all at (w .inv .3))), omega (arith, w .inv .4, w .inv .5))
+    w .inv .2 ∙ rw all (whole t (w .inv .0) (rw all at (w .inv .3)))
 
 pub numeral-spec : {M : Type 1} → statement M
 numeral-spec =
