@@ -12,6 +12,7 @@ import sys
 MAKERS = ["maker A", "maker B"]
 STAGES = ["published", "draft", "unannounced"]
 LINES = ["gear pumps", "vane pumps", "piston pumps", "valves"]
+PAIRS = [LINES[:2], LINES[2:]]
 
 READ, WRITE = 1, 2
 
@@ -135,6 +136,14 @@ def role(name, juniors=(), reads=(), writes=()):
         permissions.add((number, thing, WRITE))
 
 
+def questions(maker, stages):
+    return [f"{maker} questions on {stage} wording" for stage in stages]
+
+
+def editors(here):
+    return [f"{here} editor of {' and '.join(pair)}" for pair in PAIRS]
+
+
 role("visitor")
 role("public reader", reads=at_label["public"])
 role("shared reader", ["public reader"], reads=at_label["shared terminology"])
@@ -144,8 +153,8 @@ for maker in MAKERS:
         role(f"{maker} {stage} reader", [below], reads=at_label[f"{maker} {stage}"])
         below = f"{maker} {stage} reader"
 for maker in MAKERS:
-    for stage in STAGES:
-        role(f"{maker} questions on {stage} wording", writes=[question_box[maker, stage]])
+    for name, stage in zip(questions(maker, STAGES), STAGES):
+        role(name, writes=[question_box[maker, stage]])
 
 role("collector of standard terms", ["public reader"], writes=at_label["public"])
 role("terminologist", ["shared reader"], writes=at_label["shared terminology"])
@@ -158,20 +167,18 @@ for maker in MAKERS:
             own = of_line[maker, stage, line]
             # The directory writes out both modes for a translator's own line.
             role(f"{here} translator of {line}", [f"{here} reader"], reads=own, writes=own)
-        for pair in (LINES[:2], LINES[2:]):
+        for editor, pair in zip(editors(here), PAIRS):
             # Every third card is one an editor must pass.
             core = sum((of_line[maker, stage, line][::3] for line in pair), [])
             role(
-                f"{here} editor of {' and '.join(pair)}",
+                editor,
                 [f"{here} translator of {line}" for line in pair],
                 reads=core,
                 writes=core,
             )
         style = [number for number in at_label[here] if "style" in cards.names[number - 1]]
-        juniors = [f"{here} editor of {' and '.join(pair)}" for pair in (LINES[:2], LINES[2:])]
         # A lead also puts questions to the stage above.
-        if position + 1 < len(STAGES):
-            juniors.append(f"{maker} questions on {STAGES[position + 1]} wording")
+        juniors = editors(here) + questions(maker, STAGES[position + 1 :][:1])
         role(f"{here} lead", juniors, reads=style, writes=style)
 
 role(
@@ -241,16 +248,13 @@ for side, maker in enumerate(MAKERS):
     for position, stage in enumerate(STAGES):
         here = f"{maker} {stage}"
         common = [f"{here} reader", "shared reader", "house questions"]
-        if position + 1 < len(STAGES):
-            common.append(f"{maker} questions on {STAGES[position + 1]} wording")
+        common += questions(maker, STAGES[position + 1 :][:1])
         translators = 4 if stage != "unannounced" else 3
         for count in range(translators):
             lines = [LINES[count % 4], LINES[(count + 1 + side) % 4]]
             held = [f"{here} translator of {line}" for line in lines]
             user(f"{here}, translator {count + 1}", here, common + held)
-        editor = f"{here} editor of {' and '.join(LINES[:2])}"
-        other = f"{here} editor of {' and '.join(LINES[2:])}"
-        user(f"{here}, editor", here, common + [editor, other])
+        user(f"{here}, editor", here, common + editors(here))
         user(f"{here}, lead", here, common + [f"{here} lead"])
 # The owners at work: translators like the others, at one stage of one maker.
 for position, name in enumerate(OWNERS):
