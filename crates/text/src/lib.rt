@@ -88,7 +88,7 @@ fn blanks(n: u64) -> usize
 // Puts a number below 100,000 in its fewest digits, and the last five digits of any other, as `put`
 // does.
 pub fn number(out: &mut [u8], at: usize, n: u64) -> usize
-    ensures { λ r. ⌜ (length (now (out .exit)) ≡ length (now (out .entry))) × (r ≤ length (now (out .exit))) × (n < 100000 → Puts (digits n) at (now (out .entry)) r (now (out .exit))) × Puts (lastDigits 5 n) at (now (out .entry)) r (now (out .exit)) ⌝ }
+    ensures { λ r. ⌜ (n < 100000 → Puts (digits n) at (now (out .entry)) r (now (out .exit))) × Puts (lastDigits 5 n) at (now (out .entry)) r (now (out .exit)) ⌝ }
 {
     let text = columns(true, n);
     let from = blanks(n);

@@ -15,8 +15,8 @@ returns c =
     let named = first .before .before .before .before in
     let begun = named .before .before .before .before in
     let pre = begun .before .before .before .before .before .pre in
-    puts-then (begun .put .ensures) (puts-then (named .put2 .ensures) (puts-then (first .number .ensures .2 (pre .0))
-    (puts-then (parted .put3 .ensures) (puts-then (marked .put4 .ensures) (second .number2 .ensures .2 (pre .1))))))
+    puts-then (begun .put .ensures) (puts-then (named .put2 .ensures) (puts-then (first .number .ensures .0 (pre .0))
+    (puts-then (parted .put3 .ensures) (puts-then (marked .put4 .ensures) (second .number2 .ensures .0 (pre .1))))))
 
 pub edge-spec : {M : Type 1} → statement M
 edge-spec =

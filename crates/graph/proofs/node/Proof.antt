@@ -17,8 +17,8 @@ returns c =
     let begun = named .before .before .before .before in
     let below = begun .before .before .before .before .before .pre in
     rw (red .if1 .taken)
-    (puts-then (begun .put .ensures) (puts-then (named .put2 .ensures) (puts-then (first .number .ensures .2 below)
-    (puts-then (parted .put3 .ensures) (puts-then (second .number2 .ensures .2 below) (ended .put4 .ensures))))))
+    (puts-then (begun .put .ensures) (puts-then (named .put2 .ensures) (puts-then (first .number .ensures .0 below)
+    (puts-then (parted .put3 .ensures) (puts-then (second .number2 .ensures .0 below) (ended .put4 .ensures))))))
 
 returns-2 : tie.Need-returns-2
 unfolding node
@@ -32,8 +32,8 @@ returns-2 c =
     let begun = named .before .before .before .before in
     let below = begun .before .before .before .before .before .pre in
     rw (plain .if1 .left)
-    (puts-then (begun .put .ensures) (puts-then (named .put2 .ensures) (puts-then (first .number .ensures .2 below)
-    (puts-then (parted .put3 .ensures) (puts-then (second .number2 .ensures .2 below) (ended .put5 .ensures))))))
+    (puts-then (begun .put .ensures) (puts-then (named .put2 .ensures) (puts-then (first .number .ensures .0 below)
+    (puts-then (parted .put3 .ensures) (puts-then (second .number2 .ensures .0 below) (ended .put5 .ensures))))))
 
 pub node-spec : {M : Type 1} → statement M
 node-spec =

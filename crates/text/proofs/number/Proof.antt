@@ -12,7 +12,7 @@ returns c =
     let made = counted .before in
     let n = made .before .before .args .n in
     let last = puts-as (digits-left n (counted .blanks .result) (made .columns .result) (made .columns .ensures .0) (made .columns .ensures .1 .1) (counted .blanks .ensures .1)) e in
-    (e .size, e .used, λ l. puts-as (all-digits n l) last, last)
+    (λ l. puts-as (all-digits n l) last, last)
 
 pub number-spec : {M : Type 1} → statement M
 number-spec =

@@ -5,7 +5,7 @@ use Rattle.report.proofs.list.number_after.Statement.{statement}
 use Rattle.report.proofs.list.number_after.Tie as tie
 
 returns : tie.Need-returns
-returns c = puts-then (c .before .before .before .before .before .before .put .ensures) (c .before .before .number .ensures .2 (search needs))
+returns c = puts-then (c .before .before .before .before .before .before .put .ensures) (c .before .before .number .ensures .0 (search needs))
 
 pub number-after-spec : {M : Type 1} → statement M
 number-after-spec = tie.close (tie.spec (λ c κs. search needs) (λ c κs. search needs) (λ c. search needs) returns)

@@ -16,9 +16,9 @@ returns c =
     let first = placed .before .before .before .before .before in
     let begun = first .before .before .before .before in
     let pre = begun .before .before .before .before .pre in
-    puts-then (begun .put .ensures) (puts-then (first .number .ensures .2 (pre .0))
-    (puts-then (placed .put2 .ensures) (puts-then (second .number2 .ensures .2 (pre .1))
-    (puts-then (parted .put3 .ensures) (puts-then (third .number3 .ensures .2 (pre .2)) (ended .put4 .ensures))))))
+    puts-then (begun .put .ensures) (puts-then (first .number .ensures .0 (pre .0))
+    (puts-then (placed .put2 .ensures) (puts-then (second .number2 .ensures .0 (pre .1))
+    (puts-then (parted .put3 .ensures) (puts-then (third .number3 .ensures .0 (pre .2)) (ended .put4 .ensures))))))
 
 pub place-rows-spec : {M : Type 1} → statement M
 place-rows-spec =

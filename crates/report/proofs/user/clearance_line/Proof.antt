@@ -15,7 +15,7 @@ returns c =
     let known = cleared .clearance .ensures in
     puts-then (started .before .before .before .before .before .head .ensures)
     (puts-then (started .put .ensures)
-    (puts-then (rw (known .0) at (told .number .ensures .2 (omega (arith, known .1)))) (c .before .before .put2 .ensures)))
+    (puts-then (rw (known .0) at (told .number .ensures .0 (omega (arith, known .1)))) (c .before .before .put2 .ensures)))
 
 pub clearance-line-spec : {M : Type 1} → statement M
 clearance-line-spec =
