@@ -4,12 +4,11 @@ use mathlib.Core.Path.{_≡_, sym, _∙_}
 use mathlib.Core.List.{List}
 use mathlib.Core.Bool.{Bool}
 use native.Mathlib.Omega.{arith}
-use lib.ListN.{length}
+use lib.ListN.{length, replicate}
 use Rattle.search.specs.Search.{some}
 use Rattle.search.proofs.Found.{some-yet, some-more}
 use Rattle.roleset.proofs.Rows.{zero-rows}
 use Rattle.roleset.specs.Row.{member, Placed, united}
-use lib.ListN.{replicate}
 
 -- rows has role r in row a where p a r
 module _ (p : ℕ → ℕ → Bool) where

@@ -13,8 +13,7 @@ use Rattle.order.specs.Bound.{converse}
 use Rattle.rolefile.specs.Said.{labels, roles}
 use Rattle.rolefile.specs.WellFormed.{WellFormed}
 use Rattle.rolefile.proofs.Written.{columns-length}
-use Rattle.policy.specs.Policy.{Level, Free, Label, Undefined}
-use Rattle.policy.specs.Policy.{dominates, mayAt, level, rLevel, wLevel, levelNumber}
+use Rattle.policy.specs.Policy.{Level, Free, Label, Undefined, dominates, mayAt, level, rLevel, wLevel, levelNumber}
 use Rattle.policy.specs.Flow.{flows, flowCircle}
 use Rattle.policy.specs.Verdict.{verdict}
 use Rattle.policy.proofs.Levels.{Tells, level-tells}

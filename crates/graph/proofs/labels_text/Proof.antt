@@ -9,12 +9,11 @@ use borrow.Author.Tests.{eq-eqb}
 use denote.Ref.{now}
 use Rattle.order.specs.Table.{related}
 use Rattle.text.specs.Text.{ascii}
-use Rattle.text.proofs.Text.{puts-then, puts-as}
+use Rattle.text.proofs.Text.{puts-then, puts-as, by-key}
 use Rattle.monitor.proofs.Known.{few-labels}
 use Rattle.graph.specs.declared.Order.the-variants.{Dominating}
 use Rattle.graph.specs.Graph.{ordered, labelsText, labelsOf}
 use Rattle.graph.proofs.Drawing.{nodes-agree, order-edges-agree}
-use Rattle.text.proofs.Text.{by-key}
 use Rattle.graph.proofs.labels_text.Statement.{statement}
 use Rattle.graph.proofs.labels_text.Tie as tie
 

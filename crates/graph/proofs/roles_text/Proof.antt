@@ -7,13 +7,12 @@ use denote.Ref.{now}
 use Rattle.order.specs.Closure.{path}
 use Rattle.order.specs.Table.{related}
 use Rattle.order.proofs.Closure.{Agree}
-use Rattle.text.proofs.Text.{puts-as}
+use Rattle.text.proofs.Text.{puts-as, by-key}
 use Rattle.policy.specs.Tables.{flowsIn}
 use Rattle.monitor.proofs.Known.{few-roles}
 use Rattle.graph.specs.declared.Order.the-variants.{Seniors, Juniors}
 use Rattle.graph.specs.Graph.{ordered, rolesText, rolesOf}
 use Rattle.graph.proofs.Drawing.{paths-agree, roles-agree}
-use Rattle.text.proofs.Text.{by-key}
 use Rattle.graph.proofs.roles_text.Statement.{statement}
 use Rattle.graph.proofs.roles_text.Tie as tie
 

@@ -1,9 +1,8 @@
 -- Each arm is a row of the table.
 use borrow.Author.Needs.{needs}
 use borrow.Author.Tests.{ne-eqb}
-use Rattle.text.proofs.Text.{puts-nothing}
+use Rattle.text.proofs.Text.{puts-nothing, by-key}
 use Rattle.report.specs.Refusal.{formReason}
-use Rattle.text.proofs.Text.{by-key}
 use Rattle.report.proofs.refusal.form_reason.Statement.{statement}
 use Rattle.report.proofs.refusal.form_reason.Tie as tie
 
