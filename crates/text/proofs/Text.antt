@@ -38,7 +38,3 @@ module _ {more : List ℕ} {r : ℕ} {xs ys : List ℕ} where
 module _ {a b : List ℕ} {at r : ℕ} {xs ys : List ℕ} where
   pub puts-as : a ≡ b → Puts a at xs r ys → Puts b at xs r ys
   puts-as e puts = rw e at puts
-
--- a text of a table, put by a key
-pub by-key : (table : ℕ → List ℕ) {n k at r : ℕ} {xs ys : List ℕ} → k ≡ n → Puts (table n) at xs r ys → Puts (table k) at xs r ys
-by-key table e puts = rw e puts

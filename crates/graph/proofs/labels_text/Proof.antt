@@ -1,6 +1,6 @@
 -- The table has the dominance, and no label dominates itself there; the texts one after the other.
 use Prim.Native.Nat.{ℕ, _≤_}
-use mathlib.Core.Path.{_≡_, refl, sym, _∙_}
+use mathlib.Core.Path.{_≡_, refl, _∙_}
 use mathlib.Core.Bool.{false}
 use mathlib.Core.List.{List}
 use native.Mathlib.Omega.{arith}
@@ -9,7 +9,7 @@ use borrow.Author.Tests.{eq-eqb}
 use denote.Ref.{now}
 use Rattle.order.specs.Table.{related}
 use Rattle.text.specs.Text.{ascii}
-use Rattle.text.proofs.Text.{puts-then, puts-as, by-key}
+use Rattle.text.proofs.Text.{puts-then, puts-as}
 use Rattle.monitor.proofs.Known.{few-labels}
 use Rattle.graph.specs.declared.Order.the-variants.{Dominating}
 use Rattle.graph.specs.Graph.{ordered, labelsText, labelsOf}
@@ -36,7 +36,7 @@ returns c =
     let xs = now (known .before .before .before .args .s) in
     let n = known .labels .result in
     let t = made .ordered-table .result in
-    by-key (λ m. labelsText m (ordered xs Dominating)) (sym (known .labels .ensures))
+    rw (known .labels .ensures) at
     (puts-then (begun .put .ensures)
     (puts-then (puts-as (nodes-agree n (ascii "l") (λ a. related t 0 a a) (λ a. false) (λ a w. made .ordered-table .ensures a a w w ∙ apart xs a)) (noded .nodes .ensures))
     (puts-then (puts-as (order-edges-agree n (related t 0) (ordered xs Dominating) (made .ordered-table .ensures) (ascii "l")) (lined .order-edges .ensures)) (ended .put2 .ensures))))

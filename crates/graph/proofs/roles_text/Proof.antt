@@ -1,17 +1,16 @@
 -- The tables have the juniors, the seniors, the flow and its paths.
 use Prim.Native.Nat.{_≤_}
-use mathlib.Core.Path.{sym}
 use native.Mathlib.Omega.{arith}
 use borrow.Author.Needs.{needs}
 use denote.Ref.{now}
 use Rattle.order.specs.Closure.{path}
 use Rattle.order.specs.Table.{related}
 use Rattle.order.proofs.Closure.{Agree}
-use Rattle.text.proofs.Text.{puts-as, by-key}
+use Rattle.text.proofs.Text.{puts-as}
 use Rattle.policy.specs.Tables.{flowsIn}
 use Rattle.monitor.proofs.Known.{few-roles}
 use Rattle.graph.specs.declared.Order.the-variants.{Seniors, Juniors}
-use Rattle.graph.specs.Graph.{ordered, rolesText, rolesOf}
+use Rattle.graph.specs.Graph.{ordered, rolesOf}
 use Rattle.graph.proofs.Drawing.{paths-agree, roles-agree}
 use Rattle.graph.proofs.roles_text.Statement.{statement}
 use Rattle.graph.proofs.roles_text.Tie as tie
@@ -34,7 +33,7 @@ returns c =
     let flow = flowing .table .result in
     let leads = closed .paths .last .0 in
     let flows : Agree n n (related flow 0) (flowsIn xs) = λ a b v w. flowing .table .ensures a b (omega arith) (omega arith) in
-    by-key (λ m. rolesText m (ordered xs Juniors) (ordered xs Seniors) (flowsIn xs) (path m (flowsIn xs))) (sym (known .roles .ensures))
+    rw (known .roles .ensures) at
     (puts-as (roles-agree n (related (below .ordered-table .result) 0) (ordered xs Juniors) (related (above .ordered-table2 .result) 0) (ordered xs Seniors)
     (related flow 0) (flowsIn xs) (related leads 0) (path n (flowsIn xs)) (below .ordered-table .ensures) (above .ordered-table2 .ensures) flows
     (paths-agree n (flowsIn xs) flow leads most (search needs) flows (closed .paths .ensures))) (drawn .roles-by .ensures))

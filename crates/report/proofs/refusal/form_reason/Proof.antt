@@ -1,7 +1,7 @@
 -- Each arm is a row of the table.
 use borrow.Author.Needs.{needs}
 use borrow.Author.Tests.{ne-eqb}
-use Rattle.text.proofs.Text.{puts-nothing, by-key}
+use Rattle.text.proofs.Text.{puts-nothing}
 use Rattle.report.specs.Refusal.{formReason}
 use Rattle.report.proofs.refusal.form_reason.Statement.{statement}
 use Rattle.report.proofs.refusal.form_reason.Tie as tie
@@ -30,15 +30,15 @@ form-reason-spec =
     (λ c. search needs)
     (λ c κs. search needs)
     (λ c. search needs)
-    (unfold formReason in λ c. by-key formReason (c .before .before .before .before .before .match .keys1) (c .before .before .put .ensures))
+    (unfold formReason in λ c. rw (c .before .before .before .before .before .match .keys1) (c .before .before .put .ensures))
     (λ c. search needs)
-    (unfold formReason in λ c. by-key formReason (c .before .before .before .before .before .match .keys2) (c .before .before .put2 .ensures))
+    (unfold formReason in λ c. rw (c .before .before .before .before .before .match .keys2) (c .before .before .put2 .ensures))
     (λ c. search needs)
-    (unfold formReason in λ c. by-key formReason (c .before .before .before .before .before .match .keys3) (c .before .before .put3 .ensures))
+    (unfold formReason in λ c. rw (c .before .before .before .before .before .match .keys3) (c .before .before .put3 .ensures))
     (λ c. search needs)
-    (unfold formReason in λ c. by-key formReason (c .before .before .before .before .before .match .keys4) (c .before .before .put4 .ensures))
+    (unfold formReason in λ c. rw (c .before .before .before .before .before .match .keys4) (c .before .before .put4 .ensures))
     (λ c. search needs)
-    (unfold formReason in λ c. by-key formReason (c .before .before .before .before .before .match .keys5) (c .before .before .put5 .ensures))
+    (unfold formReason in λ c. rw (c .before .before .before .before .before .match .keys5) (c .before .before .put5 .ensures))
     (λ c. search needs)
-    (unfold formReason in λ c. by-key formReason (c .before .before .before .before .before .match .keys6) (c .before .before .put6 .ensures))
+    (unfold formReason in λ c. rw (c .before .before .before .before .before .match .keys6) (c .before .before .put6 .ensures))
     returns-7)

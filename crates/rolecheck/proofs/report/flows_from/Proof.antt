@@ -1,11 +1,10 @@
 -- Each turn puts the line of the flow to one role more.
 use Prim.Native.Nat.{_≤_, _-_}
-use mathlib.Core.Path.{_≡_, sym, _∙_}
+use mathlib.Core.Path.{_≡_, _∙_}
 use native.Mathlib.Omega.{arith}
 use borrow.Author.Needs.{needs}
 use denote.Ref.{now}
 use Rattle.text.specs.Text.{Puts, each}
-use Rattle.text.proofs.Text.{by-key}
 use Rattle.text.proofs.Each.{each-none, each-more}
 use Rattle.policy.specs.Tables.{flowsIn}
 use Rattle.rolecheck.specs.Report.{flowLine}
@@ -34,9 +33,8 @@ returns : tie.Need-returns Inv-loop μ-loop
 returns c =
     let w = c .before .loop in
     let counted = c .before .before in
-    let a = counted .before .before .before .args in
     let all : w .i ≡ counted .roles .result = omega arith in
-    by-key (λ n. each n (flowLine (flowsIn (now (a .state))) (a .from))) (sym (all ∙ counted .roles .ensures)) (w .inv .2)
+    rw (all ∙ counted .roles .ensures) at (w .inv .2)
 
 pub flows-from-spec : {M : Type 1} → statement M
 flows-from-spec =

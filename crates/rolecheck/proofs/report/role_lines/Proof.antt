@@ -1,12 +1,11 @@
 -- Each turn puts the line of one role more.
 use Prim.Native.Nat.{_≤_, _-_}
-use mathlib.Core.Path.{_≡_, sym, _∙_}
+use mathlib.Core.Path.{_≡_, _∙_}
 use native.Mathlib.Omega.{arith}
 use borrow.Author.Needs.{needs}
 use denote.Ref.{now}
 use Rattle.policy.specs.Tables.{rLevelsAt, wLevelsAt, levelIn}
 use Rattle.text.specs.Text.{Puts}
-use Rattle.text.proofs.Text.{by-key}
 use Rattle.text.proofs.Each.{each-none, each-more}
 use Rattle.rolecheck.specs.Report.{roleLines}
 use Rattle.rolecheck.proofs.Counted.{few-roles}
@@ -35,9 +34,8 @@ returns : tie.Need-returns Inv-loop μ-loop
 returns c =
     let w = c .before .loop in
     let counted = c .before .before in
-    let a = counted .before .before .before .args in
     let all : w .i ≡ counted .roles .result = omega arith in
-    by-key (roleLines (levelIn (now (a .state)) rLevelsAt) (levelIn (now (a .state)) wLevelsAt)) (sym (all ∙ counted .roles .ensures)) (w .inv .2)
+    rw (all ∙ counted .roles .ensures) at (w .inv .2)
 
 pub role-lines-spec : {M : Type 1} → statement M
 role-lines-spec =
