@@ -4,9 +4,9 @@ use super::list::list_row;
 ghost use mathlib.Core.Path.{_≡_};
 ghost use Prim.Native.Nat.{ℕ, _≤_, _<_};
 ghost use lib.ListN.{length, take};
-ghost use Rattle.search.specs.Search.{among, some};
+ghost use Rattle.search.specs.Search.{some};
 ghost use Rattle.roleset.specs.Row.{member};
-ghost use Rattle.monitor.specs.Review.{knownLabels, knownUsers, mayTake};
+ghost use Rattle.monitor.specs.Review.{knownLabels, mayTake};
 ghost use Rattle.text.specs.Text.{Puts};
 ghost use Rattle.report.specs.Rights as rights;
 
@@ -109,20 +109,13 @@ fn labels_lines(s: &[u8], user: u64, out: &mut [u8], at: usize) -> usize
     end
 }
 
-// Whether the number is one of the state's users.
-fn is_user(s: &[u8], user: u64) -> bool
-    ensures { λ r. ⌜ r ≡ among (knownUsers (now (s .entry))) user ⌝ }
-{
-    (1 <= user) & (user <= monitor::review::users(s))
-}
-
 // Puts all of a user at the start of `out`, and an empty line: whole, where `out` has 304,200 bytes.
 // Of a number that is no user's it puts nothing.
 pub fn user_text(s: &[u8], user: u64, out: &mut [u8]) -> usize
     ensures { λ r. ⌜ Puts (rights.userText (now (s .entry)) user) 0 (now (out .entry)) r (now (out .exit)) ⌝ }
     ensures { λ r. ⌜ (304200 ≤ length (now (out .entry)) → take r (now (out .exit)) ≡ rights.userText (now (s .entry)) user) ⌝ }
 {
-    if !is_user(s, user) {
+    if !search::among(monitor::review::users(s), user) {
         return 0;
     }
     let named = user_lines(s, user, out, 0);

@@ -30,28 +30,33 @@ module _ (xs : List ℕ) (u : ℕ) where
   few : among (knownUsers xs) u ≡ true → u < 100000
   few e = let w = among-iff (knownUsers xs) u .0 e in omega (arith, few-users xs)
 
+-- what is tested
+tested : (c : tie.After-among) → let a = c .before .before .before .before .args in c .among .result ≡ among (knownUsers (now (a .s))) (a .user)
+tested c = rw (c .before .users .ensures) at (c .among .ensures)
+
 returns : tie.Need-returns
 returns c =
-    let nothing = none-told _ _ (failed (c .before .is-user .ensures) (c .if1 .taken)) in
+    let nothing = none-told _ _ (failed (tested (c .before)) (c .if1 .taken)) in
     (puts-as nothing (puts-nothing 0 _ (search needs)), λ l. nothing)
 
 user-lines-requires : tie.Need-user-lines-requires
-user-lines-requires c κs = few _ _ (passed (c .before .before .is-user .ensures) (c .before .if1 .left))
+user-lines-requires c κs = few _ _ (passed (tested (c .before .before)) (c .before .if1 .left))
 
 returns-2 : tie.Need-returns-2
 returns-2 c =
     let labelled = c .before .before .before .before .before .before .before in
     let lined = labelled .before .before .before .before in
     let asked = lined .before .before .before in
-    let start = asked .before .before .before in
-    let all = all-told (now (start .args .s)) (start .args .user) (passed (asked .is-user .ensures) (lined .before .before .if1 .left)) in
+    let start = asked .before .before .before .before in
+    let all = all-told (now (start .args .s)) (start .args .user) (passed (tested asked) (lined .before .before .if1 .left)) in
     let puts = puts-as all (puts-then (lined .user-lines .ensures) (puts-then (labelled .labels-lines .ensures) (c .before .before .put .ensures))) in
-    (puts, λ l. puts-whole puts (le-trans (user-fits _ _ (clearance-byte _ (λ i. asked .before .before .shared-slice-known .given i .fits) _)) l) .0)
+    (puts, λ l. puts-whole puts (le-trans (user-fits _ _ (clearance-byte _ (λ i. asked .before .before .before .shared-slice-known .given i .fits) _)) l) .0)
 
 pub user-text-spec : {M : Type 1} → statement M
 user-text-spec =
     tie.close
     (tie.spec
+    (λ c κs. search needs)
     (λ c κs. search needs)
     returns
     user-lines-requires
