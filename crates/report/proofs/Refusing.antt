@@ -10,6 +10,7 @@ use Rattle.search.specs.Search.{among}
 use Rattle.search.proofs.Truth.{and-iff}
 use Rattle.rolefile.specs.Line.{start, lines, textAt}
 use Rattle.report.specs.Refusal.{formReason, policyReason, reason, lineRow, placeRows, reasonRow, inFive, refusalText}
+use Rattle.report.specs.Rights.{head}
 use Rattle.rolefile.proofs.Decimals.{few-digits, padded-length}
 use Rattle.text.proofs.Lengths.{most, where-most}
 
@@ -22,7 +23,7 @@ unfolding textAt
 text-most f k = where-most (among (lines f) k) (take 21 (drop (start k) f)) (λ e. omega (arith, length-take 21 (drop (start k) f)))
 
 row-most : (f : List ℕ) (number k : ℕ) → k < 100000 → length (lineRow f number k) ≤ 45
-unfolding lineRow
+unfolding lineRow head
 row-most f number k l = where-most (leb 2 number && leb number 5) _ (λ e. simp (length-append, length-map) (omega (arith, padded-length k l, text-most f k)))
 
 place-most : (number first second : ℕ) → number < 100000 → first < 100000 → second < 100000 → length (placeRows number first second) ≤ 64

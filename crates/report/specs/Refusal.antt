@@ -8,11 +8,12 @@
 -- Assumes nothing.
 use Prim.Native.Nat.{ℕ}
 use mathlib.Core.List.{List, [], _++_, map}
-use mathlib.Core.Bool.{Bool, true, _&&_, cond}
+use mathlib.Core.Bool.{Bool, _&&_, cond}
 use lib.Dec.{leb, ltb, eqb}
 use Rattle.rolefile.specs.Line.{textAt}
-use Rattle.rolefile.specs.Decimal.{digits, columnsOf}
+use Rattle.rolefile.specs.Decimal.{digits}
 use Rattle.text.specs.Text.{ascii}
+use Rattle.report.specs.Rights.{head}
 
 -- the meaning of a refusal's number: by the file's form, and by what the file says
 unfoldable pub formReason : ℕ → List ℕ
@@ -45,7 +46,7 @@ printable b = cond (leb 32 b && leb b 126) b 63
 -- the line of the report on line k, for the numbers whose place is a line
 unfoldable pub lineRow : List ℕ → ℕ → ℕ → List ℕ
 lineRow f number k =
-    cond (leb 2 number && leb number 5) (ascii "line " ++ (columnsOf true k ++ (ascii "  text       " ++ (map printable (textAt f k) ++ ascii "\n")))) []
+    cond (leb 2 number && leb number 5) (head (ascii "line ") k ++ (ascii "  text       " ++ (map printable (textAt f k) ++ ascii "\n"))) []
 
 -- the lines of the number and its place
 unfoldable pub placeRows : ℕ → ℕ → ℕ → List ℕ

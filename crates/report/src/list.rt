@@ -8,7 +8,7 @@ ghost use Rattle.search.specs.Search.{some};
 ghost use Rattle.roleset.specs.Row.{member};
 ghost use Rattle.text.specs.Text.{Puts};
 ghost use Rattle.report.specs.Lists as lists;
-ghost use Rattle.report.specs.Rights.{listRow};
+ghost use Rattle.report.specs.Rights.{head, listRow};
 
 // The lists of the report: the roles assigned to a user and those inherited through them; and of
 // a set of roles, those in it and those not, the cards that it lets be read, those that it lets be
@@ -87,6 +87,15 @@ fn number_after(sign: &[u8], k: u64, out: &mut [u8], at: usize) -> usize
 {
     let end = text::put(out, at, sign);
     text::number(out, end, k)
+}
+
+// Puts a number in five columns after a word.
+pub fn head(word: &[u8], n: u64, out: &mut [u8], at: usize) -> usize
+    requires { ⌜ n < 100000 ⌝ }
+    ensures { λ r. ⌜ Puts (head (now (word .entry)) n) at (now (out .entry)) r (now (out .exit)) ⌝ }
+{
+    let end = text::put(out, at, word);
+    text::field(out, end, true, n)
 }
 
 // Puts what number k adds to the ranges.

@@ -1,5 +1,6 @@
 // The report on a file that is refused: the number, its place, what it means, and where the place is
 // a line, that line.
+use super::list::head;
 ghost use mathlib.Core.Path.{_≡_};
 ghost use mathlib.Core.List.{map};
 ghost use Prim.Native.Nat.{_≤_, _<_};
@@ -126,8 +127,7 @@ fn line_row(file: &[u8], number: u64, k: u64, out: &mut [u8], at: usize) -> usiz
     if 5 < number {
         return at;
     }
-    let mut used = text::put(out, at, b"line ");
-    used = text::field(out, used, true, k);
+    let mut used = head(b"line ", k, out, at);
     used = text::put(out, used, b"  text       ");
     used = bytes_shown(rolefile::read::text(file, k as usize), out, used);
     text::put(out, used, b"\n")

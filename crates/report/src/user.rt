@@ -1,5 +1,6 @@
 // What a user ends up with, and what nobody does.
 use super::list::Listed;
+use super::list::head;
 use super::list::list_row;
 ghost use mathlib.Core.Path.{_≡_};
 ghost use Prim.Native.Nat.{ℕ, _≤_, _<_};
@@ -9,15 +10,6 @@ ghost use Rattle.roleset.specs.Row.{member};
 ghost use Rattle.monitor.specs.Review.{knownLabels, mayTake};
 ghost use Rattle.text.specs.Text.{Puts};
 ghost use Rattle.report.specs.Rights as rights;
-
-// Puts a word of five letters and the number of a user or a label in five columns.
-fn head(word: &[u8], n: u64, out: &mut [u8], at: usize) -> usize
-    requires { ⌜ n < 100000 ⌝ }
-    ensures { λ r. ⌜ Puts (rights.head (now (word .entry)) n) at (now (out .entry)) r (now (out .exit)) ⌝ }
-{
-    let end = text::put(out, at, word);
-    text::field(out, end, true, n)
-}
 
 // Puts the line of a user's clearance.
 fn clearance_line(s: &[u8], user: u64, out: &mut [u8], at: usize) -> usize

@@ -24,12 +24,11 @@ returns-3 c =
     let printable = ended .before .before .before .before .before in
     let read = printable .before .before in
     let titled = printable .before .before .before .before .before in
-    let numbered = titled .before .before .before .before .before in
-    let begun = numbered .before .before .before .before in
+    let begun = titled .before .before .before .before .before in
     let two = begun .before .before .before in
     rw (le-leb 2 _ (two .before .if1 .left), le-leb _ 5 (two .if2 .left))
-    (puts-then (begun .put .ensures) (puts-then (numbered .field .ensures .0 (two .before .before .before .before .pre .0))
-    (puts-then (titled .put2 .ensures) (puts-then (puts-as (ap (map Refusal.printable) (read .text .ensures)) (printable .bytes-shown .ensures)) (ended .put3 .ensures)))))
+    (puts-then (begun .head .ensures)
+    (puts-then (titled .put .ensures) (puts-then (puts-as (ap (map Refusal.printable) (read .text .ensures)) (printable .bytes-shown .ensures)) (ended .put2 .ensures))))
 
 pub line-row-spec : {M : Type 1} → statement M
 line-row-spec =
@@ -38,7 +37,6 @@ line-row-spec =
     returns
     returns-2
     (λ c. search needs)
-    (λ c κs. search needs)
     (λ c κs. search needs)
     (λ c. search needs)
     (λ c κs. search needs)

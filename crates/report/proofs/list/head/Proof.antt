@@ -2,8 +2,8 @@
 use borrow.Author.Needs.{needs}
 use Rattle.text.proofs.Text.{puts-then}
 use Rattle.report.specs.Rights.{head}
-use Rattle.report.proofs.user.head.Statement.{statement}
-use Rattle.report.proofs.user.head.Tie as tie
+use Rattle.report.proofs.list.head.Statement.{statement}
+use Rattle.report.proofs.list.head.Tie as tie
 
 returns : tie.Need-returns
 unfolding head
