@@ -51,8 +51,8 @@ lineRow f number k =
 -- the lines of the number and its place
 unfoldable pub placeRows : ℕ → ℕ → ℕ → List ℕ
 placeRows number first second =
-    ascii "refused     number     " ++ (digits number
-    ++ (ascii "\n            place      " ++ (digits first ++ (ascii " " ++ (digits second ++ ascii "\n")))))
+    (ascii "refused     number     " ++ digits number)
+    ++ ((ascii "\n            place      " ++ digits first) ++ ((ascii " " ++ digits second) ++ ascii "\n"))
 
 -- the line of what the number means
 unfoldable pub reasonRow : ℕ → List ℕ

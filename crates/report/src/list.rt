@@ -80,12 +80,12 @@ fn any(s: &[u8], list: Listed, user: u64, roles: [u8; 16]) -> bool
     false
 }
 
-// Puts a number after a sign.
-fn number_after(sign: &[u8], k: u64, out: &mut [u8], at: usize) -> usize
+// Puts a number after a text.
+pub fn number_after(before: &[u8], k: u64, out: &mut [u8], at: usize) -> usize
     requires { ⌜ k < 100000 ⌝ }
-    ensures { λ r. ⌜ Puts (now (sign .entry) ++ digits k) at (now (out .entry)) r (now (out .exit)) ⌝ }
+    ensures { λ r. ⌜ Puts (now (before .entry) ++ digits k) at (now (out .entry)) r (now (out .exit)) ⌝ }
 {
-    let end = text::put(out, at, sign);
+    let end = text::put(out, at, before);
     text::number(out, end, k)
 }
 

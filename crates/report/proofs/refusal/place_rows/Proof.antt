@@ -10,15 +10,9 @@ unfolding placeRows
 returns c =
     let ended = c .before .before in
     let third = ended .before .before .before .before .before in
-    let parted = third .before .before .before .before in
-    let second = parted .before .before .before .before .before in
-    let placed = second .before .before .before .before in
-    let first = placed .before .before .before .before .before in
-    let begun = first .before .before .before .before in
-    let pre = begun .before .before .before .before .pre in
-    puts-then (begun .put .ensures) (puts-then (first .number .ensures .0 (pre .0))
-    (puts-then (placed .put2 .ensures) (puts-then (second .number2 .ensures .0 (pre .1))
-    (puts-then (parted .put3 .ensures) (puts-then (third .number3 .ensures .0 (pre .2)) (ended .put4 .ensures))))))
+    let second = third .before .before .before .before .before in
+    let first = second .before .before .before .before .before in
+    puts-then (first .number-after .ensures) (puts-then (second .number-after2 .ensures) (puts-then (third .number-after3 .ensures) (ended .put .ensures)))
 
 pub place-rows-spec : {M : Type 1} → statement M
 place-rows-spec =
@@ -26,12 +20,9 @@ place-rows-spec =
     (tie.spec
     (λ c. search needs)
     (λ c κs. search needs)
-    (λ c κs. search needs)
     (λ c. search needs)
     (λ c κs. search needs)
-    (λ c κs. search needs)
     (λ c. search needs)
-    (λ c κs. search needs)
     (λ c κs. search needs)
     (λ c. search needs)
     (λ c κs. search needs)
