@@ -27,7 +27,7 @@ unfoldable pub head : List ℕ → ℕ → List ℕ
 head word n = word ++ columnsOf true n
 
 unfoldable pub clearanceLine : List ℕ → ℕ → List ℕ
-clearanceLine xs u = head (ascii "user ") u ++ (ascii "  clearance  " ++ (digits (clearanceOf xs u) ++ ascii "\n"))
+clearanceLine xs u = head (ascii "user ") u ++ ((ascii "  clearance  " ++ digits (clearanceOf xs u)) ++ ascii "\n")
 
 -- no roles
 abbrev pub noRole : ℕ → Bool

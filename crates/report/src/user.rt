@@ -2,6 +2,7 @@
 use super::list::Listed;
 use super::list::head;
 use super::list::list_row;
+use super::list::number_after;
 ghost use mathlib.Core.Path.{_≡_};
 ghost use Prim.Native.Nat.{ℕ, _≤_, _<_};
 ghost use lib.ListN.{length, take};
@@ -17,8 +18,8 @@ fn clearance_line(s: &[u8], user: u64, out: &mut [u8], at: usize) -> usize
     ensures { λ r. ⌜ Puts (rights.clearanceLine (now (s .entry)) user) at (now (out .entry)) r (now (out .exit)) ⌝ }
 {
     let named = head(b"user ", user, out, at);
-    let started = text::put(out, named, b"  clearance  ");
-    let told = text::number(out, started, monitor::review::clearance(s, user));
+    let clearance = monitor::review::clearance(s, user);
+    let told = number_after(b"  clearance  ", clearance, out, named);
     text::put(out, told, b"\n")
 }
 

@@ -10,12 +10,9 @@ returns : tie.Need-returns
 unfolding clearanceLine
 returns c =
     let told = c .before .before .before .before .before .before .before in
-    let cleared = told .before in
-    let started = told .before .before .before .before .before in
-    let known = cleared .clearance .ensures in
-    puts-then (started .before .before .before .before .before .head .ensures)
-    (puts-then (started .put .ensures)
-    (puts-then (rw (known .0) at (told .number .ensures .0 (omega (arith, known .1)))) (c .before .before .put2 .ensures)))
+    let cleared = told .before .before .before in
+    puts-then (cleared .before .before .before .head .ensures)
+    (puts-then (rw (cleared .clearance .ensures .0) at (told .number-after .ensures)) (c .before .before .put .ensures))
 
 pub clearance-line-spec : {M : Type 1} → statement M
 clearance-line-spec =
@@ -23,10 +20,9 @@ clearance-line-spec =
     (tie.spec
     (λ c. search needs)
     (λ c κs. search needs)
+    (λ c κs. search needs)
     (λ c. search needs)
-    (λ c κs. search needs)
-    (λ c κs. search needs)
-    (λ c κs. search needs)
+    (λ c κs. omega (arith, c .before .before .clearance .ensures .1))
     (λ c. search needs)
     (λ c κs. search needs)
     (λ c. search needs)
