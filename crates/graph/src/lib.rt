@@ -3,7 +3,7 @@
 // Relations among the labels or the roles are looked at as tables of 128 rows of 16 bytes, as in
 // `order::rows`: row a has the things that a is related to.
 ghost use mathlib.Core.Path.{_≡_};
-ghost use mathlib.Core.Bool.{_&&_};
+ghost use mathlib.Core.Bool.{_&&_, cond};
 ghost use Prim.Native.Nat.{ℕ, _≤_, _<_};
 ghost use lib.Dec.{leb};
 ghost use lib.ListN.{length, take};
@@ -109,20 +109,36 @@ fn direct_flow(juniors: &[u8], seniors: &[u8], flow: &[u8], n: usize, r: usize, 
     !past(flow, seniors, n, r, q)
 }
 
-// Puts a thing into `out` after its first `at` bytes, and answers how many are then in use.
+// Puts a line's start, with the name of a thing, into `out` after its first `at` bytes, and answers how
+// many are then in use.
+fn name(prefix: &[u8], a: u64, out: &mut [u8], at: usize) -> usize
+    requires { ⌜ a < 100000 ⌝ }
+    ensures { λ r. ⌜ Puts (graph.name (now (prefix .entry)) a) at (now (out .entry)) r (now (out .exit)) ⌝ }
+{
+    let mut used = text::put(out, at, b"    ");
+    used = text::put(out, used, prefix);
+    text::number(out, used, a)
+}
+
+// Puts a line's end, of what is red or of what is not.
+fn ending(red: bool, one: &[u8], other: &[u8], out: &mut [u8], at: usize) -> usize
+    ensures { λ r. ⌜ Puts (cond red (now (one .entry)) (now (other .entry))) at (now (out .entry)) r (now (out .exit)) ⌝ }
+{
+    if red {
+        return text::put(out, at, one);
+    }
+    text::put(out, at, other)
+}
+
+// Puts a thing.
 fn node(prefix: &[u8], red: bool, a: u64, out: &mut [u8], at: usize) -> usize
     requires { ⌜ a < 100000 ⌝ }
     ensures { λ r. ⌜ Puts (graph.node (now (prefix .entry)) red a) at (now (out .entry)) r (now (out .exit)) ⌝ }
 {
-    let mut used = text::put(out, at, b"    ");
-    used = text::put(out, used, prefix);
-    used = text::number(out, used, a);
+    let mut used = name(prefix, a, out, at);
     used = text::put(out, used, b" [label=\"");
     used = text::number(out, used, a);
-    if red {
-        return text::put(out, used, b"\", color=red];\n");
-    }
-    text::put(out, used, b"\"];\n")
+    ending(red, b"\", color=red];\n", b"\"];\n", out, used)
 }
 
 // Puts the first n things, red where the table relates one to itself.
@@ -145,9 +161,7 @@ fn edge(prefix: &[u8], a: u64, b: u64, out: &mut [u8], at: usize) -> usize
     requires { ⌜ (a < 100000) × (b < 100000) ⌝ }
     ensures { λ r. ⌜ Puts (graph.edge (now (prefix .entry)) a b) at (now (out .entry)) r (now (out .exit)) ⌝ }
 {
-    let mut used = text::put(out, at, b"    ");
-    used = text::put(out, used, prefix);
-    used = text::number(out, used, a);
+    let mut used = name(prefix, a, out, at);
     used = text::put(out, used, b" -> ");
     used = text::put(out, used, prefix);
     text::number(out, used, b)
@@ -220,10 +234,8 @@ fn flow_edge(
         return at;
     }
     let used = edge(b"r", r as u64, q as u64, out, at);
-    if relates(leads, q, r) {
-        return text::put(out, used, b" [color=red];\n");
-    }
-    text::put(out, used, b";\n")
+    let back = relates(leads, q, r);
+    ending(back, b" [color=red];\n", b";\n", out, used)
 }
 
 // Puts the edges of the flows from role r.

@@ -1,5 +1,4 @@
--- By cases on whether there is the line, and whether there is a way back.
-use mathlib.Core.Path.{sym, _∙_}
+-- By cases on whether there is the line; its end by whether there is a way back.
 use borrow.Author.Needs.{needs}
 use Rattle.search.proofs.Truth.{passed, failed}
 use Rattle.text.proofs.Text.{puts-nothing, puts-then}
@@ -15,21 +14,11 @@ returns-2 : tie.Need-returns-2
 unfolding flowEdge
 returns-2 c =
     let ended = c .before .before in
-    let back = ended .before .before .before in
-    let drawn = back .before .before .before .before in
+    let back = ended .before .before .before .before in
+    let drawn = back .before .before .before in
     let tested = drawn .before .before .before in
-    rw (passed (tested .before .direct-flow .ensures) (tested .if1 .left), sym (back .before .relates .ensures) ∙ back .if2 .taken)
-    (puts-then (drawn .edge .ensures) (ended .put .ensures))
-
-returns-3 : tie.Need-returns-3
-unfolding flowEdge
-returns-3 c =
-    let ended = c .before .before in
-    let back = ended .before .before .before in
-    let drawn = back .before .before .before .before in
-    let tested = drawn .before .before .before in
-    rw (passed (tested .before .direct-flow .ensures) (tested .if1 .left), sym (back .before .relates .ensures) ∙ back .if2 .left)
-    (puts-then (drawn .edge .ensures) (ended .put2 .ensures))
+    rw (passed (tested .before .direct-flow .ensures) (tested .if1 .left))
+    (puts-then (drawn .edge .ensures) (rw (back .relates .ensures) at (ended .ending .ensures)))
 
 pub flow-edge-spec : {M : Type 1} → statement M
 flow-edge-spec =
@@ -41,10 +30,7 @@ flow-edge-spec =
     (λ c κs. search needs)
     (λ c κs. search needs)
     (λ c. search needs)
-    (λ c κs. search needs)
-    (λ c. search needs)
-    returns-2
     (λ c. search needs)
     (λ c κs. search needs)
     (λ c. search needs)
-    returns-3)
+    returns-2)

@@ -1,0 +1,14 @@
+-- The texts one after the other.
+use borrow.Author.Needs.{needs}
+use Rattle.text.proofs.Text.{puts-then}
+use Rattle.graph.proofs.name.Statement.{statement}
+use Rattle.graph.proofs.name.Tie as tie
+
+returns : tie.Need-returns
+returns c =
+    let numbered = c .before .before in
+    let marked = numbered .before .before .before .before in
+    puts-then (marked .before .before .before .before .put .ensures) (puts-then (marked .put2 .ensures) (numbered .number .ensures .0 (search needs)))
+
+pub name-spec : {M : Type 1} → statement M
+name-spec = tie.close (tie.spec (λ c. search needs) (λ c κs. search needs) (λ c κs. search needs) (λ c κs. search needs) (λ c. search needs) returns)
