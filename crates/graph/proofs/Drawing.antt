@@ -19,10 +19,10 @@ use Rattle.graph.specs.Graph.{past, direct, directFlow, node, orderEdge,
 
 -- ---- a table that is made row by row: its next row, empty so far, is united with another
 
-module _ (h : Relation) (u row : List ℕ) (i : ℕ) (long : length u ≡ 2048) (l : i < 128) (done : Tabled 0 i h (replicate 2048 0) u) where
-  zeros : length (replicate 2048 0) ≡ 2048
-  zeros = length-replicate {A = ℕ} 2048 0
+pub zeros : length (replicate {A = ℕ} 2048 0) ≡ 2048
+zeros = length-replicate {A = ℕ} 2048 0
 
+module _ (h : Relation) (u row : List ℕ) (i : ℕ) (long : length u ≡ 2048) (l : i < 128) (done : Tabled 0 i h (replicate 2048 0) u) where
   empty : (b : ℕ) → Among 128 b → member u (16 * i) b ≡ false
   empty b w = row-left h (replicate 2048 0) u i (omega (arith, zeros)) (long ∙ sym zeros) l done b w ∙ zero-rows 2048 (rowOf 0 (i + 1)) b (omega arith)
 

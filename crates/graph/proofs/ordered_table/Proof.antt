@@ -1,16 +1,16 @@
 -- Each turn makes one row more.
-use Prim.Native.Nat.{ℕ, _-_, _≤_}
+use Prim.Native.Nat.{_-_, _≤_}
 use mathlib.Core.Path.{_≡_, _∙_}
 use mathlib.Core.Bool.{_&&_}
 use native.Mathlib.Omega.{arith}
 use borrow.Author.Needs.{needs}
 use borrow.Author.Tests.{le-leb}
 use lib.Dec.{leb}
-use lib.ListN.{length, replicate, length-replicate}
+use lib.ListN.{length, replicate}
 use Rattle.order.specs.Table.{Tabled}
 use Rattle.order.proofs.Placing.{placing-none}
 use Rattle.graph.specs.Graph.{ordered}
-use Rattle.graph.proofs.Drawing.{table-more}
+use Rattle.graph.proofs.Drawing.{zeros, table-more}
 use Rattle.graph.proofs.ordered_table.Statement.{statement}
 use Rattle.graph.proofs.ordered_table.Tie as tie
 
@@ -19,9 +19,6 @@ Inv-loop s order n t₀ i₀ t i = (i ≤ n) × (length t ≡ 2048) × Tabled 0 
 
 abbrev μ-loop : tie.MeasureT-loop
 μ-loop s order n t₀ i₀ t i = n - i
-
-zeros : length (replicate {A = ℕ} 2048 0) ≡ 2048
-zeros = length-replicate {A = ℕ} 2048 0
 
 loop-again : tie.Need-loop-again Inv-loop μ-loop
 loop-again c =
