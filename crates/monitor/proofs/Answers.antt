@@ -8,7 +8,8 @@ use borrow.Author.Tests.{leb-true}
 use lib.Dec.{eqb}
 use lib.ListN.{length}
 use Rattle.search.specs.Search.{among, Among}
-use Rattle.search.proofs.Truth.{and-iff, among-iff, passed, failed, one-of, either}
+use Rattle.search.proofs.Truth.{leb-iff, and-both, among-iff, passed, failed, one-of, either}
+use Rattle.rolefile.proofs.Formed.{limits-iff}
 use Rattle.monitor.specs.Session.{sound, labelsIn, rolesIn, usersIn, cardsIn, inUse}
 use Rattle.monitor.specs.Rights.{canNumber, tableOf}
 use Rattle.monitor.specs.Calls.{unless, ifDone, atSession, openNumber, closeNumber, takeNumber, dropNumber, partNumber}
@@ -80,17 +81,9 @@ pub record Sound (xs : List ℕ) : Type 0 where
 pub sound-of : (xs : List ℕ) → sound xs ≡ true → Sound xs
 unfolding sound
 sound-of xs h =
-    let a = and-iff _ _ .0 h in
-    let b = and-iff _ _ .0 (a .1) in
-    let c = and-iff _ _ .0 (b .1) in
-    let d = and-iff _ _ .0 (c .1) in
-    record {
-      long = leb-true _ _ (a .0);
-      labels = among-iff _ _ .0 (b .0);
-      roles = leb-true _ _ (c .0);
-      users = leb-true _ _ (d .0);
-      cards = leb-true _ _ (d .1);
-    }
+    let tests = and-both (leb-iff 65536 (length xs)) (limits-iff (labelsIn xs) (rolesIn xs) (usersIn xs) (cardsIn xs)) in
+    let (long, (labels, (roles, (users, cards)))) = tests .0 h in
+    record { long = long; labels = labels; roles = roles; users = users; cards = cards }
 
 -- ---- what a test that passed tells
 pub user-known : (xs : List ℕ) {r : Bool} → r ≡ sound xs → not r ≡ false → (x : ℕ) {q : Bool} → q ≡ among (usersIn xs) x → not q ≡ false → Among 256 x

@@ -12,11 +12,12 @@ use lib.ListN.{length, getD}
 use borrow.Author.Tests.{le-leb}
 use Rattle.search.specs.Search as search
 use Rattle.search.specs.Search.{among, Among}
-use Rattle.search.proofs.Truth.{and-iff, among-iff}
+use Rattle.search.proofs.Truth.{leb-iff, and-iff, and-both, among-iff}
 use Rattle.roleset.specs.Row.{member, rowOf, common}
 use Rattle.roleset.proofs.Rows.{whole-true}
 use Rattle.rolefile.specs.Said.{labels, roles, users, cards, clearance, assigned}
 use Rattle.rolefile.specs.WellFormed.{WellFormed}
+use Rattle.rolefile.proofs.Formed.{limits-iff}
 use Rattle.rolefile.proofs.Within.{some-within}
 use Rattle.policy.specs.Policy.{dominates, senior, may}
 use Rattle.policy.specs.Tables.{stateSize, seniorsAt, assignedAt}
@@ -56,17 +57,9 @@ module _ (f : List ℕ) (form : WellFormed f) (t : Sessions) (known : Orderly f 
   sound-file =
       let c = counts-known f form in
       let e = stands .tables .counted in
-      rw (
-        le-leb stateSize (length xs) (stands .long),
-        e .labels,
-        e .roles,
-        e .users,
-        e .cards,
-        among-iff 32 (labels f) .1 (c .labels),
-        le-leb (roles f) 128 (c .roles),
-        le-leb (users f) 256 (c .users),
-        le-leb (cards f) 512 (c .cards),
-      )
+      rw (e .labels, e .roles, e .users, e .cards)
+      (and-both (leb-iff stateSize (length xs)) (limits-iff (labels f) (roles f) (users f) (cards f)) .1
+      (stands .long, (c .labels, (c .roles, (c .users, c .cards)))))
 
   free-file : (p : ℕ) → Among 64 p → not (inUse xs p) ≡ isFree (t p)
   unfolding inUse

@@ -1,6 +1,6 @@
 -- The tests of a role file's form as properties: a file has none of the refusals 1 to 6 just where it is well-formed, and else the one that is told.
 -- Assumes nothing.
-use Prim.Native.Nat.{ℕ, _-_, _%_, _<_}
+use Prim.Native.Nat.{ℕ, _-_, _%_, _≤_, _<_}
 use mathlib.Core.Path.{_≡_, refl}
 use mathlib.Core.Logic.{_↔_, _⊎_, inl, inr}
 use mathlib.Core.List.{List}
@@ -15,8 +15,7 @@ use Rattle.search.proofs.Found.{first-none}
 use Rattle.rolefile.specs.declared.Line.{Line}
 use Rattle.rolefile.specs.declared.Verdict.{Verdict}
 use Rattle.rolefile.specs.Line.{H, U, O, P, lineAt, lines}
-use Rattle.rolefile.specs.Form.{refusal, sized, header, goodCounts, firstLimit, secondLimit, ranged, before, rises}
-use Rattle.rolefile.specs.Form.{headVerdict, bodyVerdict, lineVerdict, count, about, unlabelled, found, unlabelledVerdict, linesVerdict, formVerdict}
+use Rattle.rolefile.specs.Form.{refusal, sized, header, goodCounts, firstLimit, secondLimit, ranged, before, rises, headVerdict, bodyVerdict, lineVerdict, count, about, unlabelled, found, unlabelledVerdict, linesVerdict, formVerdict, withinLimits}
 use Rattle.rolefile.specs.Said.{users, cards}
 use Rattle.rolefile.specs.WellFormed.{Sized, GoodCounts, GoodNumbers, Before, Rises, GoodHead, GoodBody, GoodLine, GoodLines, LineRefused, noHeader, badCounts, malformed, badNumbers, unordered, One, OneEach, LowestUnlabelled, WellFormed}
 use Rattle.rolefile.proofs.Decides.{Decides, Fails, Else, Earliest, decides-as, decides-when}
@@ -35,10 +34,13 @@ sized-iff f =
 
 -- ---- 2 to 5
 
+pub limits-iff : (a b c d : ℕ) → (withinLimits a b c d ≡ true) ↔ (Among 32 a × ((b ≤ 128) × ((c ≤ 256) × (d ≤ 512))))
+limits-iff a b c d = and-both (among-iff 32 a) (and-both (leb-iff b 128) (and-both (leb-iff c 256) (leb-iff d 512)))
+
 good-counts-iff : (h : Line) → (goodCounts h ≡ true) ↔ GoodCounts h
 unfolding goodCounts
 good-counts-iff h =
-    let t = and-both (among-iff 32 (h .a)) (and-both (leb-iff (h .b) 128) (and-both (leb-iff (h .c) 256) (leb-iff (h .d) 512))) in (
+    let t = limits-iff (h .a) (h .b) (h .c) (h .d) in (
       λ e. let (p, (q, (r, s))) = t .0 e in record { labels = p; roles = q; users = r; cards = s },
       λ g. t .1 (g .labels, (g .roles, (g .users, g .cards))),
     )
