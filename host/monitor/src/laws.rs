@@ -3,6 +3,7 @@
 
 use crate::call::{Answer, Call, Kind};
 use crate::model::{Part, CARD_BYTES, PLACES, STATE_BYTES};
+use second_checker::generate::LIMITS;
 
 /// A lent buffer before and after a call.
 #[derive(Clone, Copy)]
@@ -18,10 +19,10 @@ impl Change<'_> {
 }
 
 /// The largest counts.
-const MOST_LABELS: u64 = 32;
-const MOST_ROLES: u64 = 128;
-const MOST_USERS: u64 = 256;
-const MOST_CARDS: u64 = 512;
+const MOST_LABELS: u64 = LIMITS[0] as u64;
+const MOST_ROLES: u64 = LIMITS[1] as u64;
+const MOST_USERS: u64 = LIMITS[2] as u64;
+const MOST_CARDS: u64 = LIMITS[3] as u64;
 /// Modes are 1 and 2.
 const MODES: u64 = 2;
 
@@ -124,12 +125,11 @@ impl Made<'_> {
             return Ok(());
         }
         self.holds((1..=MOST_CARDS).contains(&part.card), "a card in range")?;
-        let start = CARD_BYTES * (part.card as usize - 1);
-        self.holds(store.len() >= start + CARD_BYTES, "a store with the card")?;
+        let whole = CARD_BYTES * part.card as usize;
+        self.holds(store.len() >= whole, "a store with the card")?;
         if let Call::Write { bytes, .. } = self.call {
-            let at = start + part.offset as usize;
             let mut expected = store.to_vec();
-            expected[at..at + bytes.len()].copy_from_slice(bytes);
+            expected[part.bytes()].copy_from_slice(bytes);
             self.holds(expected == self.store.after, "the named bytes only")?;
         }
         Ok(())

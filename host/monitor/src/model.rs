@@ -123,6 +123,15 @@ pub struct Part {
     pub length: u64,
 }
 
+impl Part {
+    /// "Card o fills bytes 64 × (o − 1) to 64 × o − 1 of the store": the bytes
+    /// of a part that is within its card.
+    pub fn bytes(self) -> Range<usize> {
+        let start = CARD_BYTES * (self.card as usize - 1) + self.offset as usize;
+        start..start + self.length as usize
+    }
+}
+
 /// What a state holds; `default` is a zeroed one.
 #[derive(Clone, Default)]
 pub struct Model {
@@ -272,9 +281,7 @@ impl Model {
         if store_length < CARD_BYTES * policy.counts.cards {
             return Err(31);
         }
-        // "Card o fills bytes 64 × (o − 1) to 64 × o − 1 of the store."
-        let start = CARD_BYTES * (card - 1) + part.offset as usize;
-        Ok(start..start + part.length as usize)
+        Ok(part.bytes())
     }
 
     /// 21, 25

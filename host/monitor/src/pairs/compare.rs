@@ -86,10 +86,7 @@ fn show(
 /// What a server hands on after a read with number 0: that part of its store.
 fn handed_on(call: &Call, number: u64, store: &[u8]) -> Vec<u8> {
     match *call {
-        Call::Read(part) if number == 0 => {
-            let start = CARD_BYTES * (part.card as usize - 1) + part.offset as usize;
-            store[start..start + part.length as usize].to_vec()
-        }
+        Call::Read(part) if number == 0 => store[part.bytes()].to_vec(),
         _ => Vec::new(),
     }
 }
