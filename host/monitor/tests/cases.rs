@@ -2,8 +2,9 @@
 //! on the model alike.
 
 use monitor_tests::call::{Answer, Call};
+use monitor_tests::generate::reading;
 use monitor_tests::library::{Figure, Verdict};
-use monitor_tests::model::{Model, Part, STATE_BYTES};
+use monitor_tests::model::{Model, STATE_BYTES};
 use second_checker::example::{example, role_file};
 use second_checker::random::Random;
 
@@ -78,13 +79,7 @@ impl Both {
 
     #[track_caller]
     fn read(&mut self, place: u64, card: u64, span: (u64, u64), expected: u64) {
-        let part = Part {
-            place,
-            card,
-            offset: span.0,
-            length: span.1,
-        };
-        self.answers(Call::Read(part), Answer::Number(expected));
+        self.answers(reading(place, card, span), Answer::Number(expected));
     }
 
     #[track_caller]
