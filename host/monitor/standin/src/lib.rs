@@ -3,7 +3,8 @@
 //! file and its levels come from the second checker; sessions are kept in the
 //! lent state, in a layout of this crate alone.
 
-use second_checker::check::{read, Level, Meaning, RoleFile};
+use second_checker::check::{read, Meaning, RoleFile};
+use second_checker::generate::LIMITS;
 use second_checker::order::Order;
 use second_checker::{check, Outcome};
 use std::slice;
@@ -11,9 +12,7 @@ use std::slice;
 const STATE_BYTES: usize = 65_536;
 const CARD_BYTES: usize = 64;
 const PLACES: usize = 64;
-/// The largest counts: labels, roles, users, cards.
-const LIMITS: [usize; 4] = [32, 128, 256, 512];
-/// How a level without a bound is kept; 0 is free.
+/// How a level without a bound is kept, as it is printed; 0 is free.
 const UNDEFINED: u8 = 99;
 
 // Where things begin in the state. Counts and the role on a circle take two
@@ -178,8 +177,8 @@ fn put_file(state: &mut [u8], role_file: &RoleFile) {
         &meaning.seniority,
     );
     for role in 1..=counts.roles {
-        state[READ_LEVEL + role - 1] = level(meaning.read_level[role]);
-        state[WRITE_LEVEL + role - 1] = level(meaning.write_level[role]);
+        state[READ_LEVEL + role - 1] = meaning.read_level[role].printed() as u8;
+        state[WRITE_LEVEL + role - 1] = meaning.write_level[role].printed() as u8;
         for &card in &meaning.may_read[role] {
             mark(state, MAY_READ, CARD_ROW, role, card);
         }
@@ -198,14 +197,6 @@ fn put_order(state: &mut [u8], (table, row_bytes): (usize, usize), size: usize, 
         for lower in (1..=size).filter(|&lower| order.over(upper, lower)) {
             mark(state, table, row_bytes, upper, lower);
         }
-    }
-}
-
-fn level(level: Level) -> u8 {
-    match level {
-        Level::Free => 0,
-        Level::Label(label) => label as u8,
-        Level::Undefined => UNDEFINED,
     }
 }
 
@@ -315,21 +306,24 @@ fn membership(state: &[u8], user: usize, role: usize) -> Result<(), u64> {
     Ok(())
 }
 
+/// Whether a level is free, or a label that passes.
+fn passes(level: u8, label_passes: impl Fn(usize) -> bool) -> bool {
+    match level {
+        0 => true,
+        UNDEFINED => false,
+        label => label_passes(usize::from(label)),
+    }
+}
+
 /// 28
 fn levels_allow(state: &[u8], role: usize, label: usize) -> Result<(), u64> {
-    let read_level = state[READ_LEVEL + role - 1];
-    let write_level = state[WRITE_LEVEL + role - 1];
-    let read_level_passes = match read_level {
-        0 => true,
-        UNDEFINED => false,
-        level => dominates(state, label, usize::from(level)),
-    };
-    let write_level_passes = match write_level {
-        0 => true,
-        UNDEFINED => false,
-        level => dominates(state, usize::from(level), label),
-    };
-    if !read_level_passes || !write_level_passes {
+    let reads = passes(state[READ_LEVEL + role - 1], |level| {
+        dominates(state, label, level)
+    });
+    let writes = passes(state[WRITE_LEVEL + role - 1], |level| {
+        dominates(state, level, label)
+    });
+    if !reads || !writes {
         return Err(28);
     }
     Ok(())
