@@ -26,9 +26,6 @@ abbrev μ-loop : tie.MeasureT-loop
 abbrev self : List ℕ → ℕ → ℕ → Bool
 self xs at a = related xs at a a
 
-fits : (c : tie.Else1 Inv-loop μ-loop) → let a = c .before .before .before .args in a .at + 2048 ≤ length (now (a .s))
-fits c = leb-true _ _ (passed (c .before .rows-lie .ensures) (c .if1 .left))
-
 returns-2 : tie.Need-returns-2 Inv-loop μ-loop
 returns-2 c =
     let turn = c .before .before .before in
@@ -64,7 +61,7 @@ lowest-loop-spec =
     (λ c κs. search needs)
     (λ c. rw (failed (c .before .rows-lie .ensures) (c .if1 .taken)))
     (λ c κs. search needs)
-    (λ c. (search needs, search needs, fits (c .before), first-yet _))
+    (λ c. (search needs, search needs, leb-true _ _ (passed (c .before .before .rows-lie .ensures) (c .before .if1 .left)), first-yet _))
     (λ c. search needs)
     (λ c. search needs)
     (λ c. search needs)

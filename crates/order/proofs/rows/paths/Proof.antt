@@ -19,9 +19,6 @@ Inv-loop s₀ at n m k₀ s k =
 abbrev μ-loop : tie.MeasureT-loop
 μ-loop s₀ at n m k₀ s k = m - k
 
-fits : (c : tie.Else1 Inv-loop μ-loop) → let a = c .before .before .before .args in a .at + 2048 ≤ length (a .s .now)
-fits c = leb-true _ _ (passed (c .before .rows-lie .ensures) (c .if1 .left))
-
 loop-again : tie.Need-loop-again Inv-loop μ-loop
 loop-again c =
     let w = c .before .before .before .before .before .loop in (
@@ -49,7 +46,7 @@ paths-spec =
     (λ c κs. search needs)
     (λ c. no-table (failed (c .before .rows-lie .ensures) (c .if1 .taken)))
     (λ c κs. search needs)
-    (λ c. (search needs, search needs, fits (c .before), search needs, closing-none))
+    (λ c. (search needs, search needs, leb-true _ _ (passed (c .before .before .rows-lie .ensures) (c .before .if1 .left)), search needs, closing-none))
     (λ c κs. search needs)
     (λ c. search needs)
     (λ c. search needs)

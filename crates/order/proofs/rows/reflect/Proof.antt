@@ -19,9 +19,6 @@ Inv-loop s₀ at n m i₀ s i =
 abbrev μ-loop : tie.MeasureT-loop
 μ-loop s₀ at n m i₀ s i = m - i
 
-fits : (c : tie.Else1 Inv-loop μ-loop) → let a = c .before .before .before .args in a .at + 2048 ≤ length (a .s .now)
-fits c = leb-true _ _ (passed (c .before .rows-lie .ensures) (c .if1 .left))
-
 loop-again : tie.Need-loop-again Inv-loop μ-loop
 loop-again c =
     let w = c .before .before .before .before .before .loop in (
@@ -48,7 +45,7 @@ reflect-spec =
     (λ c κs. search needs)
     (λ c. no-table (failed (c .before .rows-lie .ensures) (c .if1 .taken)))
     (λ c κs. search needs)
-    (λ c. (search needs, search needs, fits (c .before), search needs, placing-none))
+    (λ c. (search needs, search needs, leb-true _ _ (passed (c .before .before .rows-lie .ensures) (c .before .if1 .left)), search needs, placing-none))
     (λ c. search needs)
     (λ c. search needs)
     (λ c. search needs)
