@@ -1,7 +1,7 @@
 -- A row with one role more, or one less, is the row with one byte changed: `Placed` leaves no other choice. Assumes nothing.
 use Prim.Native.Nat.{ℕ, _+_, _^_, _≤_, _<_}
 use mathlib.Core.Path.{_≡_, refl, sym}
-use mathlib.Core.Bool.{Bool, true, false, cond, or-false, and-true, and-false}
+use mathlib.Core.Bool.{Bool, true, false, cond, or-false, and-false}
 use mathlib.Core.List.{List}
 use native.Mathlib.Omega.{arith}
 use native.Mathlib.Decide.{ℕ-discrete}
@@ -14,7 +14,7 @@ use Rattle.search.specs.Search.{among, Among}
 use Rattle.search.proofs.Truth.{either, either-by}
 use Rattle.roleset.specs.Row.{member, Placed, added, removed, roleByte, roleBit}
 use Rattle.roleset.proofs.Bits.{shifted}
-use Rattle.roleset.proofs.Rows.{added-placed, removed-placed, placed-once, unwritten}
+use Rattle.roleset.proofs.Rows.{added-placed, removed-placed, placed-once, unwritten, none-less}
 use Rattle.monitor.specs.Session.{heldAt}
 use Rattle.monitor.specs.Calls.{taken, dropped}
 
@@ -33,20 +33,13 @@ module _ (xs : List ℕ) (at r : ℕ) (fits : at + 16 ≤ length xs) (w : Among 
   pub more-placed : Placed at (added xs at r) xs (set xs i (bitOr (getD xs i 0) (2 ^ k)))
   more-placed = rw (shifted k small) at (added-placed xs at r fits w)
 
-  -- without the role, which the row does not hold
-  none-less : member xs at r ≡ false → (q : ℕ) → member xs at q ≡ removed xs at r q
-  none-less h q = elim (ℕ-discrete q r) [
-    | yes e ↦ rw (e, h)
-    | no n ↦ rw (ne-eqb q r n) (sym (and-true (member xs at q)))
-  ]
-
   abbrev less : Bool → List ℕ
   less held = cond held (set xs i (bitXor (getD xs i 0) (2 ^ k))) xs
 
   pub less-placed : Placed at (removed xs at r) xs (less (member xs at r))
   less-placed =
       either-by (Placed at (removed xs at r) xs) (member xs at r) _ xs
-      (λ h. rw (shifted k small) at (removed-placed xs at r fits w h)) (λ h. unwritten (λ l. none-less h))
+      (λ h. rw (shifted k small) at (removed-placed xs at r fits w h)) (λ h. unwritten (λ l. none-less xs at r h))
 
   -- one byte at most is written
   pub length-less : (b : Bool) → length (less b) ≡ length xs

@@ -160,15 +160,19 @@ module _ (xs : List ℕ) (at r : ℕ) (fits : at + 16 ≤ length xs) (w : Among 
   pub added-placed : Placed at (added xs at r) xs (set xs (at + roleByte r) (bitOr byte (1 * 2 ^ roleBit r % 256)))
   added-placed =
       one-written xs at r _ true fits w (bit-on byte (roleBit r) (omega arith))
-      (rw (among-iff 128 r .1 w, eq-eqb r r refl) (sym (or-true (member xs at r))))
-      (λ q n. rw (among-iff 128 r .1 w, ne-eqb q r n) (sym (or-false (member xs at q))))
+      (rw (among-iff 128 r .1 w, eq-eqb r r refl) (sym (or-true _)))
+      (λ q n. rw (among-iff 128 r .1 w, ne-eqb q r n) (sym (or-false _)))
 
   pub removed-placed : member xs at r ≡ true → Placed at (removed xs at r) xs (set xs (at + roleByte r) (bitXor byte (1 * 2 ^ roleBit r % 256)))
   unfolding member
   removed-placed h =
       one-written xs at r _ false fits w (bit-off byte (roleBit r) (omega arith) (and-iff (among 128 r) (bit byte (roleBit r)) .0 h .1))
-      (rw (eq-eqb r r refl) (sym (and-false (member xs at r))))
-      (λ q n. rw (ne-eqb q r n) (sym (and-true (member xs at q))))
+      (rw (eq-eqb r r refl) (sym (and-false _)))
+      (λ q n. rw (ne-eqb q r n) (sym (and-true _)))
+
+-- without a role that the row does not hold, the set is as it was
+pub none-less : (xs : List ℕ) (at r : ℕ) → member xs at r ≡ false → (q : ℕ) → member xs at q ≡ removed xs at r q
+none-less xs at r h q = elim (ℕ-discrete q r) [ yes e ↦ rw (e, h) | no n ↦ rw (ne-eqb q r n) (sym (and-true _)) ]
 
 -- what stands outside a part is kept by a store in it
 pub kept-more : (a b i v : ℕ) (xs ys : List ℕ) → a ≤ i → i < b → Kept a b xs ys → Kept a b xs (set ys i v)

@@ -95,3 +95,7 @@ pub record PlacedRows (at n : ℕ) (s : ℕ → ℕ → Bool) (xs ys : List ℕ)
 unfoldable pub littleEndian : ℕ → (ℕ → ℕ) → ℕ
 littleEndian zero f = 0
 littleEndian (suc n) f = f 0 + 256 * littleEndian n (λ k. f (suc k))
+
+-- half a row as one number
+abbrev pub halfAt : List ℕ → ℕ → ℕ
+halfAt xs at = littleEndian 8 (λ k. getD xs (at + k) 0)

@@ -3,9 +3,9 @@ ghost use mathlib.Core.Path.{_≡_};
 ghost use mathlib.Core.Bool.{true, _&&_};
 ghost use Prim.Native.Nat.{ℕ, _+_, _-_, _*_, _≤_};
 ghost use lib.Dec.{leb};
-ghost use lib.ListN.{length, getD};
+ghost use lib.ListN.{length};
 ghost use Rattle.search.specs.Search.{among, some, first, Among};
-ghost use Rattle.roleset.specs.Row.{member, bitAfter, nextMember, Placed, PlacedRows, added, removed, united, unitedWhere, littleEndian};
+ghost use Rattle.roleset.specs.Row.{member, bitAfter, nextMember, Placed, PlacedRows, added, removed, united, unitedWhere, halfAt};
 
 // Whether the row at `at` lies wholly in `len` bytes.
 pub fn lies(len: usize, at: usize) -> bool
@@ -91,7 +91,7 @@ pub fn unite_rows(s: &mut [u8], at: usize, n: usize, role: usize, other: [u8; 16
 // Half a row as one number, the first byte lowest: the compiler makes one load of it.
 fn half(s: &[u8], at: usize) -> u64
     requires { ⌜ at + 8 ≤ length (now s) ⌝ }
-    ensures { λ r. ⌜ r ≡ littleEndian 8 (λ k. getD (now (s .entry)) (at + k) 0) ⌝ }
+    ensures { λ r. ⌜ r ≡ halfAt (now (s .entry)) at ⌝ }
 {
     let low = number::four(s[at], s[at + 1], s[at + 2], s[at + 3]);
     let high = number::four(s[at + 4], s[at + 5], s[at + 6], s[at + 7]);

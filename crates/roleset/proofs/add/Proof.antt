@@ -4,7 +4,6 @@ use mathlib.Core.Bool.{or-false}
 use borrow.Author.Needs.{needs}
 use borrow.Author.Tests.{leb-true}
 use Rattle.search.proofs.Truth.{passed, failed, one-of}
-use Rattle.roleset.specs.Row.{member}
 use Rattle.roleset.proofs.Rows.{unwritten, no-row}
 use Rattle.roleset.proofs.add.Statement.{statement}
 use Rattle.roleset.proofs.add.Tie as tie
@@ -13,10 +12,7 @@ returns : tie.Need-returns
 returns c = no-row (failed (c .before .lies .ensures) (c .if1 .taken))
 
 returns-2 : tie.Need-returns-2
-returns-2 c =
-    let start = c .before .before .before .before .before .args in
-    unwritten
-    (λ l r. rw (failed (c .before .is-role .ensures) (c .if2 .taken)) (sym (or-false (member (start .s .now) (start .at) r))))
+returns-2 c = unwritten (λ l r. rw (failed (c .before .is-role .ensures) (c .if2 .taken)) (sym (or-false _)))
 
 add-requires : tie.Need-add-requires
 add-requires c κs =

@@ -1,12 +1,9 @@
 -- The role is taken out where the row holds it; else the set stays as it is.
 use mathlib.Core.Path.{sym, _∙_}
-use mathlib.Core.Bool.{and-true}
-use native.Mathlib.Decide.{ℕ-discrete}
 use borrow.Author.Needs.{needs}
-use borrow.Author.Tests.{leb-true, ne-eqb}
+use borrow.Author.Tests.{leb-true}
 use Rattle.search.proofs.Truth.{and-iff}
-use Rattle.roleset.specs.Row.{member}
-use Rattle.roleset.proofs.Rows.{whole-true, unwritten}
+use Rattle.roleset.proofs.Rows.{whole-true, unwritten, none-less}
 use Rattle.roleset.proofs.remove.Statement.{statement}
 use Rattle.roleset.proofs.remove.Tie as tie
 
@@ -19,11 +16,7 @@ returns-2 : tie.Need-returns-2
 returns-2 c =
     let start = c .before .before .before .before .args in
     let xs = start .s .now in
-    unwritten
-    (λ l r. elim (ℕ-discrete r (start .role)) [
-      | yes i ↦ rw (i, rw (whole-true xs (start .at) l) at (sym (c .before .has .ensures) ∙ c .if1 .left))
-      | no i ↦ rw (ne-eqb r (start .role) i) (sym (and-true (member xs (start .at) r)))
-    ])
+    unwritten {at = start .at} {xs = xs} (λ l. none-less xs (start .at) (start .role) (rw (whole-true xs (start .at) l) at (sym (c .before .has .ensures) ∙ c .if1 .left)))
 
 pub remove-spec : {M : Type 1} → statement M
 remove-spec =

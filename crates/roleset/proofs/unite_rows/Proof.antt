@@ -1,5 +1,4 @@
 -- The roles are put into the rows where there are such rows and the number is a role's; else all stays as it is.
-use Prim.Native.Nat.{_+_, _*_}
 use mathlib.Core.Path.{sym}
 use mathlib.Core.Bool.{or-false}
 use borrow.Author.Needs.{needs}
@@ -15,10 +14,7 @@ returns c = no-rows (failed (c .before .rows-lie .ensures) (c .if1 .taken))
 
 returns-2 : tie.Need-returns-2
 unfolding member
-returns-2 c =
-    let start = c .before .before .before .before .before .args in
-    rows-unwritten
-    (λ l i m r. rw (failed (c .before .is-role .ensures) (c .if2 .taken)) (sym (or-false (member (start .s .now) (start .at + 16 * i) r))))
+returns-2 c = rows-unwritten (λ l i m r. rw (failed (c .before .is-role .ensures) (c .if2 .taken)) (sym (or-false _)))
 
 unite-rows-requires : tie.Need-unite-rows-requires
 unite-rows-requires c κs =

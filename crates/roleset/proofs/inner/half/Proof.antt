@@ -6,13 +6,13 @@ use native.Mathlib.Omega.{arith}
 use lib.ListN.{getD}
 use borrow.Author.Needs.{needs}
 use denote.Ref.{now}
-use Rattle.roleset.specs.Row.{littleEndian}
+use Rattle.roleset.specs.Row.{littleEndian, halfAt}
 use Rattle.roleset.proofs.inner.half.Statement.{statement}
 use Rattle.roleset.proofs.inner.half.Tie as tie
 
 eight : (xs : List ℕ) (at low high : ℕ) → low ≡ getD xs at 0 + 256 * getD xs (at + 1) 0 + 65536 * getD xs (at + 2) 0 + 16777216 * getD xs (at + 3) 0
     → high ≡ getD xs (at + 4) 0 + 256 * getD xs (at + 5) 0 + 65536 * getD xs (at + 6) 0 + 16777216 * getD xs (at + 7) 0
-    → low + 4294967296 * high ≡ littleEndian 8 (λ k. getD xs (at + k) 0)
+    → low + 4294967296 * high ≡ halfAt xs at
 unfolding littleEndian
 eight xs at low high e f = let first : at + 0 ≡ at = omega arith in rw (first, e, f) (omega arith)
 

@@ -14,7 +14,7 @@ use borrow.Author.Tests.{eqb-true, eq-eqb, not-true}
 use Rattle.search.specs.Search.{some}
 use Rattle.search.proofs.Truth.{same}
 use Rattle.search.proofs.Found.{None, some-none}
-use Rattle.roleset.specs.Row.{bit, roleByte, roleBit, member, littleEndian}
+use Rattle.roleset.specs.Row.{bit, roleByte, roleBit, member, halfAt}
 use Rattle.roleset.proofs.Bits.{and-none, or-none, bytes-apart}
 use Rattle.roleset.proofs.Rows.{bit-member}
 use Rattle.roleset.proofs.inner.meet.Statement.{statement}
@@ -29,7 +29,7 @@ module _ (xs ys : List ℕ) (a b : ℕ) (bytes : (i : ℕ) → getD xs i 0 < 256
   Both k = bitAnd (getD xs (a + k) 0) (getD ys (b + k) 0)
 
   abbrev Halves : ℕ → ℕ → ℕ
-  Halves at to = bitAnd (littleEndian 8 (λ k. getD xs (at + k) 0)) (littleEndian 8 (λ k. getD ys (to + k) 0))
+  Halves at to = bitAnd (halfAt xs at) (halfAt ys to)
 
   abbrev Apart : Type 0
   Apart = (k : ℕ) → k < 16 → Both k ≡ 0

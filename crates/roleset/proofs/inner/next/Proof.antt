@@ -10,27 +10,24 @@ use borrow.Author.Tests.{leb-true, le-leb}
 use Rattle.search.specs.Search.{first, Among}
 use Rattle.search.proofs.Truth.{among-iff, same}
 use Rattle.search.proofs.Found.{first-agree, first-sooner, first-never, first-later, first-within}
-use Rattle.roleset.specs.Row.{bit, roleByte, roleBit, member, bitAfter, memberAfter, littleEndian}
+use Rattle.roleset.specs.Row.{bit, roleByte, roleBit, member, bitAfter, memberAfter, halfAt}
 use Rattle.roleset.proofs.Bits.{bit-byte}
 use Rattle.roleset.proofs.inner.next.Statement.{statement}
 use Rattle.roleset.proofs.inner.next.Tie as tie
 
 module _ (xs : List ℕ) (at after : ℕ) (bytes : (i : ℕ) → getD xs i 0 < 256) where
-  abbrev Half : ℕ → ℕ
-  Half start = littleEndian 8 (λ k. getD xs (start + k) 0)
-
-  low-bit : (b : ℕ) → Among 64 b → bit (Half at) (b - 1) ≡ member xs at b
+  low-bit : (b : ℕ) → Among 64 b → bit (halfAt xs at) (b - 1) ≡ member xs at b
   unfolding member
   low-bit b w = bit-byte 8 _ (λ k. bytes (at + k)) (b - 1) (omega arith) ∙ rw (among-iff 128 b .1 (omega arith))
 
-  high-bit : (b : ℕ) → Among 64 b → bit (Half (at + 8)) (b - 1) ≡ member xs at (64 + b)
+  high-bit : (b : ℕ) → Among 64 b → bit (halfAt xs (at + 8)) (b - 1) ≡ member xs at (64 + b)
   unfolding member
   high-bit b w =
       let byte : at + roleByte (64 + b) ≡ at + 8 + roleByte b = omega arith in
       let place : roleBit (64 + b) ≡ roleBit b = omega arith in
       bit-byte 8 _ (λ k. bytes (at + 8 + k)) (b - 1) (omega arith) ∙ rw (among-iff 128 (64 + b) .1 (omega arith), byte, place)
 
-  low-half : first 64 (bitAfter (Half at) after) ≡ first 64 (memberAfter xs at after)
+  low-half : first 64 (bitAfter (halfAt xs at) after) ≡ first 64 (memberAfter xs at after)
   low-half = first-agree _ _ 64 (λ b w. rw (low-bit b w))
 
   passed : (b : ℕ) → Among 64 b → leb b (after - 64) ≡ leb (64 + b) after
@@ -39,7 +36,7 @@ module _ (xs : List ℕ) (at after : ℕ) (bytes : (i : ℕ) → getD xs i 0 < 2
       (λ e. le-leb (64 + b) after (omega (arith, leb-true b (after - 64) e)))
       (λ e. le-leb b (after - 64) (omega (arith, leb-true (64 + b) after e)))
 
-  high-half : first 64 (bitAfter (Half (at + 8)) (after - 64)) ≡ first 64 (λ b. memberAfter xs at after (64 + b))
+  high-half : first 64 (bitAfter (halfAt xs (at + 8)) (after - 64)) ≡ first 64 (λ b. memberAfter xs at after (64 + b))
   high-half = first-agree _ _ 64 (λ b w. rw (passed b w, high-bit b w))
 
 low : (c : tie.After-lowest-above) → let a = c .before .before .before .args in c .lowest-above .result ≡ first 64 (memberAfter (a .s .now) (a .at) (a .after))

@@ -2,7 +2,6 @@
 use mathlib.Core.Path.{sym, _∙_}
 use mathlib.Core.Bool.{or-false}
 use borrow.Author.Needs.{needs}
-use Rattle.roleset.specs.Row.{member}
 use Rattle.roleset.proofs.Rows.{unwritten, placed-as}
 use Rattle.roleset.proofs.inner.unite_where.Statement.{statement}
 use Rattle.roleset.proofs.inner.unite_where.Tie as tie
@@ -13,9 +12,7 @@ returns c =
     placed-as (λ r. rw (sym (branch .before .has .ensures) ∙ branch .if1 .taken)) (c .before .before .unite .ensures)
 
 returns-2 : tie.Need-returns-2
-returns-2 c =
-    let start = c .before .before .before .before .args in
-    unwritten (λ l r. rw (sym (c .before .has .ensures) ∙ c .if1 .left) (sym (or-false (member (start .s .now) (start .at) r))))
+returns-2 c = unwritten (λ l r. rw (sym (c .before .has .ensures) ∙ c .if1 .left) (sym (or-false _)))
 
 pub unite-where-spec : {M : Type 1} → statement M
 unite-where-spec =
