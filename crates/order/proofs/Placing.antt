@@ -72,20 +72,18 @@ module _ (at : ℕ) (h : Relation) (xs : List ℕ) (fits : at + 2048 ≤ length 
   pub placing-left : (i b : ℕ) (ys : List ℕ) → i < 128 → Among 128 b → Tabled at i h xs ys → member ys (at + 16 * i) b ≡ member xs (at + 16 * i) b
   placing-left i b ys l w t = rw (add-sub-cancel i 1) at (t .rows fits .left (i + 1) b (omega arith) (omega arith) w)
 
--- a thing put into its own row
-module _ (at : ℕ) (xs : List ℕ) (fits : at + 2048 ≤ length xs) where
-  pub reflexive-row : (i b : ℕ) (ys : List ℕ) → i < 128 → Among 128 b → Tabled at i (reflexive (related xs at)) xs ys
-      → added ys (at + 16 * i) (i + 1) b ≡ reflexive (related xs at) (i + 1) b
-  reflexive-row i b ys l w t =
-      rw (placing-left at (reflexive (related xs at)) xs fits i b ys l w t, among-iff 128 (i + 1) .1 (omega arith), eqb-swap b (i + 1), add-sub-cancel i 1)
-      (or-comm (member xs (at + 16 * i) b) (eqb (i + 1) b))
-
--- a round of closing
 module _ (at : ℕ) (xs : List ℕ) (fits : at + 2048 ≤ length xs) where
   abbrev e : Relation
   e = related xs at
 
-  -- what it makes of the table, given the row `other` of thing k + 1
+  -- a thing put into its own row
+  pub reflexive-row : (i b : ℕ) (ys : List ℕ) → i < 128 → Among 128 b → Tabled at i (reflexive e) xs ys
+      → added ys (at + 16 * i) (i + 1) b ≡ reflexive e (i + 1) b
+  reflexive-row i b ys l w t =
+      rw (placing-left at (reflexive e) xs fits i b ys l w t, among-iff 128 (i + 1) .1 (omega arith), eqb-swap b (i + 1), add-sub-cancel i 1)
+      (or-comm (member xs (at + 16 * i) b) (eqb (i + 1) b))
+
+  -- what a round of closing makes of the table, given the row `other` of thing k + 1
   pub round-rows : (n k : ℕ) (ys other : List ℕ) → k < n → n ≤ 128 → ((r : ℕ) → member other 0 r ≡ (whole xs (at + 16 * k) && member xs (at + 16 * k) r))
       → PlacedRows at n (λ i. unitedWhere xs (at + 16 * i) (k + 1) other) xs ys → Tabled at n (round e (k + 1)) xs ys
   round-rows n k ys other l m o p = record {
