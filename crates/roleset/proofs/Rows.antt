@@ -100,7 +100,7 @@ pub unwritten : {at : ℕ} {s : ℕ → Bool} {xs : List ℕ} → (at + 16 ≤ l
 unwritten h = record { row = h; rest = λ i o. refl; none = λ l. refl }
 
 pub no-row : {at : ℕ} {s : ℕ → Bool} {xs : List ℕ} → whole xs at ≡ false → Placed at s xs xs
-no-row {at} {xs = xs} e = unwritten (λ l. absurd (both (whole-true xs at l) e))
+no-row e = unwritten (λ l. absurd (both (le-leb _ _ l) e))
 
 -- the same set by another name
 pub placed-as : {at : ℕ} {s t : ℕ → Bool} {xs ys : List ℕ} → ((r : ℕ) → s r ≡ t r) → Placed at s xs ys → Placed at t xs ys
@@ -113,7 +113,7 @@ pub rows-unwritten : {at n : ℕ} {s : ℕ → ℕ → Bool} {xs : List ℕ}
 rows-unwritten h = record { rows = h; rest = λ i o. refl; none = λ l. refl }
 
 pub no-rows : {at n : ℕ} {s : ℕ → ℕ → Bool} {xs : List ℕ} → leb (at + 16 * n) (length xs) ≡ false → PlacedRows at n s xs xs
-no-rows {at} {n} {xs = xs} e = rows-unwritten (λ l. absurd (both (le-leb (at + 16 * n) (length xs) l) e))
+no-rows e = rows-unwritten (λ l. absurd (both (le-leb _ _ l) e))
 
 -- the row after them is placed too
 pub rows-more : {at i : ℕ} {s : ℕ → ℕ → Bool} {t : ℕ → Bool} {xs ys zs : List ℕ} → at + 16 * (i + 1) ≤ length xs → length ys ≡ length xs
@@ -160,14 +160,14 @@ module _ (xs : List ℕ) (at r : ℕ) (fits : at + 16 ≤ length xs) (w : Among 
   pub added-placed : Placed at (added xs at r) xs (set xs (at + roleByte r) (bitOr byte (1 * 2 ^ roleBit r % 256)))
   added-placed =
       one-written xs at r _ true fits w (bit-on byte (roleBit r) (omega arith))
-      (rw (among-iff 128 r .1 w, eq-eqb r r refl) (sym (or-true _)))
+      (rw (among-iff 128 r .1 w, eq-eqb r r refl) (sym (or-true (member xs at r))))
       (λ q n. rw (among-iff 128 r .1 w, ne-eqb q r n) (sym (or-false _)))
 
   pub removed-placed : member xs at r ≡ true → Placed at (removed xs at r) xs (set xs (at + roleByte r) (bitXor byte (1 * 2 ^ roleBit r % 256)))
   unfolding member
   removed-placed h =
       one-written xs at r _ false fits w (bit-off byte (roleBit r) (omega arith) (and-iff (among 128 r) (bit byte (roleBit r)) .0 h .1))
-      (rw (eq-eqb r r refl) (sym (and-false _)))
+      (rw (eq-eqb r r refl) (sym (and-false (member xs at r))))
       (λ q n. rw (ne-eqb q r n) (sym (and-true _)))
 
 -- without a role that the row does not hold, the set is as it was

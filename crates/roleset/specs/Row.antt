@@ -41,10 +41,11 @@ member xs at r = among 128 r && bit (getD xs (at + roleByte r) 0) (roleBit r)
 unfoldable pub common : List ℕ → ℕ → ℕ → Bool
 common xs a b = whole xs a && whole xs b && some 128 (λ r. member xs a r && member xs b r)
 
--- bit b of x, counted from 1, is set and comes after `after`; the row holds such a role
+-- b comes after `after`, and bit b of x is set, the bits counted from 1
 abbrev pub bitAfter : ℕ → ℕ → ℕ → Bool
 bitAfter x after b = not (leb b after) && bit x (b - 1)
 
+-- r comes after `after`, and the row holds it
 abbrev pub memberAfter : List ℕ → ℕ → ℕ → ℕ → Bool
 memberAfter xs at after r = not (leb r after) && member xs at r
 
