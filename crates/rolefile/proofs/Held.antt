@@ -19,7 +19,7 @@ use denote.Plain.{uint-makes}
 use denote.Builtin.{u8, usize}
 use denote.Ref.{RefT}
 use denote.Signature.{namedLft}
-use denote.Slice.{sliceVal, ShrSlice}
+use denote.Slice.{sliceVal, ShrSlice, shr-slice-copy}
 use denote.Steps.{owned, nothing}
 use denote.Struct.Declared.{Declared}
 use denote.Struct.Laws as LL
@@ -39,16 +39,34 @@ held κs = T.the-type (namedLft 1 0 tt κs)
 abbrev pub held-laws : (κs : Lfts 1) → LL.Laws (held κs)
 held-laws κs = T′.the-laws (namedLft 1 0 tt κs)
 
--- the machine values of a file, and of a reader's file and number
+-- the type of a file, and the machine values of one, and of a reader's file and number
+abbrev pub File : Lft → RattleType
+File κ = ShrSlice (named 0) κ u8
+
 abbrev pub fileVal : RefT (List ℕ) → Val
 fileVal f = sliceVal (f .ptr) (length (f .now))
 
 abbrev pub partVals : Reader → List Val × (List Val × Unit {0})
 partVals d = (fileVal (d .file) ∷ [], (vint w64 (d .next) ∷ [], tt))
 
+-- what a file owns, what a reader owns, and what its file and number own
+abbrev pub OwnFile : Lft → RefT (List ℕ) → Fml
+OwnFile κ f = File κ .own f (fileVal f ∷ [])
+
+abbrev pub OwnReader : Lft → Reader → Fml
+OwnReader κ d = Held (κ, tt) .own d (T′.lowered d ∷ [])
+
+abbrev pub OwnParts : Lft → Reader → Fml
+OwnParts κ d = owns (File κ ∷ usize ∷ []) (d .file, (d .next, tt)) (partVals d)
+
+-- a slice is Copy
+pub file-twice : {M : Type 1} (𝓤 : URA M) (H : Heap 𝓤) (A : Atoms 𝓤) → Given 𝓤 H A → (κ : Lft) (f : RefT (List ℕ))
+    → ent 𝓤 (sem 𝓤 H A (OwnFile κ f)) (sep 𝓤 (sem 𝓤 H A (OwnFile κ f)) (sem 𝓤 H A (OwnFile κ f)))
+file-twice 𝓤 H A W κ f = shr-slice-copy 𝓤 H A W (named 0) κ u8 .twice f (fileVal f ∷ [])
+
 module _ {M : Type 1} (𝓤 : URA M) (H : Heap 𝓤) (A : Atoms 𝓤) (W : Given 𝓤 H A) (κ : Lft) (d : Reader) where
-  abbrev pub Own : Fml
-  Own = Held (κ, tt) .own d (T′.lowered d ∷ [])
+  abbrev Own : Fml
+  Own = OwnReader κ d
 
   abbrev D : Declared
   D = held (κ, tt)
@@ -62,7 +80,7 @@ module _ {M : Type 1} (𝓤 : URA M) (H : Heap 𝓤) (A : Atoms 𝓤) (W : Given
   pub twice : ent 𝓤 (sem 𝓤 H A Own) (sep 𝓤 (sem 𝓤 H A Own) (sem 𝓤 H A Own))
   twice = LL.copy D (T′.the-copy (namedLft 1 0 tt (κ, tt))) 𝓤 H A W .twice d (T′.lowered d ∷ [])
 
-  pub apart : d .next < 2 ^ 64 → ent 𝓤 (sem 𝓤 H A Own) (sep 𝓤 (sem 𝓤 H A (owns (ShrSlice (named 0) κ u8 ∷ usize ∷ []) (d .file, (d .next, tt)) (partVals d))) (sem 𝓤 H A Own))
+  pub apart : d .next < 2 ^ 64 → ent 𝓤 (sem 𝓤 H A Own) (sep 𝓤 (sem 𝓤 H A (OwnParts κ d)) (sem 𝓤 H A Own))
   apart fits =
       qed W (‵ Own ∷ []) ∵ use1 W (‵ Own ⊛ ‵ Own) twice $ split ! $
       use1 W (given (T′.lowered d ∷ [] ≡ T′.lowered d ∷ []) (‵ (all-own (D .parts) L values))) (own-open 𝓤 H A W D L values (T′.lowered d)) $

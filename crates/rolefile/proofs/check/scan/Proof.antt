@@ -24,13 +24,13 @@ use types.Kit.{Given, Item, ‵, raw, runs, anyQ, atRet, Sq, _⊛_, ⋆, _$_, _�
 use types.Part.{whole, sub, look-in, store-in}
 use types.Run.{look, store, init, forget, stop, fld, from, load, lit, of-opd, bin, and-then, no-more, assigns, assigns-last, land, first, skips, jumps, blocks, branches, returns, enter, alloc1, alloc0, params1, pass1, pass0, free1, free0, exec, Below, again, loops}
 use sound.WpLaws.{fmOf, WpFn-mono}
-use denote.RattleType.{RattleType, owns}
+use denote.RattleType.{owns}
 use denote.Laws.{Is, shows}
 use denote.Plain.{uint-makes, bool-lawful}
 use denote.Builtin.{u8, usize}
 use denote.Ref.{RefT, NamedLft, now}
 use denote.Signature.{plain}
-use denote.Slice.{sliceTy, ShrSlice, slice-vals, shr-slice-tells, shr-slice-lawful, shr-slice-copy}
+use denote.Slice.{sliceTy, slice-vals, shr-slice-tells, shr-slice-lawful}
 use denote.Steps.{peeks, owned, nothing}
 use denote.Struct.Laws as LL
 use denote.Struct.Rest.{own-put}
@@ -57,7 +57,7 @@ use Rattle.rolefile.proofs.Verdict as Q
 use Rattle.rolefile.proofs.Verdict.Laws as Q′
 use Rattle.rolefile.proofs.Scanning.{ended-seen}
 use Rattle.rolefile.proofs.Called.{asks, answered}
-use Rattle.rolefile.proofs.Held.{Held, held, held-laws, fileVal, Own, twice}
+use Rattle.rolefile.proofs.Held.{Held, held, held-laws, File, fileVal, OwnFile, OwnReader, file-twice, twice}
 use Rattle.rolefile.proofs.reader.from_line as from-line
 use Rattle.rolefile.proofs.reader.from_line.Symbol as from-line-def
 use Rattle.rolefile.proofs.reader.from_line.Symbol.{name as #from-line}
@@ -145,10 +145,7 @@ stayed = (stay-none-slice (0 ∷ []) tt (plain (λ _. u8)) yes, tt)
 
 module _ {M : Type 1} (𝓤 : URA M) (H : Heap 𝓤) (A : Atoms 𝓤) (W : Given 𝓤 H A) (mem : Memory → SProp 𝓤) (run : Routine → Fun 𝓤) (κ : Lft) (q : Share) (f : RefT (List ℕ))
     (short : length (now f) < 2 ^ 64) where
-  -- the file's type and machine value, and a reader's type as a local has it
-  abbrev F : RattleType
-  F = ShrSlice (named 0) κ u8
-
+  -- the file's machine value, and a reader's type as a local has it
   abbrev v : Val
   v = fileVal f
 
@@ -162,10 +159,7 @@ module _ {M : Type 1} (𝓤 : URA M) (H : Heap 𝓤) (A : Atoms 𝓤) (W : Given
   token = ‵ (flft κ q) ⊛ ‵ ftrue
 
   abbrev OwnF : Fml
-  OwnF = F .own f (v ∷ [])
-
-  file-twice : ent 𝓤 (sem 𝓤 H A OwnF) (sep 𝓤 (sem 𝓤 H A OwnF) (sem 𝓤 H A OwnF))
-  file-twice = shr-slice-copy 𝓤 H A W (named 0) κ u8 .twice f (v ∷ [])
+  OwnF = OwnFile κ f
 
   -- ---- what each call is passed, and what it asks
 
@@ -174,7 +168,7 @@ module _ {M : Type 1} (𝓤 : URA M) (H : Heap 𝓤) (A : Atoms 𝓤) (W : Given
 
   goes-from : ent 𝓤 (⋆ 𝓤 H A (token ∷ ‵ OwnF ∷ [])) (sep 𝓤 (FromLine 𝓤 H A mem run .pre to-from) (sem 𝓤 H A OwnF))
   goes-from =
-      qed W (token ∷ ‵ OwnF ∷ []) ∵ move ! (1 ∷ []) $ use1 W (‵ OwnF ⊛ ‵ OwnF) file-twice $ split ! $
+      qed W (token ∷ ‵ OwnF ∷ []) ∵ move ! (1 ∷ []) $ use1 W (‵ OwnF ⊛ ‵ OwnF) (file-twice 𝓤 H A W κ f) $ split ! $
       nothing ! $ owned ! usize (Is usize) (uint-makes 𝓤 H A W w64) 2 _ (refl, lit< tt) $ fjoin ! $ move ! (1 ∷ 0 ∷ []) $ fjoin ! $
       move ! (2 ∷ 0 ∷ []) $ use2 W (raw (FromLine 𝓤 H A mem run .pre to-from)) (asks W _) $ frame ! $ done !
 
@@ -183,7 +177,7 @@ module _ {M : Type 1} (𝓤 : URA M) (H : Heap 𝓤) (A : Atoms 𝓤) (W : Given
 
   goes-begun : ent 𝓤 (⋆ 𝓤 H A (token ∷ ‵ OwnF ∷ [])) (sep 𝓤 (Begun 𝓤 H A mem run .pre to-begun) (sem 𝓤 H A OwnF))
   goes-begun =
-      qed W (token ∷ ‵ OwnF ∷ []) ∵ move ! (1 ∷ []) $ use1 W (‵ OwnF ⊛ ‵ OwnF) file-twice $ split ! $
+      qed W (token ∷ ‵ OwnF ∷ []) ∵ move ! (1 ∷ []) $ use1 W (‵ OwnF ⊛ ‵ OwnF) (file-twice 𝓤 H A W κ f) $ split ! $
       nothing ! $ move ! (1 ∷ 0 ∷ []) $ fjoin ! $ move ! (2 ∷ 0 ∷ []) $ use2 W (raw (Begun 𝓤 H A mem run .pre to-begun)) (asks W _) $ frame ! $ done !
 
   abbrev to-found : Reached f → Found 𝓤 H A mem run .Ghost
@@ -203,13 +197,13 @@ module _ {M : Type 1} (𝓤 : URA M) (H : Heap 𝓤) (A : Atoms 𝓤) (W : Given
 
     goes-goes : ent 𝓤 (⋆ 𝓤 H A (token ∷ ‵ OwnF ∷ [])) (sep 𝓤 (GoesOn 𝓤 H A mem run .pre to-goes) (sem 𝓤 H A OwnF))
     goes-goes =
-        qed W (token ∷ ‵ OwnF ∷ []) ∵ move ! (1 ∷ []) $ use1 W (‵ OwnF ⊛ ‵ OwnF) file-twice $ split ! $
+        qed W (token ∷ ‵ OwnF ∷ []) ∵ move ! (1 ∷ []) $ use1 W (‵ OwnF ⊛ ‵ OwnF) (file-twice 𝓤 H A W κ f) $ split ! $
         nothing ! $ owned ! usize (Is usize) (uint-makes 𝓤 H A W w64) k _ (refl, fits f t short) $ fjoin ! $ move ! (1 ∷ 0 ∷ []) $ fjoin ! $
         owned ! S.the-row (Is S.the-row) (LL.makes S.the-type S′.the-plain 𝓤 H A) (t .s) (t .u ∷ []) (t .is) $ fjoin ! $
         move ! (2 ∷ 0 ∷ []) $ use2 W (raw (GoesOn 𝓤 H A mem run .pre to-goes)) (asks W _) $ frame ! $ done !
 
     abbrev OwnR : Fml
-    OwnR = Own 𝓤 H A W κ (t .d)
+    OwnR = OwnReader κ (t .d)
 
     abbrev to-next : NextLine 𝓤 H A mem run .Ghost
     to-next = (((κ, tt), (q, tt), tt, (t .d, tt), (T′.lowered (t .d) ∷ [], tt)), tt)
@@ -231,7 +225,7 @@ module _ {M : Type 1} (𝓤 : URA M) (H : Heap 𝓤) (A : Atoms 𝓤) (W : Given
           nothing ! $ join ! $ frame ! $ done !
 
     -- the reader's number one on: what the file owns is kept, and the number's facts are made anew
-    moves : k + 1 < 2 ^ 64 → ent 𝓤 (sem 𝓤 H A OwnR) (sem 𝓤 H A (Own 𝓤 H A W κ (moved (t .d))))
+    moves : k + 1 < 2 ^ 64 → ent 𝓤 (sem 𝓤 H A OwnR) (sem 𝓤 H A (OwnReader κ (moved (t .d))))
     moves ok =
         qed W (‵ OwnR ∷ []) ∵ owned ! usize (Is usize) (uint-makes 𝓤 H A W w64) (k + 1) _ (refl, ok) $ move ! (1 ∷ 0 ∷ []) $
         by ! (own-put 𝓤 H A W (held (κ, tt)) (held-laws (κ, tt)) 1 (t .d .file, (k, tt)) (k + 1) (T′.lowered (t .d)))
@@ -318,7 +312,7 @@ module _ {M : Type 1} (𝓤 : URA M) (H : Heap 𝓤) (A : Atoms 𝓤) (W : Given
         assigns-last ! (bin ! (load ! (from ! (stop !)) (look ! 3 refl)) (lit ! tt) (record { fits = fits-next f t g short })) (from ! (fld ! refl (stop !)))
         (store-in ! 17 (sub ! 1 refl (whole !)) (tt, record { fits = fits-next f t g short })) $
         forget ! 3 refl $ forget ! 5 refl $ forget ! 7 refl $ forget ! 9 refl $ forget ! 11 refl $ forget ! 13 refl $
-        move ! (1 ∷ []) $ use1 W (‵ (Own 𝓤 H A W κ (moved (t .d)))) (moves t (fits-next f t g short)) $ move ! (1 ∷ 2 ∷ 0 ∷ []) $
+        move ! (1 ∷ []) $ use1 W (‵ (OwnReader κ (moved (t .d)))) (moves t (fits-next f t g short)) $ move ! (1 ∷ 2 ∷ 0 ∷ []) $
         again ! (Nearer f) At t (onward f t g l s′ u′ e e′ is′) (nearer f t g)))))
 
     turns : (t : Reached f) → Sq W (At t) (runs C Λ En turn-1 (anyQ (Turned t)))
@@ -347,7 +341,7 @@ module _ {M : Type 1} (𝓤 : URA M) (H : Heap 𝓤) (A : Atoms 𝓤) (W : Given
 
     module _ (any : 1 ≤ lines (now f)) where
       beginning : (d : Reader) → (d .file ≡ f) × (d .next ≡ 2)
-          → Sq W (token ∷ ‵ OwnF ∷ ‵ (Own 𝓤 H A W κ d) ∷ Unset (‵ (fat fullShare reader l₂ 0 (T′.lowered d)))) (runs C Λ En t-2 (atRet En Post))
+          → Sq W (token ∷ ‵ OwnF ∷ ‵ (OwnReader κ d) ∷ Unset (‵ (fat fullShare reader l₂ 0 (T′.lowered d)))) (runs C Λ En t-2 (atRet En Post))
       beginning d e =
           use2 W (raw (Begun 𝓤 H A mem run .pre to-begun) ⊛ ‵ OwnF) goes-begun $ split ! $
           calls-at ! (fmOf 𝓤 H (W .laws) 𝓣) (Begun 𝓤 H A mem run) (known .begun) to-begun (and-then ! (load ! (from ! (stop !)) (look ! 19 refl)) (no-more !)) (λ us.
@@ -367,9 +361,9 @@ module _ {M : Type 1} (𝓤 : URA M) (H : Heap 𝓤) (A : Atoms 𝓤) (W : Given
           move ! (1 ∷ 2 ∷ 0 ∷ []) $ beginning d e))
 
   module _ (𝓣 : Tables 𝓤 H) (known : Known 𝓤 H A mem run (𝓣 .C)) (any : 1 ≤ lines (now f)) where
-    walk : Is F f (v ∷ []) → ent 𝓤 (onEntry 𝓤 H A scan.signature (κ, tt) (q, tt) (f, tt) (v ∷ [], tt)) (WpFn 𝓤 H (𝓣 .C) (𝓣 .Λ) code.function (v ∷ []) Post)
+    walk : Is (File κ) f (v ∷ []) → ent 𝓤 (onEntry 𝓤 H A scan.signature (κ, tt) (q, tt) (f, tt) (v ∷ [], tt)) (WpFn 𝓤 H (𝓣 .C) (𝓣 .Λ) code.function (v ∷ []) Post)
     walk p =
-        qed W (token ∷ ‵ (owns (F ∷ []) (f, tt) (v ∷ [], tt)) ∷ []) ∵ enter ! (𝓣 .C) (𝓣 .Λ) code.function (v ∷ []) _ $
+        qed W (token ∷ ‵ (owns (File κ ∷ []) (f, tt) (v ∷ [], tt)) ∷ []) ∵ enter ! (𝓣 .C) (𝓣 .Λ) code.function (v ∷ []) _ $
         alloc1 ! (λ l₀. alloc1 ! (λ l₁. alloc1 ! (λ l₂. alloc1 ! (λ l₃. alloc1 ! (λ l₄. alloc1 ! (λ l₅. alloc1 ! (λ l₆. alloc1 ! (λ l₇. alloc1 ! (λ l₈. alloc1 ! (λ l₉. alloc0 ! $ params1 ! $
         pass1 ! (init ! 16 refl (shr-slice-lawful 𝓤 H A W (named 0) κ u8 .typed f (v ∷ []) p .0)) $ pass0 ! $
         -- [_9; …; _0; …; the token; what the file owns and nothing]

@@ -20,9 +20,7 @@ use types.Part.{whole, sub, look-in}
 use types.Run.{look, init, forget, stop, fld, from, load, of-opd, and-then, no-more, assigns, land, returns, enter, alloc1, alloc0, params1, pass1, pass0, free1, free0}
 use sound.WpLaws.{FmC, fmOf, WpFn-mono}
 use denote.RattleType.{owns}
-use denote.Builtin.{u8, usize}
 use denote.Ref.{now}
-use denote.Slice.{ShrSlice}
 use denote.Steps.{nothing}
 use denote.Struct.Laws as LL
 use denote.Triple.Statement.{Contract, Triple}
@@ -39,7 +37,7 @@ use Rattle.rolefile.proofs.reader.Reader.Laws as T′
 use Rattle.rolefile.proofs.Line as S
 use Rattle.rolefile.proofs.Line.Laws as S′
 use Rattle.rolefile.proofs.Called.{asks, answered}
-use Rattle.rolefile.proofs.Held.{Held, held, held-laws, partVals, Own, apart}
+use Rattle.rolefile.proofs.Held.{Held, held, held-laws, partVals, OwnReader, OwnParts, apart}
 use Rattle.rolefile.proofs.read.line as line
 use Rattle.rolefile.proofs.read.line.Symbol as line-def
 use Rattle.rolefile.proofs.read.line.Symbol.{name as #line}
@@ -71,16 +69,16 @@ module _ {M : Type 1} (𝓤 : URA M) (H : Heap 𝓤) (A : Atoms 𝓤) (W : Given
   to = (((κ, tt), (q, tt), tt, (d .file, (d .next, tt)), partVals d), tt)
 
   -- what the reader owns gives what the callee asks, and is kept
-  asked : d .next < 2 ^ 64 → ent 𝓤 (onEntry 𝓤 H A next-line.signature (κ, tt) (q, tt) (d, tt) (mach ∷ [], tt)) (sep 𝓤 (LineOf 𝓤 H A mem run .pre to) (sem 𝓤 H A (Own 𝓤 H A W κ d)))
+  asked : d .next < 2 ^ 64 → ent 𝓤 (onEntry 𝓤 H A next-line.signature (κ, tt) (q, tt) (d, tt) (mach ∷ [], tt)) (sep 𝓤 (LineOf 𝓤 H A mem run .pre to) (sem 𝓤 H A (OwnReader κ d)))
   asked fits =
       qed W ((‵ (flft κ q) ⊛ ‵ ftrue) ∷ ‵ (owns (Held (κ, tt) ∷ []) (d, tt) (mach ∷ [], tt)) ∷ []) ∵
       move ! (1 ∷ []) $ fsplit ! $ move ! (1 ∷ []) $ drop ! $
-      use1 W (‵ (owns (ShrSlice (named 0) κ u8 ∷ usize ∷ []) (d .file, (d .next, tt)) (partVals d)) ⊛ ‵ (Own 𝓤 H A W κ d)) (apart 𝓤 H A W κ d fits) $ split ! $
+      use1 W (‵ (OwnParts κ d) ⊛ ‵ (OwnReader κ d)) (apart 𝓤 H A W κ d fits) $ split ! $
       move ! (2 ∷ 0 ∷ []) $ use2 W (raw (LineOf 𝓤 H A mem run .pre to)) (asks W _) $ frame ! $ done !
 
-  exits : (r : Line) (u : Val) → r ≡ found → ent 𝓤 (⋆ 𝓤 H A (‵ (S.the-row .own r (u ∷ [])) ∷ (‵ (flft κ q) ⊛ ‵ ftrue) ∷ ‵ (Own 𝓤 H A W κ d) ∷ [])) (Post u)
+  exits : (r : Line) (u : Val) → r ≡ found → ent 𝓤 (⋆ 𝓤 H A (‵ (S.the-row .own r (u ∷ [])) ∷ (‵ (flft κ q) ⊛ ‵ ftrue) ∷ ‵ (OwnReader κ d) ∷ [])) (Post u)
   exits r u e =
-      qed W (‵ (S.the-row .own r (u ∷ [])) ∷ (‵ (flft κ q) ⊛ ‵ ftrue) ∷ ‵ (Own 𝓤 H A W κ d) ∷ []) ∵
+      qed W (‵ (S.the-row .own r (u ∷ [])) ∷ (‵ (flft κ q) ⊛ ‵ ftrue) ∷ ‵ (OwnReader κ d) ∷ []) ∵
       suffices ! _ (ends-at 𝓤 H A next-line.ended stayed (next-line.clauses 𝓤 H A mem run) W (((κ, tt), (q, tt), tt, (d, tt), (mach ∷ [], tt)), tt) u r (tt, tt) (tt, tt)) $ says ! e $
       move ! (1 ∷ []) $ frame ! $ nothing ! $ move ! (2 ∷ 0 ∷ []) $ fjoin ! $ frame ! $ done !
 
@@ -91,7 +89,7 @@ module _ {M : Type 1} (𝓤 : URA M) (H : Heap 𝓤) (A : Atoms 𝓤) (W : Given
         alloc1 ! (λ l₀. alloc1 ! (λ l₁. alloc1 ! (λ l₂. alloc1 ! (λ l₃. alloc0 ! $ params1 ! $ pass1 ! (init ! 4 refl wt) $ pass0 ! $
         assigns ! (of-opd ! (load ! (from ! (fld ! refl (stop !))) (look-in ! 4 (sub ! 0 refl (whole !))))) (from ! (stop !)) (init ! 2 refl (tt, wt .1 .0)) $
         assigns ! (of-opd ! (load ! (from ! (fld ! refl (stop !))) (look-in ! 4 (sub ! 1 refl (whole !))))) (from ! (stop !)) (init ! 0 refl (tt, wt .1 .1 .0)) $
-        move ! (8 ∷ []) $ use1 W (raw (LineOf 𝓤 H A mem run .pre to) ⊛ ‵ (Own 𝓤 H A W κ d)) (asked (wt .1 .1 .0 .fits)) $ split ! $
+        move ! (8 ∷ []) $ use1 W (raw (LineOf 𝓤 H A mem run .pre to) ⊛ ‵ (OwnReader κ d)) (asked (wt .1 .1 .0 .fits)) $ split ! $
         calls-at ! fm (LineOf 𝓤 H A mem run) known to (and-then ! (load ! (from ! (stop !)) (look ! 4 refl)) (and-then ! (load ! (from ! (stop !)) (look ! 2 refl)) (no-more !))) (λ u.
         answered line.ended (line.clauses 𝓤 H A mem run) (κ, tt) (d .file, (d .next, tt)) tt (‵ (flft κ q) ⊛ ‵ ftrue) (λ l. l ≡ found) (λ l e. id⊢ 𝓤 _) tt u (λ r e is.
         -- [the result; the token; what the reader owns; _3; …; _2; …; _1; …; room for _0; …]
