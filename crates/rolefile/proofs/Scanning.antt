@@ -12,18 +12,16 @@ use Rattle.rolefile.specs.declared.Line.{Line}
 use Rattle.rolefile.specs.declared.Verdict.{Verdict}
 use Rattle.rolefile.specs.declared.check.Seen.{Seen}
 use Rattle.rolefile.specs.Line.{lineAt, lines}
-use Rattle.rolefile.specs.Form.{refusal, sized, headVerdict, bodyVerdict, lineVerdict, scan, linesVerdict}
+use Rattle.rolefile.specs.Form.{refusal, sized, header, headVerdict, bodyVerdict, lineVerdict, scan, linesVerdict}
 use Rattle.rolefile.specs.Scan.{seen, goesOn, looked}
 use Rattle.rolefile.specs.WellFormed.{Sized}
 use Rattle.rolefile.proofs.Verdicts.{scan-last, scan-stays}
 use Rattle.rolefile.proofs.Formed.{sized-iff}
 
--- line i + 1 after line i
-pub next-line : (f : List ℕ) (i : ℕ) (h p l : Line) → 1 ≤ i → h ≡ lineAt f 1 → p ≡ lineAt f i → l ≡ lineAt f (i + 1)
-    → bodyVerdict h p (i + 1) l ≡ lineVerdict f (i + 1)
+-- a line after the first
+later-line : (f : List ℕ) (k : ℕ) → 2 ≤ k → bodyVerdict (header f) (lineAt f (k - 1)) k (lineAt f k) ≡ lineVerdict f k
 unfolding lineVerdict
-next-line f i h p l w eh ep el =
-    rw (ne-eqb (i + 1) 1 (λ e. omega arith), add-sub-cancel i 1, eh, ep, el)
+later-line f k l = rw (ne-eqb k 1 (λ e. omega arith))
 
 -- what a scan has at hand once line 1 has been looked at
 pub begun-seen : (f : List ℕ) (h : Line) (v : Verdict) → h ≡ lineAt f 1 → v ≡ headVerdict h → record { head = h; before = h; verdict = v } ≡ seen f 2
@@ -35,9 +33,7 @@ pub looked-seen : (f : List ℕ) (k : ℕ) (s : Seen) (l : Line) → 2 ≤ k →
 looked-seen f k s l w e el g =
     let i : k - 1 + 1 ≡ k = omega arith in
     let z : scan (k - 1) (lineVerdict f) .number ≡ 0 = eqb-true _ 0 (and-iff _ (leb k (lines f)) .0 (rw e at g) .0) in
-    let b : bodyVerdict (lineAt f 1) (lineAt f (k - 1)) k (lineAt f k) ≡ scan k (lineVerdict f) =
-    rw i at (next-line f (k - 1) _ _ _ (omega arith) refl refl refl ∙ scan-last (lineVerdict f) (k - 1) z) in
-    rw (e, el, add-sub-cancel k 1, b)
+    rw (e, el, add-sub-cancel k 1, later-line f k w ∙ rw i at (scan-last (lineVerdict f) (k - 1) z))
 
 -- where it does not go on, it has the scan of all lines
 pub ended-seen : (f : List ℕ) (k : ℕ) (s : Seen) → k ≤ lines f + 1 → s ≡ seen f k → goesOn s f k ≡ false → s .verdict ≡ scan (lines f) (lineVerdict f)
