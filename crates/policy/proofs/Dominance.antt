@@ -4,16 +4,13 @@ use mathlib.Core.Path.{_≡_, refl, _∙_}
 use mathlib.Core.List.{List}
 use mathlib.Core.Bool.{Bool, cond}
 use native.Mathlib.Omega.{arith}
-use native.Mathlib.Decide.{decLt}
 use lib.Dec.{ltb}
-use borrow.Author.Tests.{le-leb, lt-leb, lt-ltb}
-use Rattle.search.specs.Search.{Among}
-use Rattle.search.proofs.Truth.{untrue}
+use borrow.Author.Tests.{le-leb, lt-ltb}
 use Rattle.search.proofs.Found.{first-agree}
 use Rattle.order.specs.Closure.{Relation, path, loop, circle, reflexive}
 use Rattle.order.specs.Bound.{partnerWithoutBound, lowestWithoutBound, FirstWithoutBound}
 use Rattle.order.specs.Table.{mark, Rows}
-use Rattle.order.proofs.Closure.{Agree, via-agree}
+use Rattle.order.proofs.Closure.{Agree}
 use Rattle.order.proofs.Bound.{first-without-agree}
 use Rattle.rolefile.specs.Line.{D, fields}
 use Rattle.rolefile.specs.Form.{refusal, found}
@@ -26,6 +23,7 @@ use Rattle.policy.specs.Tables.{pairs, Marking}
 use Rattle.policy.specs.Verdict.{orderVerdict, labelVerdict}
 use Rattle.policy.specs.Stages.{Paths, Closed}
 use Rattle.policy.proofs.Inside.{over-between}
+use Rattle.policy.proofs.Closing.{paths-table, closed-table}
 use Rattle.policy.proofs.Ranks.{pairs-say}
 
 -- ---- the tables
@@ -37,22 +35,13 @@ module _ (f : List ℕ) (good : GoodLines f) (few : labels f ≤ 32) {j m : ℕ}
 
   -- t has the marks of the D lines, and u its paths
   pub paths-of : (t u : List (List Bool)) → Marking (part f j) m t → Rows 32 (labels f) (path (labels f) (mark t)) (mark t) (mark u) → Paths f u
-  paths-of t u said rows = record {
-    done = λ a b v w. rows .done a b v w
-        ∙ via-agree (labels f) 32 (mark t) (over f) few (λ a b v w. said a b (omega arith) w ∙ pairs-over a b) (labels f) (omega arith) a b v w;
-    left = λ a b l v w. rows .left a b l v w
-        ∙ said a b (omega arith) w ∙ pairs-over a b ∙ untrue (over f a b) (λ e. let k = over-between f good a b e in omega arith);
-  }
+  paths-of t u said =
+      paths-table 32 (labels f) (over f) (mark t) (mark u) few (over-between f good) (λ a b v w. said a b v w ∙ pairs-over a b)
 
 pub closed-of : (f : List ℕ) (t c : List (List Bool)) → Paths f t
     → Rows 32 (labels f) (reflexive (mark t)) (mark t) (mark c) → Closed f c
 unfolding dominates
-closed-of f t c p rows a b v w = elim (decLt (labels f) a) [
-  | yes l ↦ rows .left a b l (v .1) w ∙ p .left a b l (v .1) w ∙ rw (lt-leb a (labels f) l)
-  | no l ↦
-      let u : Among (labels f) a = omega arith in
-      rows .done a b u w ∙ rw (p .done a b u w, le-leb a (labels f) (u .1))
-]
+closed-of f t c = closed-table 32 (labels f) (over f) (mark t) (mark c)
 
 -- on the labels it is dominance
 pub closed-agree : (f : List ℕ) (t : List (List Bool)) → labels f ≤ 32 → Closed f t → Agree (labels f) (labels f) (mark t) (dominates f)

@@ -11,6 +11,7 @@ pub mod Readying
 pub mod Ranks
 pub mod Finishes
 pub mod Inside
+pub mod Closing
 pub mod Granting
 pub mod Labelling
 pub mod Dominance

@@ -1,34 +1,35 @@
 -- The S lines fill the rows, which are closed; a circle is refused.
 use borrow.Author.Needs.{needs}
 use denote.Ref.{now}
-use Rattle.policy.proofs.Ranks.{ranked-refused, ranked}
+use Rattle.policy.proofs.Ranks.{Pathed, pathed-of, ranked-refused, ranked}
 use Rattle.policy.proofs.build.rank_roles.Statement.{statement}
 use Rattle.policy.proofs.build.rank_roles.Tie as tie
 
 relate-back-requires : tie.Need-relate-back-requires
 relate-back-requires c κs = (search needs, search needs, rw (c .before .part .ensures) (c .before .before .before .before .before .pre .0 .laid .s .fits))
 
+-- the place where the function begins
+abbrev start : tie.After-lowest-loop → tie.Start
+start c = c .before .before .before .before .before .before .before .before .before .before .before .before .before .before
+
+pathed : (c : tie.After-lowest-loop)
+    → Pathed (now (start c .args .f)) (start c .args .h) (now (start c .args .s)) (c .before .before .before .before .paths .last .0) (c .lowest-loop .result)
+pathed c =
+    let closed = c .before .before .before .before in
+    let filled = closed .before .before .before .before in
+    let a = start c .args in
+    let (ready, long, zeros) = start c .pre in
+    pathed-of (now (a .f)) (a .q) (a .h) ready (now (a .s)) (filled .relate-back .last .0) (closed .paths .last .0) (now (filled .before .before .part .result))
+    (c .lowest-loop .result) long (filled .relate-back .kept .0) (closed .paths .kept .0) zeros
+    (filled .before .before .part .ensures) (filled .relate-back .ensures) (closed .paths .ensures) (c .lowest-loop .ensures)
+
 returns : tie.Need-returns
-returns c =
-    let a = c .before .before .before .before .before .before in
-    let b = a .before .before .before .before in
-    let start = b .before .before .before .before .before .before in
-    ranked-refused (now (start .args .f)) (start .args .q) (start .args .h) (start .pre .0) (now (start .args .s)) (b .relate-back .last .0) (a .paths .last .0)
-    (now (b .before .before .part .result)) (c .before .before .lowest-loop .result) (start .pre .1) (b .relate-back .kept .0) (a .paths .kept .0) (start .pre .2)
-    (b .before .before .part .ensures) (b .relate-back .ensures) (a .paths .ensures) (c .before .before .lowest-loop .ensures)
-    (c .refused .result) (c .refused .ensures) (c .before .if1 .taken)
+returns c = ranked-refused (pathed (c .before .before)) (c .refused .ensures) (c .before .if1 .taken)
 
 returns-2 : tie.Need-returns-2
 returns-2 c =
-    let l = c .before .before .before .before .before .before in
-    let a = l .before .before .before .before in
-    let b = a .before .before .before .before in
-    let start = b .before .before .before .before .before .before in
-    ranked (now (start .args .f)) (start .args .q) (start .args .h) (start .pre .0) (now (start .args .s)) (b .relate-back .last .0) (a .paths .last .0)
-    (now (b .before .before .part .result)) (l .lowest-loop .result) (start .pre .1) (b .relate-back .kept .0) (a .paths .kept .0) (start .pre .2)
-    (b .before .before .part .ensures) (b .relate-back .ensures) (a .paths .ensures) (l .lowest-loop .ensures)
-    (c .before .before .before .reflect .last .0) (c .nothing .result) (c .nothing .ensures) (c .before .before .before .before .before .if1 .left)
-    (c .before .before .before .reflect .ensures)
+    let passed = c .before .before .before .before .before in
+    ranked (pathed (passed .before)) (c .nothing .ensures) (passed .if1 .left) (c .before .before .before .reflect .ensures)
 
 pub rank-roles-spec : {M : Type 1} → statement M
 rank-roles-spec =

@@ -1,0 +1,31 @@
+-- A table that has a relation among the things 1 to n, its paths and its closure: marks and rows of roles alike. Assumes nothing.
+use Prim.Native.Nat.{ℕ, _≤_}
+use mathlib.Core.Path.{_∙_}
+use mathlib.Core.Bool.{false, _&&_}
+use native.Mathlib.Omega.{arith}
+use native.Mathlib.Decide.{decLt}
+use lib.Dec.{leb}
+use borrow.Author.Tests.{le-leb, lt-leb}
+use Rattle.search.specs.Search.{Among}
+use Rattle.search.proofs.Truth.{untrue}
+use Rattle.order.specs.Closure.{Relation, path, reflexive, closure}
+use Rattle.order.specs.Table.{Rows}
+use Rattle.order.proofs.Closure.{Agree, via-agree}
+use Rattle.policy.proofs.Inside.{Between}
+
+module _ (size n : ℕ) (e t u : Relation) where
+  -- t has the relation, and u its paths
+  pub paths-table : n ≤ size → Between n e → Agree size size t e → Rows size n (path n t) t u → Rows size n (path n e) (λ a b. false) u
+  paths-table few between agree rows = record {
+    done = λ a b v w. rows .done a b v w ∙ via-agree n size t e few (λ a b v w. agree a b (omega arith) w) n (omega arith) a b v w;
+    left = λ a b l m w. rows .left a b l m w ∙ agree a b (omega arith) w ∙ untrue (e a b) (λ h. let v = between a b h in omega arith);
+  }
+
+  -- t has the paths, and u each of the things 1 to n with itself too
+  pub closed-table : Rows size n (path n e) (λ a b. false) t → Rows size n (reflexive t) t u → Agree size size u (λ a b. leb a n && closure n e a b)
+  closed-table paths rows a b v w = elim (decLt n a) [
+    | yes l ↦ rows .left a b l (v .1) w ∙ paths .left a b l (v .1) w ∙ rw (lt-leb a n l)
+    | no l ↦
+        let i : Among n a = omega arith in
+        rows .done a b i w ∙ rw (paths .done a b i w, le-leb a n (i .1))
+  ]
