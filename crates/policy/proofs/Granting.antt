@@ -95,8 +95,8 @@ module _ (f xs : List ℕ) (good : GoodLines f) (few : roles f ≤ 128) (seniors
 
   pub permitted : (ys : List ℕ) → GrantedRows (grantedByLines xs (part f j) m) xs ys → Zeros readersAt 28688 xs → Permitting f ys
   permitted ys g zeros = record {
-    readers = λ o r v w. unites-zeros readersAt 512 _ xs ys (g .readers) (λ i l m. zeros i l (omega arith)) o r v w ∙ may-is 1 o r w;
-    writers = λ o r v w. unites-zeros writersAt 512 _ xs ys (g .writers) (λ i l m. zeros i (omega arith) m) o r v w ∙ may-is 2 o r w;
+    readers = λ o r v w. unites-zeros readersAt 512 _ xs ys (g .rows 1 (omega arith)) (λ i l m. zeros i l (omega arith)) o r v w ∙ may-is 1 o r w;
+    writers = λ o r v w. unites-zeros writersAt 512 _ xs ys (g .rows 2 (omega arith)) (λ i l m. zeros i (omega arith) m) o r v w ∙ may-is 2 o r w;
   }
 
 -- ---- levels

@@ -1,5 +1,5 @@
 -- Tables of role sets that lines fill: one row changes at a time, and what the lines so far say adds up. Assumes nothing.
-use Prim.Native.Nat.{ℕ, _+_, _-_, _*_, _≤_}
+use Prim.Native.Nat.{ℕ, _+_, _*_, _≤_}
 use mathlib.Core.Path.{_≡_, refl, sym, ap, _∙_}
 use mathlib.Core.Logic.{inl, inr}
 use mathlib.Core.Bool.{Bool, false, _&&_, _||_, or-false, or-assoc, and-comm, and-false}
@@ -16,7 +16,7 @@ use Rattle.roleset.specs.Row.{member, rowOf, added, joined, Kept, Placed}
 use Rattle.roleset.proofs.Rows.{row-kept, rows-apart, whole-true, zero-row}
 use Rattle.order.specs.Closure.{Relation}
 use Rattle.rolefile.specs.Section.{one, two, three}
-use Rattle.policy.specs.Tables.{seniorsAt, readersAt, writersAt, pairs, lineGrants, grantedByLines, Related, GrantedRows, Unites}
+use Rattle.policy.specs.Tables.{seniorsAt, readersAt, modeAt, pairs, lineGrants, grantedByLines, Related, GrantedRows, Unites}
 use Rattle.policy.specs.Stages.{Zeros}
 
 -- where one row of a table is placed, the others stay
@@ -102,28 +102,21 @@ Said = ℕ → ℕ → ℕ → Bool
 
 pub granted-none : (said : Said) (xs : List ℕ) → ((d o r : ℕ) → Among 2 d → Among 512 o → said d o r ≡ false) → GrantedRows said xs xs
 granted-none said xs h = record {
-  readers = unites-none readersAt 512 (said 1) xs (λ o r v w. h 1 o r (omega arith) v);
-  writers = unites-none writersAt 512 (said 2) xs (λ o r v w. h 2 o r (omega arith) v);
+  rows = λ d m. unites-none (modeAt d) 512 (said d) xs (λ o r v w. h d o r m v);
   rest = λ i out. refl;
 }
 
 pub granted-as : {said told : Said} {xs ys : List ℕ} → ((d o r : ℕ) → said d o r ≡ told d o r) → GrantedRows said xs ys → GrantedRows told xs ys
 granted-as {said} {told} {xs} {ys} e t = record {
-  readers = unites-as readersAt 512 (said 1) xs (told 1) ys (e 1) (t .readers);
-  writers = unites-as writersAt 512 (said 2) xs (told 2) ys (e 2) (t .writers);
+  rows = λ d m. unites-as (modeAt d) 512 (said d) xs (told d) ys (e d) (t .rows d m);
   rest = t .rest;
 }
 
 pub granted-more : {said more : Said} {xs ys zs : List ℕ} → GrantedRows said xs ys → GrantedRows more ys zs → GrantedRows (λ d o r. said d o r || more d o r) xs zs
 granted-more {said} {more} {xs} {ys} {zs} t u = record {
-  readers = unites-more readersAt 512 (said 1) xs (more 1) ys zs (t .readers) (u .readers);
-  writers = unites-more writersAt 512 (said 2) xs (more 2) ys zs (t .writers) (u .writers);
+  rows = λ d m. unites-more (modeAt d) 512 (said d) xs (more d) ys zs (t .rows d m) (u .rows d m);
   rest = λ i out. u .rest i out ∙ t .rest i out;
 }
-
--- where the table of a mode begins: that of the readers, or that of the writers
-abbrev pub modeAt : ℕ → ℕ
-modeAt d = readersAt + 8192 * (d - 1)
 
 -- the seniors of a role joined into the card's row of the mode's table
 module _ (role card mode : ℕ) (xs ys : List ℕ) (fits : 28688 ≤ length xs) (v : Among 128 role) (w : Among 512 card) (m : Among 2 mode)
@@ -142,8 +135,7 @@ module _ (role card mode : ℕ) (xs ys : List ℕ) (fits : 28688 ≤ length xs) 
 
   pub granted : GrantedRows (lineGrants xs role card mode) xs ys
   granted = record {
-    readers = mode-rows 1 (omega arith);
-    writers = mode-rows 2 (omega arith);
+    rows = mode-rows;
     rest = λ i out. p .rest i (λ k. let far = out (omega arith) in omega arith);
   }
 

@@ -117,10 +117,13 @@ pub record Bytes (at size : ℕ) (v : ℕ → ℕ) (xs ys : List ℕ) : Type 0 w
   pub bytes : (x : ℕ) → Among size x → byteOf ys at x ≡ v x
   pub rest : Kept at (at + size) xs ys
 
--- the readers' and the writers' rows with what `said` gives for mode 1 and mode 2
+-- where the table of a mode begins: that of the readers, mode 1, or that of the writers, mode 2
+abbrev pub modeAt : ℕ → ℕ
+modeAt d = readersAt + 8192 * (d - 1)
+
+-- the rows of both tables, each with what `said` gives for its mode
 pub record GrantedRows (said : ℕ → ℕ → ℕ → Bool) (xs ys : List ℕ) : Type 0 where
-  pub readers : Unites readersAt 512 (said 1) xs ys
-  pub writers : Unites writersAt 512 (said 2) xs ys
+  pub rows : (d : ℕ) → Among 2 d → Unites (modeAt d) 512 (said d) xs ys
   pub rest : Kept readersAt 28688 xs ys
 
 -- tables of marks: t has those of the first m lines of the part p
