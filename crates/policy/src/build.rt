@@ -39,7 +39,7 @@ pub struct Parts {
 }
 
 fn part_after(f: &[u8], start: usize, letter: u8) -> Part
-    ensures { λ q. ⌜ (q .start ≡ start) × Leads (part (now (f .entry)) start) letter (q .count) ⌝ }
+    ensures { λ q. ⌜ (q .start ≡ start) × Leads (part (now (f .entry)) (q .start)) letter (q .count) ⌝ }
 {
     let p = read::part(f, start);
     let count = read::leading(p, letter);

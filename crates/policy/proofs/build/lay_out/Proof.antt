@@ -16,8 +16,8 @@ use Rattle.policy.proofs.build.lay_out.Tie as tie
 abbrev Ends : List ℕ → Part → Type 0
 Ends f q = q .start + q .count ≤ lines f + 1
 
-ends : (f : List ℕ) (j b : ℕ) (q : Part) → (q .start ≡ j) × Leads (part f j) b (q .count) → j ≤ lines f + 1 → Ends f q
-ends f j b q (e, h) l = omega (arith, h .fits, part-lines f j)
+ends : (f : List ℕ) (j b : ℕ) (q : Part) → (q .start ≡ j) × Leads (part f (q .start)) b (q .count) → j ≤ lines f + 1 → Ends f q
+ends f j b q (e, h) l = omega (arith, h .fits, part-lines f (q .start))
 
 d-ends : (c : tie.After-part-after) → Ends (now (c .before .before .args .f)) (c .part-after .result)
 d-ends c = ends (now (c .before .before .args .f)) 1 68 (c .part-after .result) (c .part-after .ensures) (omega arith)
@@ -44,17 +44,17 @@ returns c =
     let d = s .before .before in
     record {
       first = d .part-after .ensures .0;
-      d = rw (d .part-after .ensures .0) (d .part-after .ensures .1);
+      d = d .part-after .ensures .1;
       s-after = s .part-after2 .ensures .0;
-      s = rw (s .part-after2 .ensures .0) (s .part-after2 .ensures .1);
+      s = s .part-after2 .ensures .1;
       u-after = u .part-after3 .ensures .0;
-      u = rw (u .part-after3 .ensures .0) (u .part-after3 .ensures .1);
+      u = u .part-after3 .ensures .1;
       o-after = o .part-after4 .ensures .0;
-      o = rw (o .part-after4 .ensures .0) (o .part-after4 .ensures .1);
+      o = o .part-after4 .ensures .1;
       p-after = p .part-after5 .ensures .0;
-      p = rw (p .part-after5 .ensures .0) (p .part-after5 .ensures .1);
+      p = p .part-after5 .ensures .1;
       a-after = c .part-after6 .ensures .0;
-      a = rw (c .part-after6 .ensures .0) (c .part-after6 .ensures .1);
+      a = c .part-after6 .ensures .1;
     }
 
 pub lay-out-spec : {M : Type 1} → statement M
