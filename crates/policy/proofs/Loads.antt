@@ -24,11 +24,11 @@ image-copied f xs ys zs c t = record {
 
 -- ---- the three answers
 
-pub load-short : (f xs : List ℕ) (v : Verdict) → length xs < 65536 → v ≡ refusal 7 0 0 → Loaded f v xs xs
-load-short f xs v l e = record {
+pub load-short : {f xs : List ℕ} {v : Verdict} → length xs < 65536 → v ≡ refusal 7 0 0 → Loaded f v xs xs
+load-short {f} {xs} {v} l e = record {
   answer = e ∙ short;
   refused = λ h. refl;
-  done = λ z. let n : v .number ≡ 7 = ap (λ (w : Verdict). w .number) e in absurd (omega arith);
+  done = λ z. absurd (omega (arith, ap (λ v. v .number) e));
   rest = λ i m. refl;
   long = refl;
 }
@@ -44,12 +44,12 @@ long-verdict f xs l = rw (le-leb stateSize (length xs) l)
 pub judged : {f xs ys : List ℕ} {v : Verdict} → Loaded f v xs ys → 65536 ≤ length xs → v ≡ verdict f
 judged {f} {xs} load l = load .answer ∙ sym (long-verdict f xs l)
 
-pub load-refused : (f xs ys : List ℕ) (v : Verdict) → 65536 ≤ length xs → Built f v ys → (v .number ≡ 0 → ⊥) → Loaded f v xs xs
-load-refused f xs ys v l b h = record { answer = b .answer ∙ long-verdict f xs l; refused = λ h. refl; done = λ z. absurd (h z); rest = λ i m. refl; long = refl }
+pub load-refused : {f xs ys : List ℕ} {v : Verdict} → 65536 ≤ length xs → Built f v ys → (v .number ≡ 0 → ⊥) → Loaded f v xs xs
+load-refused {f} {xs} l b h = record { answer = b .answer ∙ long-verdict f xs l; refused = λ h. refl; done = λ z. absurd (h z); rest = λ i m. refl; long = refl }
 
-pub load-done : (f xs ys zs : List ℕ) (v : Verdict) → 65536 ≤ length xs → Built f v ys → v .number ≡ 0 → Copied 65536 ys xs zs → length zs ≡ length xs
+pub load-done : {f xs ys zs : List ℕ} {v : Verdict} → 65536 ≤ length xs → Built f v ys → v .number ≡ 0 → Copied 65536 ys xs zs → length zs ≡ length xs
     → Loaded f v xs zs
-load-done f xs ys zs v l b z c same = record {
+load-done {f} {xs} {ys} {zs} l b z c same = record {
   answer = b .answer ∙ long-verdict f xs l;
   refused = λ h. absurd (h z);
   done = λ e. image-copied f xs ys zs c (b .done z);

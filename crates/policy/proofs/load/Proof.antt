@@ -1,6 +1,5 @@
 -- Too short a state, a refusal of the check, or the copied image.
 use borrow.Author.Needs.{needs}
-use denote.Ref.{now}
 use lib.ListN.{length-replicate}
 use Prim.Native.Nat.{ℕ}
 use Rattle.policy.proofs.Loads.{scratch-zeros, load-short, load-refused, load-done}
@@ -11,16 +10,18 @@ build-requires : tie.Need-build-requires
 build-requires c κs = (length-replicate {A = ℕ} 65536 0, scratch-zeros)
 
 returns : tie.Need-returns
-returns c = let a = c .before .before .before .before .args in load-short (now (a .f)) (now (a .state)) _ (c .before .if1 .taken) (c .refused .ensures)
+returns c = load-short (c .before .if1 .taken) (c .refused .ensures)
 
 returns-2 : tie.Need-returns-2
-returns-2 c = let a = c .before .before .before .before .before .before .before .before .args in load-refused (now (a .f)) (now (a .state)) (c .before .before .before .build .last .1 .0) _ (c .before .before .before .before .before .if1 .left) (c .before .before .before .build .ensures) (c .if2 .taken)
+returns-2 c =
+    let built = c .before .before .before in
+    load-refused (built .before .before .if1 .left) (built .build .ensures) (c .if2 .taken)
 
 returns-3 : tie.Need-returns-3
 returns-3 c =
-    let a = c .before .before .before .before .before .before .before .before .before .before .before .before .before .args in
-    load-done (now (a .f)) (now (a .state)) (c .before .before .before .before .before .before .before .before .build .last .1 .0) (c .before .before .copy-state .last .0) _ (c .before .before .before .before .before .before .before .before .before .before .if1 .left) (c .before .before .before .before .before .before .before .before .build .ensures) (c .before .before .before .before .before .if2 .left)
-    (c .before .before .copy-state .ensures) (c .before .before .copy-state .kept .0)
+    let copied = c .before .before .copy-state in
+    let built = c .before .before .before .before .before .before .before .before in
+    load-done (built .before .before .if1 .left) (built .build .ensures) (c .before .before .before .before .before .if2 .left) (copied .ensures) (copied .kept .0)
 
 pub load-spec : {M : Type 1} → statement M
 load-spec =
