@@ -61,7 +61,7 @@ pub fn gives(s: &[u8], at: u64, place: u64, card: u64) -> bool
     requires { ⌜ (at ≤ 20496) × Among 64 place × Among 512 card ⌝ }
     ensures { λ r. ⌜ r ≡ session.gives (now (s .entry)) at place card ⌝ }
 {
-    let held = state::place_at(place) + 4;
+    let held = state::held_at(place);
     let row = at + 16 * (card - 1);
     roleset::meet(s, held as usize, row as usize)
 }

@@ -129,7 +129,7 @@ fn hold(s: &mut [u8], place: u64, role: u64)
     requires { ⌜ takeNumber (now s) place role ≡ 0 ⌝ }
     ensures { λ _. ⌜ now (s .exit) ≡ taken (now (s .entry)) place role ⌝ }
 {
-    let at = state::place_at(place) + 4;
+    let at = state::held_at(place);
     roleset::add(s, at as usize, role as usize);
 }
 
@@ -163,7 +163,7 @@ fn remove_role(s: &mut [u8], place: u64, role: u64)
     requires { ⌜ dropNumber (now s) place role ≡ 0 ⌝ }
     ensures { λ _. ⌜ now (s .exit) ≡ dropped (now (s .entry)) place role ⌝ }
 {
-    let at = state::place_at(place) + 4;
+    let at = state::held_at(place);
     roleset::remove(s, at as usize, role as usize);
 }
 

@@ -44,6 +44,14 @@ pub fn place_at(place: u64) -> u64
     61456 + 20 * (place - 1)
 }
 
+// Where the row of the roles that a place holds begins.
+pub fn held_at(place: u64) -> u64
+    requires { ⌜ Among 64 place ⌝ }
+    ensures { λ r. ⌜ r ≡ session.heldAt place ⌝ }
+{
+    place_at(place) + 4
+}
+
 // Whether the place has a session.
 pub fn in_use(s: &[u8], place: u64) -> bool
     requires { ⌜ Among 64 place ⌝ }

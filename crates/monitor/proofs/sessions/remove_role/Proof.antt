@@ -24,14 +24,13 @@ returns c =
     (t .remove .last .0)
     (t .remove .kept .0)
     (λ i. omega (arith, c .slice-known2 .given i))
-    (rw (at .place-at .ensures) at (t .remove .ensures))
+    (rw (at .held-at .ensures) at (t .remove .ensures))
 
 pub remove-role-spec : {M : Type 1} → statement M
 remove-role-spec =
     tie.close
     (tie.spec
     (λ c κs. room (c .before) .0 .place)
-    (λ c. search needs)
     (λ c κs. search needs)
     (λ c. search needs)
     returns)
