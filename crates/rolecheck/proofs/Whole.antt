@@ -36,4 +36,4 @@ module _ (f : List ℕ) {v : Verdict} {xs ys : List ℕ} (load : Loaded f v xs y
 
 pub whole : (f : List ℕ) {r : ℕ} {xs ys : List ℕ} → 363308 ≤ length xs → Puts (report f) 0 xs r ys → Counts r ys × (take r ys ≡ report f)
 whole f {r} {xs} {ys} l puts =
-    ((puts .used, sym (length-take-le r ys (puts .used))), puts-whole puts (omega (arith, report-length f)) .0)
+    ((puts .used, sym (length-take-le r ys (puts .used))), puts-whole puts (omega (arith, report-length f)))

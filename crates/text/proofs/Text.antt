@@ -1,11 +1,11 @@
 -- Texts put one after the other are one text. Assumes nothing.
 use Prim.Native.Nat.{ℕ, _≤_}
-use mathlib.Core.Path.{_≡_, refl, sym, ap, _∙_}
+use mathlib.Core.Path.{_≡_, refl, sym, _∙_}
 use mathlib.Core.List.{List, [], _++_, append-assoc, append-nil}
 use native.Mathlib.Omega.{arith}
 use native.Mathlib.Decide.{decLt}
 use lib.ListN.{length, take, length-take}
-use lib.Seq.{take-all, take-append-le, take-take, length-take-le}
+use lib.Seq.{take-all, take-append-le, take-take}
 use Rattle.text.specs.Text.{Puts}
 
 -- the start of a text, with more after it, is cut where the text is
@@ -30,10 +30,8 @@ pub puts-nothing : (at : ℕ) (xs : List ℕ) → at ≤ length xs → Puts [] a
 puts-nothing at xs l = record { size = refl; used = l; text = rw (append-nil (take at xs)) (sym (take-all (length xs) (take at xs) (omega (arith, length-take at xs)))) }
 
 module _ {more : List ℕ} {r : ℕ} {xs ys : List ℕ} where
-  pub puts-whole : Puts more 0 xs r ys → length more ≤ length xs → (take r ys ≡ more) × (r ≡ length more)
-  puts-whole puts l =
-      let whole = puts .text ∙ take-all (length xs) more l in
-      (whole, sym (length-take-le r ys (puts .used)) ∙ ap length whole)
+  pub puts-whole : Puts more 0 xs r ys → length more ≤ length xs → take r ys ≡ more
+  puts-whole puts l = puts .text ∙ take-all (length xs) more l
 
 module _ {a b : List ℕ} {at r : ℕ} {xs ys : List ℕ} where
   pub puts-as : a ≡ b → Puts a at xs r ys → Puts b at xs r ys

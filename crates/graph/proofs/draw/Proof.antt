@@ -18,7 +18,7 @@ returns c =
     let begun = nodes .before .before .before .before .before in
     let puts = puts-then (begun .put .ensures) (puts-then (nodes .put2 .ensures) (puts-then (edges .put3 .ensures)
     (puts-then (labels .labels-text .ensures) (puts-then (roles .roles-text .ensures) (ended .put4 .ensures))))) in
-    (puts, λ l. puts-whole puts (le-trans (graph-fits _) l) .0)
+    (puts, λ l. puts-whole puts (le-trans (graph-fits _) l))
 
 pub draw-spec : {M : Type 1} → statement M
 draw-spec =

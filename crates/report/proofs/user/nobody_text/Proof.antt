@@ -16,7 +16,7 @@ returns c =
     let known = taken .before .before .before in
     let xs = now (known .before .before .before .args .s) in
     let puts = rw (fun-ext (known .roles-of-all .ensures)) at (puts-then (taken .list-row .ensures) (c .before .before .list-row2 .ensures)) in
-    (puts, λ l. puts-whole puts (le-trans (nobody-fits xs) l) .0)
+    (puts, λ l. puts-whole puts (le-trans (nobody-fits xs) l))
 
 pub nobody-text-spec : {M : Type 1} → statement M
 nobody-text-spec =

@@ -1,8 +1,8 @@
 -- Nothing of a number that is no user's; else one after the other.
 use Prim.Native.Nat.{ℕ, _<_}
-use mathlib.Core.Path.{_≡_}
-use mathlib.Core.List.{List, [], _++_}
-use mathlib.Core.Bool.{true, false}
+use mathlib.Core.Path.{_≡_, refl}
+use mathlib.Core.List.{List, _++_}
+use mathlib.Core.Bool.{true}
 use native.Mathlib.Omega.{arith}
 use native.Mathlib.Nat.{le-trans}
 use borrow.Author.Needs.{needs}
@@ -18,26 +18,21 @@ use Rattle.report.proofs.Whole.{user-fits, clearance-byte}
 use Rattle.report.proofs.user.user_text.Statement.{statement}
 use Rattle.report.proofs.user.user_text.Tie as tie
 
-module _ (xs : List ℕ) (u : ℕ) where
-  none-told : among (knownUsers xs) u ≡ false → [] ≡ userText xs u
+module _ (xs : List ℕ) (u : ℕ) (e : among (knownUsers xs) u ≡ true) where
+  all-told : userLines xs u ++ (labelsLines xs u ++ ascii "\n") ≡ userText xs u
   unfolding userText
-  none-told e = rw e
+  all-told = rw e
 
-  all-told : among (knownUsers xs) u ≡ true → userLines xs u ++ (labelsLines xs u ++ ascii "\n") ≡ userText xs u
-  unfolding userText
-  all-told e = rw e
-
-  few : among (knownUsers xs) u ≡ true → u < 100000
-  few e = let w = among-iff (knownUsers xs) u .0 e in omega (arith, few-users xs)
+  few : u < 100000
+  few = let w = among-iff (knownUsers xs) u .0 e in omega (arith, few-users xs)
 
 -- what is tested
 tested : (c : tie.After-among) → let a = c .before .before .before .before .args in c .among .result ≡ among (knownUsers (now (a .s))) (a .user)
 tested c = rw (c .before .users .ensures) at (c .among .ensures)
 
 returns : tie.Need-returns
-returns c =
-    let nothing = none-told _ _ (failed (tested (c .before)) (c .if1 .taken)) in
-    (puts-as nothing (puts-nothing 0 _ (search needs)), λ l. nothing)
+unfolding userText
+returns c = rw (failed (tested (c .before)) (c .if1 .taken)) (puts-nothing 0 _ (search needs), λ l. refl)
 
 user-lines-requires : tie.Need-user-lines-requires
 user-lines-requires c κs = few _ _ (passed (tested (c .before .before)) (c .before .if1 .left))
@@ -47,10 +42,9 @@ returns-2 c =
     let labelled = c .before .before .before .before .before .before .before in
     let lined = labelled .before .before .before .before in
     let asked = lined .before .before .before in
-    let start = asked .before .before .before .before in
-    let all = all-told (now (start .args .s)) (start .args .user) (passed (tested asked) (lined .before .before .if1 .left)) in
+    let all = all-told _ _ (passed (tested asked) (lined .before .before .if1 .left)) in
     let puts = puts-as all (puts-then (lined .user-lines .ensures) (puts-then (labelled .labels-lines .ensures) (c .before .before .put .ensures))) in
-    (puts, λ l. puts-whole puts (le-trans (user-fits _ _ (clearance-byte _ (λ i. asked .before .before .before .shared-slice-known .given i .fits) _)) l) .0)
+    (puts, λ l. puts-whole puts (le-trans (user-fits _ _ (clearance-byte _ (λ i. asked .before .before .before .shared-slice-known .given i .fits) _)) l))
 
 pub user-text-spec : {M : Type 1} → statement M
 user-text-spec =
