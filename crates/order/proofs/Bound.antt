@@ -10,7 +10,7 @@ use lib.Dec.{leb}
 use borrow.Author.Tests.{ltb-true, lt-ltb, ltb-false, le-ltb}
 use Rattle.search.specs.Search.{every, first, implies, Among, Lowest}
 use Rattle.search.proofs.Truth.{eqb-iff, ltb-iff, and-iff, and-both, or-both, untrue, both, false-iff, same}
-use Rattle.search.proofs.Found.{every-agree, every-in, every-cut, first-found, first-more, first-none, first-lowest, first-within, first-agree, first-cut}
+use Rattle.search.proofs.Found.{every-agree, every-in, every-cut, first-found, first-more, first-none, first-none-of, first-lowest, first-within, first-agree, first-cut}
 use Rattle.order.specs.Closure.{Relation, PartialOrder}
 use Rattle.order.specs.Bound.{upper, isLeast, least, lub, converse, pair, withoutBound, partnerWithoutBound, someWithoutBound, lowestWithoutBound, Upper, IsLub, Joined, AllJoined, FirstPair, FirstWithoutBound}
 use Rattle.order.proofs.Closure.{Agree}
@@ -98,10 +98,10 @@ module _ (n : ℕ) (ge : Relation) where
 
   partnerWithoutBound-none : (a : ℕ) → (partnerWithoutBound n ge a ≡ 0) ↔ ((b : ℕ) → Among n b → a < b → Joined n ge a b)
   unfolding partnerWithoutBound
-  partnerWithoutBound-none a = (
-    λ q b w l. together a b l (first-none (withoutBound n ge a) n .0 q b w),
-    λ h. first-none (withoutBound n ge a) n .1 (λ b w. untrue (withoutBound n ge a b) (λ p. separate a b p (h b w (without-bound-iff a b .0 p .0)))),
-  )
+  partnerWithoutBound-none a = first-none-of (withoutBound n ge a) n (λ b w. (
+    λ q l. together a b l q,
+    λ h. untrue (withoutBound n ge a b) (λ p. separate a b p (h (without-bound-iff a b .0 p .0))),
+  ))
 
   -- a pair the other way round, and a thing with itself
   joined-swap : (a b : ℕ) → Joined n ge b a → Joined n ge a b

@@ -9,7 +9,7 @@ use lib.Dec.{eqb}
 use lib.ListN.{length}
 use borrow.Author.Tests.{eq-eqb}
 use Rattle.search.specs.Search.{Among}
-use Rattle.search.proofs.Found.{wider, some-agree, first-none, first-lowest-of}
+use Rattle.search.proofs.Found.{wider, some-agree, first-none-of, first-lowest-of}
 use Rattle.order.specs.Closure.{path, OnCircle}
 use Rattle.order.proofs.Closure.{path-iff, circle-misses, circle-agree}
 use Rattle.rolefile.specs.Form.{header}
@@ -81,8 +81,4 @@ module _ (f : List ℕ) where
 
   pub no-circle-iff : (flowCircle f ≡ 0) ↔ ((a : ℕ) → Among (roles f) a → OnCircle (roles f) (flows f) a → ⊥)
   unfolding flowCircle
-  no-circle-iff =
-      let found = first-none (λ a. path (roles f) (flows f) a a) (roles f) in (
-        λ e a w. circle-misses (flows f) (roles f) a w .0 (found .0 e a w),
-        λ h. found .1 (λ a w. circle-misses (flows f) (roles f) a w .1 (h a w)),
-      )
+  no-circle-iff = first-none-of (λ a. path (roles f) (flows f) a a) (roles f) (circle-misses (flows f) (roles f))

@@ -9,9 +9,9 @@ use native.Mathlib.Omega.{arith}
 use lib.Dec.{eqb}
 use lib.ListN.{length}
 use borrow.Author.Tests.{eqb-true, eq-eqb, not-true, not-false}
-use Rattle.search.specs.Search.{Among, first}
+use Rattle.search.specs.Search.{Among}
 use Rattle.search.proofs.Truth.{eqb-iff, leb-iff, ltb-iff, and-both, or-both, implies-both, among-iff, false-iff}
-use Rattle.search.proofs.Found.{first-none}
+use Rattle.search.proofs.Found.{first-none-of}
 use Rattle.rolefile.specs.declared.Line.{Line}
 use Rattle.rolefile.specs.declared.Verdict.{Verdict}
 use Rattle.rolefile.specs.Line.{H, U, O, P, lineAt, lines}
@@ -145,7 +145,7 @@ module _ (f : List ℕ) (k : ℕ) where
   unlabelled-decides : (n place : ℕ) → Decides (found (unlabelled f k n) (refusal 6 place (unlabelled f k n)))
       (OneEach f k n) (λ v. (x : ℕ) × LowestUnlabelled f k n x × (v ≡ refusal 6 place x))
   unfolding unlabelled
-  unlabelled-decides n place = search-decides n bad none has hasNot (refusal 6 place) (λ x. omega arith)
+  unlabelled-decides n place = search-decides n bad (first-none-of bad n hasNot) has hasNot (refusal 6 place) (λ x. omega arith)
     where
       bad : ℕ → Bool
       bad x = not (eqb (count (lines f) (about f k x)) 1)
@@ -157,9 +157,6 @@ module _ (f : List ℕ) (k : ℕ) where
 
       hasNot : (x : ℕ) → Among n x → (bad x ≡ false) ↔ One f k x
       hasNot x w = (λ e. one-iff x .0 (not-false (eqb (count (lines f) (about f k x)) 1) e), λ o. rw (one-iff x .1 o))
-
-      none : (first n bad ≡ 0) ↔ OneEach f k n
-      none = (λ e x w. hasNot x w .0 (first-none bad n .0 e x w), λ h. first-none bad n .1 (λ x w. hasNot x w .1 (h x w)))
 
 -- ---- the whole form
 

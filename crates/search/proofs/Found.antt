@@ -63,7 +63,7 @@ module _ (p : ℕ → Bool) where
   every-at zero e = λ a w. absurd (omega arith)
   every-at (suc n) e = let (s, l) = and-iff (every n p) (p (suc n)) .0 e in among-more _ n (every-at n s) l
 
-  pub every-of : (n : ℕ) → ((a : ℕ) → Among n a → p a ≡ true) → every n p ≡ true
+  every-of : (n : ℕ) → ((a : ℕ) → Among n a → p a ≡ true) → every n p ≡ true
   unfolding every
   every-of zero h = refl
   every-of (suc n) h = and-iff (every n p) (p (suc n)) .1 (every-of n (λ a w. h a (omega arith)), h (suc n) (omega arith))
@@ -116,7 +116,11 @@ module _ (p : ℕ → Bool) where
   first-lowest n zero l = absurd (omega arith)
   first-lowest n (suc a) l = (λ e. rw e at (first-finds n), λ low. sym (finds-first n (suc a) low))
 
-  -- the lowest thing with P, where the others have N
+  -- in the words of a property: all things have N
+  pub first-none-of : {N : ℕ → Type 0} (n : ℕ) → ((a : ℕ) → Among n a → (p a ≡ false) ↔ N a) → (first n p ≡ 0) ↔ ((a : ℕ) → Among n a → N a)
+  first-none-of n hasNot = (λ e a w. hasNot a w .0 (first-none n .0 e a w), λ h. first-none n .1 (λ a w. hasNot a w .1 (h a w)))
+
+  -- or the lowest thing with P, where the others have N
   pub first-lowest-of : {P N : ℕ → Type 0} (n : ℕ) → ((a : ℕ) → Among n a → (p a ≡ true) ↔ P a) → ((a : ℕ) → Among n a → (p a ≡ false) ↔ N a)
       → (a : ℕ) → 1 ≤ a → (first n p ≡ a) ↔ LowestOf n P N a
   first-lowest-of n has hasNot a l = (

@@ -1,5 +1,5 @@
--- Tests that are true: what a conjunction, a disjunction, an implication and a range test tell, two tests that say the same, and what holds
--- whichever way a test goes, and is answered then.
+-- Tests that are true: what a comparison, a conjunction, a disjunction, an implication and a range test tell, two tests that say the same, and what
+-- holds whichever way a test goes, and is answered then.
 -- Assumes nothing.
 use Prim.Native.Nat.{ℕ, _≤_, _<_}
 use mathlib.Core.Path.{_≡_, refl, sym, _∙_}
