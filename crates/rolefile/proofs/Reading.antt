@@ -7,9 +7,8 @@ use mathlib.Core.Bool.{Bool, true, false, _&&_, cond}
 use native.Mathlib.Omega.{arith}
 use lib.Dec.{eqb}
 use lib.ListN.{length, getD, List·getD-eq-default}
-use borrow.Author.Tests.{eqb-true, eq-eqb}
 use denote.Enum.Declared
-use Rattle.search.proofs.Truth.{and-iff, same}
+use Rattle.search.proofs.Truth.{eqb-iff, and-both, same}
 use types.Run
 use Rattle.rolefile.specs.declared.Field.{Field}
 use Rattle.rolefile.specs.declared.Field.the-variants.{Blank, Number, Bad}
@@ -31,13 +30,12 @@ module _ (f : List ℕ) (at : ℕ) where
     where
       to : (eqb (four f at) 538976288 && eqb (getD f (at + 4) 0) 32) ≡ true → fits false (fieldAt f at) ≡ true
       to e =
-          let (q, r) = and-iff (eqb (four f at) 538976288) (eqb (getD f (at + 4) 0) 32) .0 e in
-          let h = eqb-true (four f at) 538976288 q in
+          let (h, e₄) = and-both (eqb-iff (four f at) 538976288) (eqb-iff (getD f (at + 4) 0) 32) .0 e in
           let e₃ : getD f (at + 3) 0 ≡ 32 = omega arith in
           let e₂ : getD f (at + 2) 0 ≡ 32 = omega arith in
           let e₁ : getD f (at + 1) 0 ≡ 32 = omega arith in
           let e₀ : getD f at 0 ≡ 32 = omega arith in
-          let b : fieldAt f at ≡ Blank = field-blank f at .1 (rw (e₀, e₁, e₂, e₃, eqb-true (getD f (at + 4) 0) 32 r)) in
+          let b : fieldAt f at ≡ Blank = field-blank f at .1 (rw (e₀, e₁, e₂, e₃, e₄)) in
           rw b
 
       of : fits false (fieldAt f at) ≡ true → (eqb (four f at) 538976288 && eqb (getD f (at + 4) 0) 32) ≡ true
@@ -48,7 +46,7 @@ module _ (f : List ℕ) (at : ℕ) where
           let e₂ : getD f (at + 2) 0 ≡ 32 = cc in
           let e₃ : getD f (at + 3) 0 ≡ 32 = cc in
           let e₄ : getD f (at + 4) 0 ≡ 32 = cc in
-          and-iff (eqb (four f at) 538976288) (eqb (getD f (at + 4) 0) 32) .1 (eq-eqb (four f at) 538976288 (omega arith), eq-eqb (getD f (at + 4) 0) 32 e₄)
+          and-both (eqb-iff (four f at) 538976288) (eqb-iff (getD f (at + 4) 0) 32) .1 (omega arith, e₄)
 
 -- what is taken out of a field without use
 pub taken-blank : (f : Field) → fits false f ≡ true → Number 0 ≡ takenOut false f

@@ -7,12 +7,12 @@ use native.Mathlib.Nat.{add-sub-cancel}
 use native.Mathlib.Omega.{arith}
 use lib.Dec.{eqb, leb}
 use borrow.Author.Tests.{eqb-true, eqb-false, ne-eqb, leb-false}
-use Rattle.search.proofs.Truth.{and-iff, untrue}
+use Rattle.search.proofs.Truth.{and-iff, false-iff}
 use Rattle.rolefile.specs.declared.Line.{Line}
 use Rattle.rolefile.specs.declared.Verdict.{Verdict}
 use Rattle.rolefile.specs.declared.check.Seen.{Seen}
 use Rattle.rolefile.specs.Line.{lineAt, lines}
-use Rattle.rolefile.specs.Form.{refusal, sized, header, headVerdict, bodyVerdict, lineVerdict, scan, linesVerdict}
+use Rattle.rolefile.specs.Form.{refusal, header, headVerdict, bodyVerdict, lineVerdict, scan, linesVerdict}
 use Rattle.rolefile.specs.Scan.{seen, goesOn, looked}
 use Rattle.rolefile.specs.WellFormed.{Sized}
 use Rattle.rolefile.proofs.Verdicts.{scan-last, scan-stays}
@@ -48,7 +48,7 @@ ended-seen f k s w e g = rw e (ends (eqb (scan (k - 1) (lineVerdict f) .number) 
 module _ (f : List ℕ) where
   pub bad-size : (Sized f → ⊥) → refusal 1 0 0 ≡ linesVerdict f
   unfolding linesVerdict
-  bad-size h = rw (untrue (sized f) (λ e. h (sized-iff f .0 e)))
+  bad-size h = rw (false-iff (sized-iff f) .1 h)
 
   pub good-size : Sized f → scan (lines f) (lineVerdict f) ≡ linesVerdict f
   unfolding linesVerdict
