@@ -3,12 +3,12 @@ use Prim.Native.Nat.{ℕ, zero, suc, _<_}
 use mathlib.Core.Path.{_≡_}
 use mathlib.Core.Logic.{_⊎_, inl, inr, ⊎-elim}
 use mathlib.Core.List.{List}
-use mathlib.Core.Bool.{Bool, true, _&&_}
+use mathlib.Core.Bool.{Bool, true}
 use native.Mathlib.Omega.{arith}
 use lib.Dec.{eqb}
 use borrow.Author.Tests.{eqb-true}
 use Rattle.search.specs.Search.{Among}
-use Rattle.search.proofs.Truth.{and-iff, either-by}
+use Rattle.search.proofs.Truth.{eqb-iff, and-iff, and-both, either-by}
 use Rattle.search.proofs.Found.{some-iff, not-last}
 use Rattle.order.specs.Closure.{Relation, via, closure}
 use Rattle.order.proofs.Closure.{ways, same-or-path}
@@ -47,12 +47,11 @@ module _ (f : List ℕ) (good : GoodLines f) where
   unfolding says
   said-known k x y z after h =
       let (i, w, e) = some-iff (λ i. is (lineAt f i) k x y z) (lines f) .0 h in
-      let (l, q) = and-iff (eqb (lineAt f i .letter) k) (eqb (lineAt f i .a) x && (eqb (lineAt f i .b) y && eqb (lineAt f i .c) z)) .0 e in
-      let (a, r) = and-iff (eqb (lineAt f i .a) x) (eqb (lineAt f i .b) y && eqb (lineAt f i .c) z) .0 q in
-      let (b, c) = and-iff (eqb (lineAt f i .b) y) (eqb (lineAt f i .c) z) .0 r in
-      let letter = eqb-true (lineAt f i .letter) k l in
+      let l = lineAt f i in
+      let tests = and-both (eqb-iff (l .letter) k) (and-both (eqb-iff (l .a) x) (and-both (eqb-iff (l .b) y) (eqb-iff (l .c) z))) in
+      let (letter, (a, (b, c))) = tests .0 e in
       let g = numbers-known f good k after i w letter in
-      (rw (letter, eqb-true (lineAt f i .a) x a) at (g .one), rw (letter, eqb-true (lineAt f i .b) y b) at (g .two))
+      (rw (letter, a) at (g .one), rw (letter, b) at (g .two))
 
   pub over-between : Between (labels f) (over f)
   over-between a b h = rw (limits-d (header f) .0, limits-d (header f) .1) at (said-known D a b 0 (omega arith) h)
