@@ -1,7 +1,7 @@
 -- Which places are open and what is held, by the calls: a session is at a place exactly since an opening that was done, and holds a role exactly since a taking that was done. Each
 -- call begins such a thing, ends it or leaves it, and the rest is induction along the list. Assumes nothing.
 use Prim.Native.Nat.{ℕ, zero, suc}
-use mathlib.Core.Path.{_≡_, refl, sym, ap}
+use mathlib.Core.Path.{_≡_, refl, ap, _∙_}
 use mathlib.Core.Logic.{_↔_, _⊎_, inl, inr, ⊎-elim}
 use mathlib.Core.List.{List, [], _∷_, _++_}
 use mathlib.Core.Bool.{Bool, true, false, not, _&&_, false≢true, and-false}
@@ -11,7 +11,7 @@ use native.Mathlib.Decide.{ℕ-discrete}
 use lib.Dec.{eqb}
 use borrow.Author.Tests.{eqb-true, eq-eqb, ne-eqb, not-true}
 use Rattle.search.specs.Search.{Among}
-use Rattle.search.proofs.Truth.{or-iff, and-iff, among-iff, untrue, both}
+use Rattle.search.proofs.Truth.{or-iff, and-iff, among-iff, untrue, both, eqb-swap}
 use Rattle.rolefile.specs.Said.{roles}
 use Rattle.monitor.specs.Calls.{unless, ifDone}
 use Rattle.monitor.specs.Runs.{Call, opens, closes, takes, drops, reads, writes}
@@ -232,8 +232,8 @@ module _ (f : List ℕ) (cs : List Call) (p : ℕ) where
     keeps = λ q s g. or-iff (s .held r) (eqb r q) .1 (inl g);
     dropped = λ q s g.
         let (h, n) = and-iff (s .held r) (not (eqb r q)) .0 g in
-        (h, untrue (eqb q r) (λ e. both (eq-eqb r q (sym (eqb-true q r e))) (not-true (eqb r q) n)));
-    spares = λ q s g e. rw (g, ne-eqb r q (λ i. both (eq-eqb q r (sym i)) e));
+        (h, eqb-swap q r ∙ not-true (eqb r q) n);
+    spares = λ q s g e. rw (g, eqb-swap r q ∙ e);
     role = λ f s a g q e. rw (eqb-true q r e) (a .roles r g .0);
   }
 
