@@ -29,11 +29,15 @@ among-more P n all last a w = ⊎-elim (λ e. rw e last) (all a) (last-or n a w)
 pub among-next : (P : ℕ → Type 0) (i : ℕ) → ((a : ℕ) → Among i a → P a) → P (i + 1) → (a : ℕ) → Among (i + 1) a → P a
 among-next P i all last = rw add-one (among-more P i all (rw add-one at last))
 
--- the lowest of the things 1 to m is the lowest of more of them
-pub lowest-more : {m n a : ℕ} {P N : ℕ → Type 0} → m ≤ n → LowestOf m P N a → LowestOf n P N a
-lowest-more l low =
+-- the lowest of the things 1 to m is the lowest of more of them, and of what its properties tell
+lowest-as : {m n a : ℕ} {P N Q M : ℕ → Type 0} → m ≤ n → ((b : ℕ) → Among m b → P b → Q b) → ((b : ℕ) → Among m b → N b → M b)
+    → LowestOf m P N a → LowestOf n Q M a
+lowest-as {m} {a = a} l has hasNot low =
     let w = low .inside in
-    record { inside = omega arith; holds = low .holds; lower = λ b v k. low .lower b (omega arith) k }
+    record { inside = omega arith; holds = has a w (low .holds); lower = λ b v k. let u : Among m b = omega arith in hasNot b u (low .lower b u k) }
+
+pub lowest-more : {m n a : ℕ} {P N : ℕ → Type 0} → m ≤ n → LowestOf m P N a → LowestOf n P N a
+lowest-more l low = lowest-as l (λ b u h. h) (λ b u h. h) low
 
 module _ (p : ℕ → Bool) where
   -- a thing that has p is not the last, which has not
@@ -124,12 +128,8 @@ module _ (p : ℕ → Bool) where
   pub first-lowest-of : {P N : ℕ → Type 0} (n : ℕ) → ((a : ℕ) → Among n a → (p a ≡ true) ↔ P a) → ((a : ℕ) → Among n a → (p a ≡ false) ↔ N a)
       → (a : ℕ) → 1 ≤ a → (first n p ≡ a) ↔ LowestOf n P N a
   first-lowest-of n has hasNot a l = (
-    λ e.
-        let low = first-lowest n a l .0 e in
-        record { inside = low .inside; holds = has a (low .inside) .0 (low .holds); lower = λ b w k. hasNot b w .0 (low .lower b w k) },
-    λ low.
-        first-lowest n a l .1
-        (record { inside = low .inside; holds = has a (low .inside) .1 (low .holds); lower = λ b w k. hasNot b w .1 (low .lower b w k) }),
+    λ e. lowest-as (omega arith) (λ b w. has b w .0) (λ b w. hasNot b w .0) (first-lowest n a l .0 e),
+    λ low. first-lowest n a l .1 (lowest-as (omega arith) (λ b w. has b w .1) (λ b w. hasNot b w .1) low),
   )
 
   pub first-within : (n : ℕ) → first n p ≤ n
@@ -220,13 +220,7 @@ module _ (m n : ℕ) (l : m ≤ n) where
 
       go : (a : ℕ) → Finds p m a → Finds q n a
       go zero none = λ a w. elim (decLt m a) [ yes k ↦ high a w k | no k ↦ let v : Among m a = omega arith in low a v ∙ none a v ]
-      go (suc a) f =
-          let w = f .inside in
-          record {
-            inside = omega arith;
-            holds = low (suc a) w ∙ f .holds;
-            lower = λ b v k. let u : Among m b = omega arith in low b u ∙ f .lower b u k;
-          }
+      go (suc a) f = lowest-as l (λ b u e. low b u ∙ e) (λ b u e. low b u ∙ e) f
 
   pub every-cut : (s t p : ℕ → Bool) → ((a : ℕ) → Among n a → t a ≡ (leb a m && s a))
       → every n (λ a. implies (t a) (p a)) ≡ every m (λ a. implies (s a) (p a))
