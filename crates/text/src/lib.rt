@@ -41,7 +41,6 @@ fn digit(n: u64) -> u8
 // whole, and the last five digits of any other.
 fn columns(used: bool, n: u64) -> [u8; 5]
     ensures { λ r. ⌜ 5 ≡ length r ⌝ }
-    ensures { λ r. ⌜ (n < 100000 → r ≡ columnsOf used n) ⌝ }
     ensures { λ r. ⌜ r ≡ lastColumns used n ⌝ }
 {
     if !used {
