@@ -20,24 +20,19 @@ use Rattle.policy.specs.Policy.{dominates, may}
 use Rattle.policy.specs.Accepted.{Accepted}
 use Rattle.policy.specs.Image.{Loaded, Allows}
 use Rattle.policy.proofs.Meaning.{counts-known}
+use Rattle.policy.specs.Tables.{tableOf}
+use Rattle.policy.proofs.Relating.{by-mode}
 use Rattle.monitor.specs.Session.{labelsIn, usersIn, cardsIn, cleared, entitled, fitting}
 use Rattle.monitor.specs.Calls.{unless, ifDone}
 use Rattle.monitor.specs.Runs.{Call, opens, takes, Memory, after, run}
 use Rattle.monitor.specs.Rules.{Session, Sessions, noSessions, entitledByFile, fittingByFile, givesByFile, openRule, takeRule, partRule, rule, sessionOf, holding, next, sessions}
-use Rattle.monitor.specs.Rights.{canNumber, tableOf, roleCould, could, Cans, canRule, couldByFile, useOf, CouldUse}
+use Rattle.monitor.specs.Rights.{canNumber, roleCould, could, Cans, canRule, couldByFile, useOf, CouldUse}
 use Rattle.monitor.proofs.Answers.{unless-done, figure-same}
 use Rattle.monitor.proofs.Orderly.{Orderly, opening, opening-done, taking, gives-iff, part-done}
 use Rattle.monitor.proofs.Stands.{Stands}
 use Rattle.monitor.proofs.InFile.{test-same, test-passed, sound-file, cleared-file, entitled-file, fitting-file}
 use Rattle.monitor.proofs.Places.{put-at}
 use Rattle.monitor.proofs.Demand2.{Runs, runs-next, runs-number, loaded-runs, left-runs}
-
--- the modes are 1 and 2
-by-mode : (P : ℕ → Type 0) → P 1 → P 2 → (m : ℕ) → Among 2 m → P m
-by-mode P reads writes zero w = absurd (omega arith)
-by-mode P reads writes (suc zero) w = reads
-by-mode P reads writes (suc (suc zero)) w = writes
-by-mode P reads writes (suc (suc (suc m))) w = absurd (omega arith)
 
 -- ---- by the file
 

@@ -10,8 +10,9 @@ use lib.ListN.{length}
 use Rattle.search.specs.Search.{among, Among}
 use Rattle.search.proofs.Truth.{leb-iff, and-both, among-iff, passed, failed, one-of, either}
 use Rattle.rolefile.proofs.Formed.{limits-iff}
+use Rattle.policy.specs.Tables.{tableOf}
 use Rattle.monitor.specs.Session.{sound, labelsIn, rolesIn, usersIn, cardsIn, inUse}
-use Rattle.monitor.specs.Rights.{canNumber, tableOf}
+use Rattle.monitor.specs.Rights.{canNumber}
 use Rattle.monitor.specs.Calls.{unless, ifDone, atSession, openNumber, closeNumber, takeNumber, dropNumber, partNumber}
 
 -- ---- a row of tests whose answers r are those of calls: a call's `ensures` is r ≡ t

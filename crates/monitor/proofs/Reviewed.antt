@@ -14,11 +14,11 @@ use Rattle.roleset.specs.Row.{member, rowOf}
 use Rattle.rolefile.specs.Said.{labels, roles, users, cards, clearance, assigned}
 use Rattle.rolefile.specs.WellFormed.{WellFormed}
 use Rattle.policy.specs.Policy.{dominates, senior, may}
-use Rattle.policy.specs.Tables.{word}
+use Rattle.policy.specs.Tables.{word, tableOf}
 use Rattle.policy.proofs.Meaning.{counts-known, role-few, marked-file}
 use Rattle.monitor.specs.Session.{sound, entitled, fitting}
 use Rattle.monitor.specs.Rules.{Sessions, entitledByFile, fittingByFile}
-use Rattle.monitor.specs.Rights.{tableOf, roleCould, could, couldByFile}
+use Rattle.monitor.specs.Rights.{roleCould, could, couldByFile}
 use Rattle.monitor.specs.Review.{knownCount, known, isLabel, isRole, isUser, isCard, clearanceOf, dominatesIn, seniorTo, assignedTo, entitledTo, mayOpen, mayTake, giveCard}
 use Rattle.monitor.proofs.Orderly.{Orderly}
 use Rattle.monitor.proofs.Stands.{Stands}

@@ -5,9 +5,8 @@ use mathlib.Core.List.{List}
 use mathlib.Core.Bool.{Bool, _&&_, cond}
 use Rattle.search.specs.Search.{among, some}
 use Rattle.roleset.specs.Row.{member, rowOf}
-use Rattle.policy.specs.Tables.{word, byteOf, marked, clearancesAt, seniorsAt, assignedAt}
+use Rattle.policy.specs.Tables.{word, byteOf, marked, clearancesAt, seniorsAt, assignedAt, tableOf}
 use Rattle.monitor.specs.Session.{sound, cleared, entitled, fitting}
-use Rattle.monitor.specs.Rights.{tableOf}
 
 -- how many things the count at `at` tells of: labels at 0, roles at 2, users at 4, cards at 6
 abbrev pub knownCount : List ℕ → ℕ → ℕ

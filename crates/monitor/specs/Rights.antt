@@ -9,7 +9,7 @@ use Rattle.search.specs.Search.{among, some}
 use Rattle.roleset.specs.Row.{member, rowOf}
 use Rattle.rolefile.specs.Said.{labels, roles, users, cards, clearance}
 use Rattle.policy.specs.Policy.{dominates, may}
-use Rattle.policy.specs.Tables.{readersAt, writersAt}
+use Rattle.policy.specs.Tables.{tableOf}
 use Rattle.monitor.specs.Session.{sound, labelsIn, rolesIn, usersIn, cardsIn, cleared, entitled, fitting}
 use Rattle.monitor.specs.Calls.{unless, ifDone}
 use Rattle.monitor.specs.Runs.{Call, opens, takes, reads, writes, Memory, number, after}
@@ -26,10 +26,6 @@ canNumber xs u l o m =
     (unless (among 2 m) 25
     (unless (cleared xs u l) 26
     0)))))
-
--- the table of those who may read (m = 1) or write (m = 2)
-abbrev pub tableOf : ℕ → ℕ
-tableOf m = cond (eqb m 1) readersAt writersAt
 
 -- the user may take role r at the label, and it gives the card by the table at `at`
 unfoldable pub roleCould : List ℕ → ℕ → ℕ → ℕ → ℕ → ℕ → Bool

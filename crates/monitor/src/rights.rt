@@ -9,6 +9,7 @@ ghost use lib.ListN.{length};
 ghost use Rattle.search.specs.Search.{Among};
 ghost use Rattle.monitor.specs.Session.{rolesIn};
 ghost use Rattle.monitor.specs.Calls.{ifDone};
+ghost use Rattle.policy.specs.Tables.{tableOf};
 ghost use Rattle.monitor.specs.Rights as rights;
 
 pub fn can_number(s: &[u8], user: u64, label: u64, card: u64, mode: u64) -> u64
@@ -67,7 +68,7 @@ fn could(s: &[u8], user: u64, label: u64, card: u64, at: u64) -> bool
 
 // Where the table of a mode starts.
 pub fn table_of(mode: u64) -> u64
-    ensures { λ r. ⌜ r ≡ rights.tableOf mode ⌝ }
+    ensures { λ r. ⌜ r ≡ tableOf mode ⌝ }
 {
     if mode == 1 {
         return 12304;
@@ -77,7 +78,7 @@ pub fn table_of(mode: u64) -> u64
 
 pub fn can_figure(s: &[u8], user: u64, label: u64, card: u64, mode: u64, number: u64) -> u64
     requires { ⌜ number ≡ rights.canNumber (now s) user label card mode ⌝ }
-    ensures { λ r. ⌜ r ≡ ifDone (rights.canNumber (now (s .entry)) user label card mode) (cond (rights.could (now (s .entry)) user label card (rights.tableOf mode)) 1 0) 0 ⌝ }
+    ensures { λ r. ⌜ r ≡ ifDone (rights.canNumber (now (s .entry)) user label card mode) (cond (rights.could (now (s .entry)) user label card (tableOf mode)) 1 0) 0 ⌝ }
 {
     if number != 0 {
         return 0;

@@ -1,6 +1,5 @@
 -- Bounds of a set s : ℕ → Bool of things in an order ge of the things 1 to n: `ge c x`, c is over x or is x.
---     lub n ge s                    the least upper bound of s, or 0
---     glb n ge s                    the greatest lower bound: the least upper bound in the order turned round
+--     lub n ge s                    the least upper bound of s, or 0; in the order turned round, the greatest lower bound
 --     partnerWithoutBound n ge a    the lowest b after a with which a has no least upper bound, or 0
 --     lowestWithoutBound n ge       the lowest a with such a b, or 0: with it, the first pair without a least upper bound
 --     IsLub, IsGlb, Joined, FirstPair say the same as properties
@@ -29,9 +28,6 @@ least n ge s = first n (isLeast n ge s)
 
 unfoldable pub lub : ℕ → Relation → (ℕ → Bool) → ℕ
 lub n ge s = least n ge (upper n ge s)
-
-abbrev pub glb : ℕ → Relation → (ℕ → Bool) → ℕ
-glb n ge s = lub n (converse ge) s
 
 -- the set of a and b
 abbrev pub pair : ℕ → ℕ → ℕ → Bool

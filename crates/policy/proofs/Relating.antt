@@ -1,5 +1,5 @@
 -- Tables of role sets that lines fill: one row changes at a time, and what the lines so far say adds up. Assumes nothing.
-use Prim.Native.Nat.{ℕ, _+_, _*_, _≤_}
+use Prim.Native.Nat.{ℕ, zero, suc, _+_, _-_, _*_, _≤_}
 use mathlib.Core.Path.{_≡_, refl, sym, ap, _∙_}
 use mathlib.Core.Logic.{inl, inr}
 use mathlib.Core.Bool.{Bool, false, _&&_, _||_, or-false, or-assoc, and-comm, and-false}
@@ -16,7 +16,7 @@ use Rattle.roleset.specs.Row.{member, rowOf, added, joined, Kept, Placed}
 use Rattle.roleset.proofs.Rows.{row-kept, rows-apart, whole-true, zero-row}
 use Rattle.order.specs.Closure.{Relation}
 use Rattle.rolefile.specs.Section.{one, two, three}
-use Rattle.policy.specs.Tables.{seniorsAt, readersAt, modeAt, pairs, lineGrants, grantedByLines, Related, GrantedRows, Unites}
+use Rattle.policy.specs.Tables.{seniorsAt, readersAt, tableOf, pairs, lineGrants, grantedByLines, Related, GrantedRows, Unites}
 use Rattle.policy.specs.Stages.{Zeros}
 
 -- where one row of a table is placed, the others stay
@@ -102,41 +102,55 @@ Said = ℕ → ℕ → ℕ → Bool
 
 pub granted-none : (said : Said) (xs : List ℕ) → ((d o r : ℕ) → Among 2 d → Among 512 o → said d o r ≡ false) → GrantedRows said xs xs
 granted-none said xs h = record {
-  rows = λ d m. unites-none (modeAt d) 512 (said d) xs (λ o r v w. h d o r m v);
+  rows = λ d m. unites-none (tableOf d) 512 (said d) xs (λ o r v w. h d o r m v);
   rest = λ i out. refl;
 }
 
 pub granted-as : {said told : Said} {xs ys : List ℕ} → ((d o r : ℕ) → said d o r ≡ told d o r) → GrantedRows said xs ys → GrantedRows told xs ys
 granted-as {said} {told} {xs} {ys} e t = record {
-  rows = λ d m. unites-as (modeAt d) 512 (said d) xs (told d) ys (e d) (t .rows d m);
+  rows = λ d m. unites-as (tableOf d) 512 (said d) xs (told d) ys (e d) (t .rows d m);
   rest = t .rest;
 }
 
 pub granted-more : {said more : Said} {xs ys zs : List ℕ} → GrantedRows said xs ys → GrantedRows more ys zs → GrantedRows (λ d o r. said d o r || more d o r) xs zs
 granted-more {said} {more} {xs} {ys} {zs} t u = record {
-  rows = λ d m. unites-more (modeAt d) 512 (said d) xs (more d) ys zs (t .rows d m) (u .rows d m);
+  rows = λ d m. unites-more (tableOf d) 512 (said d) xs (more d) ys zs (t .rows d m) (u .rows d m);
   rest = λ i out. u .rest i out ∙ t .rest i out;
 }
 
+-- a mode is 1 or 2
+pub by-mode : (P : ℕ → Type 0) → P 1 → P 2 → (m : ℕ) → Among 2 m → P m
+by-mode P reads writes zero w = absurd (omega arith)
+by-mode P reads writes (suc zero) w = reads
+by-mode P reads writes (suc (suc zero)) w = writes
+by-mode P reads writes (suc (suc (suc m))) w = absurd (omega arith)
+
+-- the writers' table comes right after the readers'
+stands-at : (d : ℕ) → Among 2 d → tableOf d ≡ readersAt + 8192 * (d - 1)
+stands-at = by-mode (λ d. tableOf d ≡ readersAt + 8192 * (d - 1)) refl refl
+
 -- the seniors of a role joined into the card's row of the mode's table
 module _ (role card mode : ℕ) (xs ys : List ℕ) (fits : 28688 ≤ length xs) (v : Among 128 role) (w : Among 512 card) (m : Among 2 mode)
-    (p : Placed (rowOf (modeAt mode) card) (joined xs (rowOf (modeAt mode) card) (rowOf seniorsAt role)) xs ys) where
-  mode-rows : (d : ℕ) → Among 2 d → Unites (modeAt d) 512 (lineGrants xs role card mode d) xs ys
+    (p : Placed (rowOf (tableOf mode) card) (joined xs (rowOf (tableOf mode) card) (rowOf seniorsAt role)) xs ys) where
+  mode-rows : (d : ℕ) → Among 2 d → Unites (tableOf d) 512 (lineGrants xs role card mode d) xs ys
   mode-rows d n o r u t = elim (ℕ-discrete mode d) [
     | yes e ↦
         rw (← e, eq-eqb mode mode refl)
-        (row-united (modeAt mode) 512 card p w (λ r. among 128 role && member xs (rowOf seniorsAt role) r) (omega arith) o r u
+        (row-united (tableOf mode) 512 card p w (λ r. among 128 role && member xs (rowOf seniorsAt role) r) (omega (arith, stands-at mode m)) o r u
         (rw (among-iff 128 role .1 v, whole-true xs (rowOf seniorsAt role) (omega arith))))
     | no e ↦
         rw (ne-eqb mode d e, and-false (eqb card o))
-        (row-kept xs ys (p .rest) (rowOf (modeAt d) o) r (elim (decLt d mode) [ yes l ↦ inl (omega arith) | no l ↦ inr (omega arith) ])
-        ∙ sym (or-false (member xs (rowOf (modeAt d) o) r)))
+        (row-kept xs ys (p .rest) (rowOf (tableOf d) o) r (elim (decLt d mode) [
+        | yes l ↦ inl (omega (arith, stands-at d n, stands-at mode m))
+        | no l ↦ inr (omega (arith, stands-at d n, stands-at mode m))
+        ])
+        ∙ sym (or-false (member xs (rowOf (tableOf d) o) r)))
   ]
 
   pub granted : GrantedRows (lineGrants xs role card mode) xs ys
   granted = record {
     rows = mode-rows;
-    rest = λ i out. p .rest i (λ k. let far = out (omega arith) in omega arith);
+    rest = λ i out. p .rest i (λ k. let far = out (omega (arith, stands-at mode m)) in omega (arith, stands-at mode m));
   }
 
 -- numbers that are no role's, no card's or no mode's grant nothing

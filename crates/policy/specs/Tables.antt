@@ -42,6 +42,10 @@ readersAt = 12304
 abbrev pub writersAt : ℕ
 writersAt = 20496
 
+-- the table of those who may read, mode 1, or write, mode 2
+abbrev pub tableOf : ℕ → ℕ
+tableOf m = cond (eqb m 1) readersAt writersAt
+
 -- the state's size
 abbrev pub stateSize : ℕ
 stateSize = 65536
@@ -117,13 +121,9 @@ pub record Bytes (at size : ℕ) (v : ℕ → ℕ) (xs ys : List ℕ) : Type 0 w
   pub bytes : (x : ℕ) → Among size x → byteOf ys at x ≡ v x
   pub rest : Kept at (at + size) xs ys
 
--- where the table of a mode begins: that of the readers, mode 1, or that of the writers, mode 2
-abbrev pub modeAt : ℕ → ℕ
-modeAt d = readersAt + 8192 * (d - 1)
-
 -- the rows of both tables, each with what `said` gives for its mode
 pub record GrantedRows (said : ℕ → ℕ → ℕ → Bool) (xs ys : List ℕ) : Type 0 where
-  pub rows : (d : ℕ) → Among 2 d → Unites (modeAt d) 512 (said d) xs ys
+  pub rows : (d : ℕ) → Among 2 d → Unites (tableOf d) 512 (said d) xs ys
   pub rest : Kept readersAt 28688 xs ys
 
 -- tables of marks: t has those of the first m lines of the part p

@@ -9,7 +9,7 @@ use Rattle.search.specs.Search.{Among}
 use Rattle.search.proofs.Truth.{passed}
 use Rattle.roleset.specs.Row.{rowOf}
 use Rattle.roleset.proofs.Rows.{whole-true}
-use Rattle.monitor.specs.Rights.{tableOf}
+use Rattle.policy.specs.Tables.{tableOf}
 use Rattle.monitor.specs.Review.{giveCard}
 use Rattle.monitor.proofs.Answers.{table-low}
 use Rattle.monitor.proofs.Known.{tests, long, card}

@@ -1,7 +1,8 @@
 -- A report that is done is on a sound state, with numbers in range.
 use mathlib.Core.Path.{_≡_, sym, ap, _∙_}
 use denote.Ref.{now}
-use Rattle.monitor.specs.Rights.{tableOf, could}
+use Rattle.policy.specs.Tables.{tableOf}
+use Rattle.monitor.specs.Rights.{could}
 use borrow.Author.Needs.{needs}
 use Rattle.monitor.proofs.Answers.{left, kept, can-room, table-low}
 use Rattle.monitor.proofs.rights.can_figure.Statement.{statement}
