@@ -141,8 +141,8 @@ module _ (role card mode : ℕ) (xs ys : List ℕ) (fits : 28688 ≤ length xs) 
     | no e ↦
         rw (ne-eqb mode d e, and-false (eqb card o))
         (row-kept xs ys (p .rest) (rowOf (tableOf d) o) r (elim (decLt d mode) [
-        | yes l ↦ inl (omega (arith, stands-at d n, stands-at mode m))
-        | no l ↦ inr (omega (arith, stands-at d n, stands-at mode m))
+          | yes l ↦ inl (omega (arith, stands-at d n, stands-at mode m))
+          | no l ↦ inr (omega (arith, stands-at d n, stands-at mode m))
         ])
         ∙ sym (or-false (member xs (rowOf (tableOf d) o) r)))
   ]

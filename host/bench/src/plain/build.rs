@@ -1,7 +1,7 @@
 //! A policy built from a file, check by check, in the order in which a load checks.
 
 use super::levels::{gather, put_levels};
-use super::read::{split_letter, Line, LINE};
+use super::read::{split_letter, Line, Part, LINE};
 use super::{check, order, roleset, tables};
 use super::{
     ASSIGNED, CARD_LABELS, CLEARANCES, READERS, READ_LEVELS, SENIORS, WRITERS, WRITE_LEVELS,
@@ -18,23 +18,30 @@ fn put_counts(state: &mut [u8], head: &Line) {
     }
 }
 
-/// The whole check of a file, into a state of zeros.
-pub fn build(file: &[u8], state: &mut [u8]) -> Result<(), Verdict> {
-    let head = check::lines(file)?;
-    let [labels, roles, users, cards] = [head.a, head.b, head.c, head.d].map(|n| n as usize);
-    let mut rest = &file[LINE..];
-    let [d, s, u, o, p, a] = b"DSUOPA".map(|letter| split_letter(&mut rest, letter));
+/// How many labels, roles, users and cards there are.
+struct Counts {
+    labels: usize,
+    roles: usize,
+    users: usize,
+    cards: usize,
+}
 
-    tables::note_labels(state, CLEARANCES, u);
-    tables::note_labels(state, CARD_LABELS, o);
-    if let Some(user) = tables::lowest_unlabelled(state, CLEARANCES, users) {
+/// 6, with clearances and card labels put into the state.
+fn note_labels(state: &mut [u8], n: &Counts, users: Part, cards: Part) -> Result<(), Verdict> {
+    tables::note_labels(state, CLEARANCES, users);
+    tables::note_labels(state, CARD_LABELS, cards);
+    if let Some(user) = tables::lowest_unlabelled(state, CLEARANCES, n.users) {
         return Err(refused(6, 1, user));
     }
-    if let Some(card) = tables::lowest_unlabelled(state, CARD_LABELS, cards) {
+    if let Some(card) = tables::lowest_unlabelled(state, CARD_LABELS, n.cards) {
         return Err(refused(6, 2, card));
     }
+    Ok(())
+}
 
-    let mut dominance = tables::dominance(d);
+/// 11 and 12; dominance where there is nothing to refuse.
+fn closed_dominance(lines: Part, labels: usize) -> Result<order::Table, Verdict> {
+    let mut dominance = tables::dominance(lines);
     order::close(&mut dominance, labels);
     let label = order::lowest_loop(&dominance, labels);
     if label != 0 {
@@ -44,34 +51,51 @@ pub fn build(file: &[u8], state: &mut [u8]) -> Result<(), Verdict> {
     if let Some((lower, higher)) = order::first_pair(&dominance, labels) {
         return Err(refused(12, lower, higher));
     }
+    Ok(dominance)
+}
 
-    tables::note_seniors(state, s);
+/// 13, with the seniors of each role put into the state.
+fn rank_roles(state: &mut [u8], lines: Part, roles: usize) -> Result<(), Verdict> {
+    tables::note_seniors(state, lines);
     roleset::close(state, SENIORS, roles);
     let role = roleset::lowest_loop(state, SENIORS, roles);
     if role != 0 {
         return Err(refused(13, role, 0));
     }
     roleset::reflect(state, SENIORS, roles);
+    Ok(())
+}
 
-    tables::put_dominance(state, &dominance);
-    tables::grant(state, p);
-    let readers = gather(state, READERS, cards);
-    let up = order::turned(&dominance);
-    put_levels(
-        &mut state[READ_LEVELS..READ_LEVELS + roles],
-        &readers,
-        &up,
-        labels,
-    );
-    let writers = gather(state, WRITERS, cards);
-    put_levels(
-        &mut state[WRITE_LEVELS..WRITE_LEVELS + roles],
-        &writers,
-        &dominance,
-        labels,
-    );
+/// Dominance, readers, writers and levels, put into the state.
+fn grant_all(state: &mut [u8], n: &Counts, dominance: &order::Table, lines: Part) {
+    tables::put_dominance(state, dominance);
+    tables::grant(state, lines);
+    let readers = gather(state, READERS, n.cards);
+    let up = order::turned(dominance);
+    let levels = &mut state[READ_LEVELS..READ_LEVELS + n.roles];
+    put_levels(levels, &readers, &up, n.labels);
+    let writers = gather(state, WRITERS, n.cards);
+    let levels = &mut state[WRITE_LEVELS..WRITE_LEVELS + n.roles];
+    put_levels(levels, &writers, dominance, n.labels);
+}
 
-    tables::judge_assignments(state, a)?;
+/// The whole check of a file, into a state of zeros.
+pub fn build(file: &[u8], state: &mut [u8]) -> Result<(), Verdict> {
+    let head = check::lines(file)?;
+    let [labels, roles, users, cards] = [head.a, head.b, head.c, head.d].map(|n| n as usize);
+    let n = Counts {
+        labels,
+        roles,
+        users,
+        cards,
+    };
+    let mut rest = &file[LINE..];
+    let [d, s, u, o, p, a] = b"DSUOPA".map(|letter| split_letter(&mut rest, letter));
+    note_labels(state, &n, u, o)?;
+    let dominance = closed_dominance(d, labels)?;
+    rank_roles(state, s, roles)?;
+    grant_all(state, &n, &dominance, p);
+    tables::judge_assignments(state.first_chunk().expect("a whole state"), a)?;
     tables::note_assigned(state, ASSIGNED, a);
     put_counts(state, &head);
     Ok(())

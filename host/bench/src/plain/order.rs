@@ -39,7 +39,8 @@ pub fn turned(table: &Table) -> Table {
     turned
 }
 
-fn first_labels(n: usize) -> Set {
+/// The set of the first n labels.
+pub fn first_labels(n: usize) -> Set {
     let mut set = [false; 32];
     set[..n].fill(true);
     set
@@ -65,9 +66,9 @@ fn greatest(table: &Table, set: &Set) -> usize {
         .map_or(0, |i| i + 1)
 }
 
-/// The greatest lower bound of the set among the first n labels, or 0.
-pub fn greatest_lower(table: &Table, n: usize, set: &Set) -> usize {
-    let mut bounds = first_labels(n);
+/// The greatest of the labels of `all` that are under each of the set, of which the first n count, or 0.
+pub fn greatest_lower(table: &Table, n: usize, all: &Set, set: &Set) -> usize {
+    let mut bounds = *all;
     for i in 0..n {
         if set[i] {
             narrow(&mut bounds, &table[i]);

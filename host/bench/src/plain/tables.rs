@@ -3,6 +3,7 @@
 use super::order::Table;
 use super::read::Part;
 use super::roleset::{add, row, row_mut, taken, unite};
+use super::state::{dominates, State};
 use super::{
     CLEARANCES, DOMINANCE, READERS, READ_LEVELS, SENIORS, UNDEFINED, WRITERS, WRITE_LEVELS,
 };
@@ -65,14 +66,8 @@ pub fn grant(state: &mut [u8], part: Part) {
     }
 }
 
-fn dominates(state: &[u8], a: u8, b: u8) -> bool {
-    (1..=32).contains(&a)
-        && (1..=32).contains(&b)
-        && state[DOMINANCE + 32 * (a as usize - 1) + (b as usize - 1)] == 1
-}
-
 /// 14 to 16: each assignment against the levels of its role.
-pub fn judge_assignments(state: &[u8], part: Part) -> Result<(), Verdict> {
+pub fn judge_assignments(state: &State, part: Part) -> Result<(), Verdict> {
     for (user, role, _) in part.numbers() {
         let clearance = state[CLEARANCES + user - 1];
         let read = state[READ_LEVELS + role - 1];
@@ -80,10 +75,10 @@ pub fn judge_assignments(state: &[u8], part: Part) -> Result<(), Verdict> {
         if write == UNDEFINED {
             return Err(refused(14, user, role));
         }
-        if read != 0 && !dominates(state, clearance, read) {
+        if read != 0 && !dominates(state, clearance.into(), read.into()) {
             return Err(refused(15, user, role));
         }
-        if write != 0 && !dominates(state, write, clearance) {
+        if write != 0 && !dominates(state, write.into(), clearance.into()) {
             return Err(refused(16, user, role));
         }
     }
