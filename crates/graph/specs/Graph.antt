@@ -63,14 +63,16 @@ RoleTables juniors seniors flow leads = (2048 ≤ length juniors) × (2048 ≤ l
 -- ---- the lines of the text
 
 -- a line's start, with the name of a thing: `prefix` before its number
-abbrev pub name : List ℕ → ℕ → List ℕ
-name prefix a = ascii "    " ++ (prefix ++ digits a)
+abbrev pub lineStart : List ℕ → ℕ → List ℕ
+lineStart prefix a = ascii "    " ++ (prefix ++ digits a)
 
+-- a thing
 unfoldable pub node : List ℕ → Bool → ℕ → List ℕ
-node prefix red a = name prefix a ++ (ascii " [label=\"" ++ (digits a ++ cond red (ascii "\", color=red];\n") (ascii "\"];\n")))
+node prefix red a = lineStart prefix a ++ (ascii " [label=\"" ++ (digits a ++ cond red (ascii "\", color=red];\n") (ascii "\"];\n")))
 
+-- an edge, but for its end
 unfoldable pub edge : List ℕ → ℕ → ℕ → List ℕ
-edge prefix a b = name prefix a ++ (ascii " -> " ++ (prefix ++ digits b))
+edge prefix a b = lineStart prefix a ++ (ascii " -> " ++ (prefix ++ digits b))
 
 -- an edge from a up to b
 unfoldable pub orderEdge : List ℕ → ℕ → Relation → ℕ → ℕ → List ℕ

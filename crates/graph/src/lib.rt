@@ -111,9 +111,9 @@ fn direct_flow(juniors: &[u8], seniors: &[u8], flow: &[u8], n: usize, r: usize, 
 
 // Puts a line's start, with the name of a thing, into `out` after its first `at` bytes, and answers how
 // many are then in use.
-fn name(prefix: &[u8], a: u64, out: &mut [u8], at: usize) -> usize
+fn line_start(prefix: &[u8], a: u64, out: &mut [u8], at: usize) -> usize
     requires { ⌜ a < 100000 ⌝ }
-    ensures { λ r. ⌜ Puts (graph.name (now (prefix .entry)) a) at (now (out .entry)) r (now (out .exit)) ⌝ }
+    ensures { λ r. ⌜ Puts (graph.lineStart (now (prefix .entry)) a) at (now (out .entry)) r (now (out .exit)) ⌝ }
 {
     let mut used = text::put(out, at, b"    ");
     used = text::put(out, used, prefix);
@@ -121,13 +121,13 @@ fn name(prefix: &[u8], a: u64, out: &mut [u8], at: usize) -> usize
 }
 
 // Puts a line's end, of what is red or of what is not.
-fn ending(red: bool, one: &[u8], other: &[u8], out: &mut [u8], at: usize) -> usize
-    ensures { λ r. ⌜ Puts (cond red (now (one .entry)) (now (other .entry))) at (now (out .entry)) r (now (out .exit)) ⌝ }
+fn ending(red: bool, if_red: &[u8], if_not: &[u8], out: &mut [u8], at: usize) -> usize
+    ensures { λ r. ⌜ Puts (cond red (now (if_red .entry)) (now (if_not .entry))) at (now (out .entry)) r (now (out .exit)) ⌝ }
 {
     if red {
-        return text::put(out, at, one);
+        return text::put(out, at, if_red);
     }
-    text::put(out, at, other)
+    text::put(out, at, if_not)
 }
 
 // Puts a thing.
@@ -135,7 +135,7 @@ fn node(prefix: &[u8], red: bool, a: u64, out: &mut [u8], at: usize) -> usize
     requires { ⌜ a < 100000 ⌝ }
     ensures { λ r. ⌜ Puts (graph.node (now (prefix .entry)) red a) at (now (out .entry)) r (now (out .exit)) ⌝ }
 {
-    let mut used = name(prefix, a, out, at);
+    let mut used = line_start(prefix, a, out, at);
     used = text::put(out, used, b" [label=\"");
     used = text::number(out, used, a);
     ending(red, b"\", color=red];\n", b"\"];\n", out, used)
@@ -161,7 +161,7 @@ fn edge(prefix: &[u8], a: u64, b: u64, out: &mut [u8], at: usize) -> usize
     requires { ⌜ (a < 100000) × (b < 100000) ⌝ }
     ensures { λ r. ⌜ Puts (graph.edge (now (prefix .entry)) a b) at (now (out .entry)) r (now (out .exit)) ⌝ }
 {
-    let mut used = name(prefix, a, out, at);
+    let mut used = line_start(prefix, a, out, at);
     used = text::put(out, used, b" -> ");
     used = text::put(out, used, prefix);
     text::number(out, used, b)

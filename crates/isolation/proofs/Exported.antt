@@ -35,4 +35,4 @@ exported f accepted a b L label s₁ s₂ long same cs₁ cs₂ same-shared xs�
     let claim = isolation f accepted a b L label s₁ s₂ long same cs₁ cs₂ same-shared in
     let (x₁, y₁) = makes-run f L cs₁ noneOpen _ e₁ xs₁ makes₁ in
     let (x₂, y₂) = makes-run f L cs₂ noneOpen _ e₂ xs₂ makes₂ in
-    rw (x₁, x₂, y₁, y₂) (claim .answers, claim .cards)
+    rw (x₁, x₂, y₁, y₂) (record { answers = claim .answers; cards = claim .cards })

@@ -153,15 +153,15 @@ module _ (f : List ℕ) (accepted : Accepted f) (L : ℕ) (label : Among (labels
   unfolding shown sharedCalls run
   turn true t s₁ s₂ m₁ m₂ c cs h pair rest =
       let next-pair = shared-pair t s₁ s₂ m₁ m₂ pair c h in
-      let (alike, end) = rest (track f t c) (next f s₁ c) (next f s₂ c) (after m₁ c) (after m₂ c) next-pair in
-      rw (h, h) ((same-answer t s₁ s₂ m₁ m₂ pair c h, next-pair .cards, alike), end)
+      let later = rest (track f t c) (next f s₁ c) (next f s₂ c) (after m₁ c) (after m₂ c) next-pair in
+      rw (h, h) (record { answers = (same-answer t s₁ s₂ m₁ m₂ pair c h, next-pair .cards, later .answers); cards = later .cards })
   turn false t s₁ s₂ m₁ m₂ c cs h pair rest =
       let (same, high) = other-call t c h in
       rw (h, same) (rest t (next f s₁ c) s₂ (after m₁ c) m₂ (other-pair t s₁ s₂ m₁ m₂ pair c h))
 
   like-shared : (cs : List Call) (t : Open) (s₁ s₂ : Sessions) (m₁ m₂ : Memory) → Pair t s₁ s₂ m₁ m₂ → Like t m₁ m₂ cs (sharedCalls f L t cs)
   unfolding shown sharedCalls run
-  like-shared [] t s₁ s₂ m₁ m₂ pair = (tt, pair .cards)
+  like-shared [] t s₁ s₂ m₁ m₂ pair = record { answers = tt; cards = pair .cards }
   like-shared (c ∷ cs) t s₁ s₂ m₁ m₂ pair = turn (shared f L t c) t s₁ s₂ m₁ m₂ c cs refl pair (like-shared cs)
 
 -- two lists like a third are alike
@@ -184,9 +184,9 @@ isolation f accepted a b L label s₁ s₂ long same cs₁ cs₂ same-shared =
     let r₂ : Runs f noSessions (length s₁) m₂ = rw (← long) at (loaded-runs f accepted (b .before) (b .state) (b .verdict) (b .enough) (b .load) s₂) in
     let begins : (m : Memory) → Runs f noSessions (length s₁) m → SameCards f L (m .store) s₁ → Pair f accepted L label (length s₁) noneOpen noSessions noSessions m m₁ =
     λ m r c. record { runs₁ = r; runs₂ = r₁; fits₁ = none-fits; fits₂ = none-fits; sessions = λ p k. refl; cards = c } in
-    let (x, end₁) = like-shared f accepted L label (length s₁) cs₁ noneOpen noSessions noSessions m₁ m₁ (begins m₁ r₁ (λ o i w d l. refl)) in
-    let (y, end₂) = rw (sym same-shared) at (like-shared f accepted L label (length s₁) cs₂ noneOpen noSessions noSessions m₂ m₁ (begins m₂ r₂ (λ o i w d l. sym (same o i w d l)))) in
+    let x = like-shared f accepted L label (length s₁) cs₁ noneOpen noSessions noSessions m₁ m₁ (begins m₁ r₁ (λ o i w d l. refl)) in
+    let y = rw (sym same-shared) at (like-shared f accepted L label (length s₁) cs₂ noneOpen noSessions noSessions m₂ m₁ (begins m₂ r₂ (λ o i w d l. sym (same o i w d l)))) in
     record {
-      answers = alike-both f L (shown f L noneOpen m₁ cs₁) (shown f L noneOpen m₂ cs₂) (shown f L noneOpen m₁ (sharedCalls f L noneOpen cs₁)) x y;
-      cards = λ o i w d l. end₁ o i w d l ∙ sym (end₂ o i w d l);
+      answers = alike-both f L (shown f L noneOpen m₁ cs₁) (shown f L noneOpen m₂ cs₂) (shown f L noneOpen m₁ (sharedCalls f L noneOpen cs₁)) (x .answers) (y .answers);
+      cards = λ o i w d l. x .cards o i w d l ∙ sym (y .cards o i w d l);
     }

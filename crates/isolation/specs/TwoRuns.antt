@@ -92,9 +92,10 @@ Alike f L [] (y ∷ ys) = ⊥
 Alike f L (x ∷ xs) [] = ⊥
 Alike f L (x ∷ xs) (y ∷ ys) = (x .answer ≡ y .answer) × SameCards f L (x .store) (y .store) × Alike f L xs ys
 
--- two runs alike for L: what each shows, and the cards at the end
-abbrev pub SameFor : List ℕ → ℕ → List Shown → List Shown → Memory → Memory → Type 0
-SameFor f L xs₁ xs₂ e₁ e₂ = Alike f L xs₁ xs₂ × SameCards f L (e₁ .store) (e₂ .store)
+-- two runs alike for L, by what each shows and by the memory at its end
+pub record SameFor (f : List ℕ) (L : ℕ) (xs₁ xs₂ : List Shown) (e₁ e₂ : Memory) : Type 0 where
+  pub answers : Alike f L xs₁ xs₂
+  pub cards : SameCards f L (e₁ .store) (e₂ .store)
 
 -- the state that one load of the file left, whatever 65,536 bytes or more were there before
 pub record Start (f : List ℕ) : Type 0 where
@@ -106,10 +107,9 @@ pub record Start (f : List ℕ) : Type 0 where
 
 -- ---- the claim, "about two whole lists of calls": each shared call gets the same number and bytes, and the cards under L are the same after each shared call and at the end
 
--- two memories and the calls on them
-pub record Claim (f : List ℕ) (L : ℕ) (m₁ m₂ : Memory) (cs₁ cs₂ : List Call) : Type 0 where
-  pub answers : Alike f L (shown f L noneOpen m₁ cs₁) (shown f L noneOpen m₂ cs₂)
-  pub cards : SameCards f L (run m₁ cs₁ .store) (run m₂ cs₂ .store)
+-- of two memories and the calls on them
+abbrev pub Claim : List ℕ → ℕ → Memory → Memory → List Call → List Call → Type 0
+Claim f L m₁ m₂ cs₁ cs₂ = SameFor f L (shown f L noneOpen m₁ cs₁) (shown f L noneOpen m₂ cs₂) (run m₁ cs₁) (run m₂ cs₂)
 
 -- what is claimed of the label, the memories and the calls holds of every two runs of the file that fall under demand 3; each may start from a load of its own
 abbrev pub OfTwoRuns : (f : List ℕ) → (ℕ → Memory → Memory → List Call → List Call → Type 0) → Type 0

@@ -67,8 +67,8 @@ pub record Case : Type 0 where
   pub expected : Findings
 
 -- the file that the document shows
-abbrev pub example : List String
-example =
+abbrev pub exampleFile : List String
+exampleFile =
     "H    2    2    1    2"
     ∷ "D    2    1          "
     ∷ "S    2    1          "
@@ -84,7 +84,7 @@ unfoldable pub cases : List Case
 cases =
     record {
       -- "the file above: accepted"
-      file = example;
+      file = exampleFile;
       expected = record { verdict = fine; rows = (1, 1, 0) ∷ (2, 1, 2) ∷ []; circle = some 0; flows = (1, 2, false) ∷ (2, 1, false) ∷ []; calls = [] };
     }
     ∷ record {
@@ -213,7 +213,7 @@ cases =
     }
     ∷ record {
       -- "user 1 at label 1 takes role 2, writes card 2: 0, reads card 2: 29", of the file above
-      file = example;
+      file = exampleFile;
       expected = record {
         verdict = fine;
         rows = [];

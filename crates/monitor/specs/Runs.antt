@@ -28,12 +28,12 @@ number m (writes p o k bytes) = writeNumber (m .state) (m .store) p o k bytes
 
 -- the bytes of the part that a read answered with this number hands back; the other calls hand back none
 unfoldable pub partOf : ℕ → List ℕ → Call → List ℕ
-partOf number store (opens p u l) = []
-partOf number store (closes p) = []
-partOf number store (takes p r) = []
-partOf number store (drops p r) = []
-partOf number store (reads p o k n) = partBytes number store o k n
-partOf number store (writes p o k bytes) = []
+partOf told store (opens p u l) = []
+partOf told store (closes p) = []
+partOf told store (takes p r) = []
+partOf told store (drops p r) = []
+partOf told store (reads p o k n) = partBytes told store o k n
+partOf told store (writes p o k bytes) = []
 
 abbrev pub part : Memory → Call → List ℕ
 part m c = partOf (number m c) (m .store) c
@@ -48,12 +48,12 @@ stateAfter m (writes p o k bytes) = m .state
 
 -- the store that a call answered with this number leaves
 unfoldable pub storeOf : ℕ → List ℕ → Call → List ℕ
-storeOf number store (opens p u l) = store
-storeOf number store (closes p) = store
-storeOf number store (takes p r) = store
-storeOf number store (drops p r) = store
-storeOf number store (reads p o k n) = store
-storeOf number store (writes p o k bytes) = partStore number store o k bytes
+storeOf told store (opens p u l) = store
+storeOf told store (closes p) = store
+storeOf told store (takes p r) = store
+storeOf told store (drops p r) = store
+storeOf told store (reads p o k n) = store
+storeOf told store (writes p o k bytes) = partStore told store o k bytes
 
 abbrev pub storeAfter : Memory → Call → List ℕ
 storeAfter m c = storeOf (number m c) (m .store) c

@@ -13,7 +13,7 @@ use Rattle.search.proofs.Truth.{or-iff, and-iff, untrue, both, false-iff}
 use Rattle.search.proofs.Found.{last-or, among-next, first-none, first-agree}
 use Rattle.order.specs.Table.{Rows}
 use Rattle.order.specs.Bound.{converse}
-use Rattle.order.specs.Closure.{Relation, via, path, closure, circle, Reach, here, step, Onto, OnCircle, PartialOrder, Irreflexive, round}
+use Rattle.order.specs.Closure.{Relation, via, path, closure, circle, Reach, here, step, HasPath, OnCircle, PartialOrder, Irreflexive, round}
 
 -- a path past one thing more: one that was there, or two that meet in it
 module _ (e : Relation) (k a b : ℕ) where
@@ -74,7 +74,7 @@ module _ (e : Relation) where
     onward here s = s
     onward (step p w r) s = step p w (onward r s)
 
-    sound : (k a b : ℕ) → k ≤ n → Among n b → via e k a b ≡ true → Onto n e a b
+    sound : (k a b : ℕ) → k ≤ n → Among n b → via e k a b ≡ true → HasPath n e a b
     unfolding via
     sound zero a b l w p = (b, w, p, here)
     sound (suc k) a b l w p =
@@ -90,7 +90,7 @@ module _ (e : Relation) where
     complete {a} {b} p w here = single n a b p
     complete {a} {b} {c} p w (step q v r) = meeting n a b c w (single n a b p) (complete q v r)
 
-    pub path-iff : (a c : ℕ) → Among n c → (path n e a c ≡ true) ↔ Onto n e a c
+    pub path-iff : (a c : ℕ) → Among n c → (path n e a c ≡ true) ↔ HasPath n e a c
     path-iff a c w = (sound n a c (omega arith) w, λ (b, v, p, r). complete p v r)
 
     pub same-or-path : (a b : ℕ) → closure n e a b ≡ true → (a ≡ b) ⊎ (path n e a b ≡ true)

@@ -2,7 +2,7 @@
 --     path n e a b       b is reached from a by one step or more
 --     closure n e a b    the reflexive transitive closure: a is b, or b is reached from a
 --     circle n e         the lowest thing that is reached from itself, or 0
---     Reach, Onto, OnCircle, PartialOrder say the same as properties
+--     Reach, HasPath, OnCircle, PartialOrder say the same as properties
 -- Assumes nothing.
 use Prim.Native.Nat.{ℕ, zero, suc}
 use mathlib.Core.Path.{_≡_}
@@ -46,11 +46,11 @@ pub data Reach (n : ℕ) (e : Relation) : ℕ → ℕ → Type 0 where
   step : {a b c : ℕ} → e a b ≡ true → Among n b → Reach n e b c → Reach n e a c
 
 -- c is reached from a by one step or more: a step leads from a to some b, and from there c is reached
-abbrev pub Onto : ℕ → Relation → ℕ → ℕ → Type 0
-Onto n e a c = (b : ℕ) × Among n b × (e a b ≡ true) × Reach n e b c
+abbrev pub HasPath : ℕ → Relation → ℕ → ℕ → Type 0
+HasPath n e a c = (b : ℕ) × Among n b × (e a b ≡ true) × Reach n e b c
 
 abbrev pub OnCircle : ℕ → Relation → ℕ → Type 0
-OnCircle n e a = Onto n e a a
+OnCircle n e a = HasPath n e a a
 
 pub record PartialOrder (n : ℕ) (ge : Relation) : Type 0 where
   pub reflexive : (a : ℕ) → Among n a → ge a a ≡ true

@@ -100,8 +100,8 @@ fn lower_bounds(t: &[[bool; 32]; 32], n: usize, all: &[bool; 32], s: [bool; 32])
     r
 }
 
-// The greatest of the things of `all` that are under each of s, of which the first n count, or 0: where all are
-// the first n, the greatest lower bound. Who asks for many makes that set once.
+// The greatest of the things of `all` that are under each of s, of which the first n count, or 0. Where `all` is
+// the set of the first n, this is the greatest lower bound; who asks for many makes that set once.
 pub fn greatest_lower(t: &[[bool; 32]; 32], n: usize, all: &[bool; 32], s: [bool; 32]) -> usize
     ensures { λ r. ⌜ r ≡ least 32 (converse (mark (now (t .entry)))) (λ c. marks (now (all .entry)) c && upper (min n 32) (converse (mark (now (t .entry)))) (marks s) c) ⌝ }
 {

@@ -1,4 +1,4 @@
--- The tables of a policy in a list of bytes: where each stands, how it is read, and what the lines of a part put into it. Assumes nothing.
+-- The tables of a policy in a list of bytes: where each stands, how it is read, and what the lines of a part put into it; and the marks that lines make. Assumes nothing.
 use Prim.Native.Nat.{ℕ, zero, suc, _+_, _*_, _-_, _%_, min}
 use mathlib.Core.Path.{_≡_}
 use mathlib.Core.List.{List}
@@ -42,7 +42,7 @@ readersAt = 12304
 abbrev pub writersAt : ℕ
 writersAt = 20496
 
--- the table of those who may read, mode 1, or write, mode 2
+-- where the table starts of those who may read, mode 1, or write, mode 2; who uses it asks for a mode
 abbrev pub tableOf : ℕ → ℕ
 tableOf m = cond (eqb m 1) readersAt writersAt
 
@@ -78,13 +78,14 @@ pairs p m x y = some m (λ i. eqb (one p i) x && eqb (two p i) y)
 unfoldable pub noted : ℕ → ℕ → ℕ
 noted old l = cond (eqb old 0) (l % 256) 255
 
--- thing y's byte when a label is noted for thing x
-abbrev pub afterNote : List ℕ → ℕ → ℕ → ℕ → ℕ → ℕ
-afterNote xs at x label y = cond (eqb x y) (noted (byteOf xs at y) label) (byteOf xs at y)
-
+-- that byte after the first lines
 unfoldable pub notes : List ℕ → ℕ → ℕ → ℕ → ℕ
 notes p zero x old = old
 notes p (suc i) x old = cond (eqb (one p (suc i)) x) (noted (notes p i x old) (two p (suc i))) (notes p i x old)
+
+-- thing y's byte when a label is noted for thing x
+abbrev pub afterNote : List ℕ → ℕ → ℕ → ℕ → ℕ → ℕ
+afterNote xs at x label y = cond (eqb x y) (noted (byteOf xs at y) label) (byteOf xs at y)
 
 -- no label, or several
 abbrev pub unlabelledByte : ℕ → Bool
@@ -101,7 +102,7 @@ grantedByLines xs p m d o r = some m (λ i. lineGrants xs (one p i) (two p i) (t
 abbrev pub brings : List ℕ → ℕ → ℕ → ℕ → ℕ → Bool
 brings xs at l r o = eqb (byteOf xs cardLabelsAt o) l && member xs (rowOf at o) r
 
--- one of the first n cards does so
+-- one of the first n cards has label l, and r in its row
 unfoldable pub gathered : List ℕ → ℕ → ℕ → ℕ → ℕ → Bool
 gathered xs at n l r = some n (brings xs at l r)
 
@@ -121,7 +122,7 @@ pub record Bytes (at size : ℕ) (v : ℕ → ℕ) (xs ys : List ℕ) : Type 0 w
   pub bytes : (x : ℕ) → Among size x → byteOf ys at x ≡ v x
   pub rest : Kept at (at + size) xs ys
 
--- the rows of both tables, each with what `said` gives for its mode
+-- the readers' and the writers' rows, each with what `said` gives for its mode
 pub record GrantedRows (said : ℕ → ℕ → ℕ → Bool) (xs ys : List ℕ) : Type 0 where
   pub rows : (d : ℕ) → Among 2 d → Unites (tableOf d) 512 (said d) xs ys
   pub rest : Kept readersAt 28688 xs ys
@@ -147,9 +148,9 @@ flowing xs n r q = not (eqb r q) && some n (flowsByCard xs r q)
 abbrev pub pastCard : List ℕ → List ℕ → ℕ → Relation
 pastCard t xs o r q = related t 0 r q || flowsByCard xs r q o
 
--- what it says of two roles that are not the same
-abbrev pub apart : List ℕ → Relation
-apart t r q = related t 0 r q && not (eqb q r)
+-- and without a role's pair with itself
+abbrev pub withoutLoops : List ℕ → Relation
+withoutLoops t r q = related t 0 r q && not (eqb q r)
 
 -- the counts in a state, none above its limit
 abbrev pub rolesUpTo : List ℕ → ℕ

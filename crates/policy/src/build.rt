@@ -88,7 +88,7 @@ fn dominance(f: &[u8], q: Parts, h: Line) -> [[bool; 32]; 32]
 {
     let d = q.d;
     let lines = read::part(f, d.start);
-    let table = marks::table_of(lines, d.count);
+    let table = marks::marks_of(lines, d.count);
     order::marks::paths(table, h.a as usize)
 }
 

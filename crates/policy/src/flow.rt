@@ -7,7 +7,7 @@ ghost use Prim.Native.Nat.{ℕ, _+_, _≤_, _<_};
 ghost use lib.ListN.{length};
 ghost use Rattle.search.specs.Search.{some, Among};
 ghost use Rattle.order.specs.Table.{related, Tabled};
-ghost use Rattle.policy.specs.Tables.{rLevelsAt, wLevelsAt, flowsByCard, pastCard, apart, countIn, roleCount, levelIn, flowsIn, circleIn};
+ghost use Rattle.policy.specs.Tables.{rLevelsAt, wLevelsAt, flowsByCard, pastCard, withoutLoops, countIn, roleCount, levelIn, flowsIn, circleIn};
 
 // The count at `at` in the state, `most` where it is higher.
 fn count(s: &[u8], at: u16, most: usize) -> usize
@@ -118,7 +118,7 @@ fn flow_table(s: &[u8], n: usize) -> [u8; 2048]
 // Takes each role out of its own row.
 fn remove_itself(t: &mut [u8])
     requires { ⌜ 2048 ≤ length (now t) ⌝ }
-    ensures { λ _. ⌜ Tabled 0 128 (apart (now (t .entry))) (now (t .entry)) (now (t .exit)) ⌝ }
+    ensures { λ _. ⌜ Tabled 0 128 (withoutLoops (now (t .entry))) (now (t .entry)) (now (t .exit)) ⌝ }
 {
     let mut i = 0;
     while i < 128 {

@@ -10,7 +10,7 @@ ghost use Rattle.order.specs.Table.{marks, mark, FirstThings};
 ghost use Rattle.policy.specs.Policy.{level, levelNumber};
 ghost use Rattle.policy.specs.Tables.{brings, gathered, Bytes};
 
-// Joins the row of thing o + 1, of the table at `at`, into the row of its label.
+// Joins the row of card o + 1, of the table at `at`, into the row of its label.
 fn gather_one(g: &mut [u8; 512], s: &[u8], at: usize, o: usize)
     requires { ⌜ (at + 8192 ≤ length (now s)) × (1808 ≤ length (now s)) × (o < 512) ⌝ }
     ensures { λ _. ⌜ ((l r : ℕ) → Among 32 l → Among 128 r → member (now (g .exit)) (rowOf 0 l) r ≡ (member (now (g .entry)) (rowOf 0 l) r || brings (now (s .entry)) at l r (o + 1))) ⌝ }
@@ -65,7 +65,7 @@ fn any(s: &[bool; 32], n: usize) -> bool
     false
 }
 
-// The level of a set of labels, of which there are n, `all`: its bound by the rows of t, as it is kept.
+// The level of a set of labels: its bound by the rows of t, as it is kept. `all` is the set of the n labels.
 fn level_of(t: &[[bool; 32]; 32], n: usize, all: &[bool; 32], s: &[bool; 32]) -> u8
     requires { ⌜ (n ≤ 32) × FirstThings n (now all) ⌝ }
     ensures { λ r. ⌜ r ≡ levelNumber (level n (converse (mark (now (t .entry)))) (marks (now (s .entry)))) ⌝ }
@@ -80,7 +80,7 @@ fn level_of(t: &[[bool; 32]; 32], n: usize, all: &[bool; 32], s: &[bool; 32]) ->
     bound as u8
 }
 
-// Puts the levels of the first `roles` roles at `at`, by n labels, `all`.
+// Puts the levels of the first `roles` roles at `at`. `all` is the set of the n labels.
 pub fn put_levels(
     s: &mut [u8],
     at: usize,

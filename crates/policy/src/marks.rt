@@ -24,7 +24,7 @@ fn add_pair(t: &mut [[bool; 32]; 32], a: usize, b: usize)
 }
 
 // The marks of the first m lines of a part.
-pub fn table_of(p: &[u8], m: usize) -> [[bool; 32]; 32]
+pub fn marks_of(p: &[u8], m: usize) -> [[bool; 32]; 32]
     requires { ⌜ m ≤ lines (now p) ⌝ }
     ensures { λ r. ⌜ Marking (now (p .entry)) m r ⌝ }
 {

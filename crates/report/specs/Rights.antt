@@ -22,7 +22,7 @@ use Rattle.report.specs.Lists.{rangesOf}
 unfoldable pub listRow : List ℕ → List ℕ → List ℕ
 listRow head list = head ++ (list ++ ascii "\n")
 
--- a word of five letters and the number of a user, a label or a line in five columns
+-- a word in five columns and the number of a user, a label or a line in five columns
 unfoldable pub head : List ℕ → ℕ → List ℕ
 head word n = word ++ columnsOf true n
 

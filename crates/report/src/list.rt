@@ -1,4 +1,4 @@
-// Lists of numbers as ranges.
+// Numbers after a text, and lists of numbers as ranges.
 ghost use mathlib.Core.Path.{_≡_};
 ghost use Prim.Native.Nat.{_≤_, _<_};
 ghost use mathlib.Core.List.{_++_};

@@ -1,4 +1,4 @@
--- Sets of roles 1 to 128, each a row of 16 bytes of a list: role r is bit `roleBit r` of the row's byte `roleByte r`.
+-- Sets of roles 1 to 128, each a row of 16 bytes of a list: role r is bit (r - 1) % 8 (`roleBit`) of byte (r - 1) / 8 (`roleByte`).
 --     whole xs at               the row at `at` lies wholly in xs
 --     rowOf at x                where the row of thing x begins, in a table of rows at `at`
 --     member xs at r            the row of xs at `at` holds role r
@@ -97,6 +97,6 @@ unfoldable pub littleEndian : ℕ → (ℕ → ℕ) → ℕ
 littleEndian zero f = 0
 littleEndian (suc n) f = f 0 + 256 * littleEndian n (λ k. f (suc k))
 
--- half a row as one number
+-- the eight bytes from `at` on, half a row, as one number
 abbrev pub halfAt : List ℕ → ℕ → ℕ
 halfAt xs at = littleEndian 8 (λ k. getD xs (at + k) 0)

@@ -12,7 +12,7 @@ returns c =
     let marked = second .before .before .before .before in
     let parted = marked .before .before .before .before in
     let named = parted .before .before .before .before .before in
-    puts-then (named .name .ensures) (puts-then (parted .put .ensures) (puts-then (marked .put2 .ensures) (second .number .ensures .0 (search needs))))
+    puts-then (named .line-start .ensures) (puts-then (parted .put .ensures) (puts-then (marked .put2 .ensures) (second .number .ensures .0 (search needs))))
 
 pub edge-spec : {M : Type 1} → statement M
 edge-spec =

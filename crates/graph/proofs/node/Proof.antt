@@ -12,7 +12,7 @@ returns c =
     let second = ended .before .before .before .before .before .before in
     let parted = second .before .before .before .before in
     let named = parted .before .before .before .before .before in
-    puts-then (named .name .ensures) (puts-then (parted .put .ensures) (puts-then (second .number .ensures .0 (search needs)) (ended .ending .ensures)))
+    puts-then (named .line-start .ensures) (puts-then (parted .put .ensures) (puts-then (second .number .ensures .0 (search needs)) (ended .ending .ensures)))
 
 pub node-spec : {M : Type 1} → statement M
 node-spec =

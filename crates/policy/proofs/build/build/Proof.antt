@@ -20,7 +20,7 @@ use Rattle.policy.proofs.Builds.{Ranked, ranked-of, level-zeros, row-ze
 use Rattle.policy.proofs.build.build.Statement.{statement}
 use Rattle.policy.proofs.build.build.Tie as tie
 
--- ---- the places that the run has passed, each from one that follows
+-- ---- the steps of the code already taken, each from a later one
 
 abbrev start : tie.After-lay-out → tie.Start
 start c = c .before .before .before .before .before .before .before

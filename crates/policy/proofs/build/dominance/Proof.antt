@@ -6,8 +6,8 @@ use Rattle.policy.proofs.Dominance.{paths-of}
 use Rattle.policy.proofs.build.dominance.Statement.{statement}
 use Rattle.policy.proofs.build.dominance.Tie as tie
 
-table-of-requires : tie.Need-table-of-requires
-table-of-requires c κs = rw (c .part .ensures) (c .before .before .before .pre .laid .d .fits)
+marks-of-requires : tie.Need-marks-of-requires
+marks-of-requires c κs = rw (c .part .ensures) (c .before .before .before .pre .laid .d .fits)
 
 returns : tie.Need-returns
 returns c =
@@ -15,10 +15,10 @@ returns c =
     let f = now (start .args .f) in
     let r = start .pre in
     let few = counts-of f (r .lines) .labels in
-    let marks = c .before .table-of in
+    let marks = c .before .marks-of in
     paths-of f (good-of f (r .lines)) (few .1) (section-d f (start .args .q) (r .lines) (r .laid)) (marks .result) (c .paths .result)
     (rw (c .before .before .part .ensures) at (marks .ensures))
     (rw (head-labels f (start .args .q) (start .args .h) r) at (c .paths .ensures))
 
 pub dominance-spec : {M : Type 1} → statement M
-dominance-spec = tie.close (tie.spec (λ c κs. search needs) table-of-requires (λ c κs. search needs) returns)
+dominance-spec = tie.close (tie.spec (λ c κs. search needs) marks-of-requires (λ c κs. search needs) returns)

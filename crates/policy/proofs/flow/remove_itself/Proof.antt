@@ -7,13 +7,13 @@ use denote.Ref.{now}
 use lib.ListN.{length}
 use Rattle.order.specs.Table.{Tabled}
 use Rattle.order.proofs.Placing.{placing-none}
-use Rattle.policy.specs.Tables.{apart}
+use Rattle.policy.specs.Tables.{withoutLoops}
 use Rattle.policy.proofs.Flowing.{row-more, apart-row}
 use Rattle.policy.proofs.flow.remove_itself.Statement.{statement}
 use Rattle.policy.proofs.flow.remove_itself.Tie as tie
 
 abbrev Inv-loop : tie.InvT-loop
-Inv-loop t₀ i₀ t i = (i ≤ 128) × (length t ≡ length t₀) × Tabled 0 i (apart t₀) t₀ t
+Inv-loop t₀ i₀ t i = (i ≤ 128) × (length t ≡ length t₀) × Tabled 0 i (withoutLoops t₀) t₀ t
 
 abbrev μ-loop : tie.MeasureT-loop
 μ-loop t₀ i₀ t i = 128 - i
@@ -25,7 +25,7 @@ loop-again c =
     let w = turn .loop in (
       search needs,
       search needs,
-      row-more (apart t) t (w .t) (w .i) (search needs) (search needs) (search needs) (w .inv .2) _ _ (c .before .before .remove .ensures)
+      row-more (withoutLoops t) t (w .t) (w .i) (search needs) (search needs) (search needs) (w .inv .2) _ _ (c .before .before .remove .ensures)
           (λ q v. apart-row t (w .t) (w .i) q (search needs) (search needs) (search needs) v (w .inv .2)),
     )
 

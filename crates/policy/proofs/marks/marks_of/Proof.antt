@@ -6,8 +6,8 @@ use borrow.Author.Needs.{needs}
 use lib.ListN.{length}
 use Rattle.policy.specs.Tables.{Marking}
 use Rattle.policy.proofs.Marked.{marks-none, marks-more}
-use Rattle.policy.proofs.marks.table_of.Statement.{statement}
-use Rattle.policy.proofs.marks.table_of.Tie as tie
+use Rattle.policy.proofs.marks.marks_of.Statement.{statement}
+use Rattle.policy.proofs.marks.marks_of.Tie as tie
 
 abbrev Inv-loop : tie.InvT-loop
 Inv-loop p m t₀ i₀ t i = (i ≤ m) × (length t ≡ 32) × Marking p i t
@@ -31,8 +31,8 @@ returns c =
     let q : w .i ≡ c .before .before .before .args .m = omega arith in
     rw q at (w .inv .2)
 
-pub table-of-spec : {M : Type 1} → statement M
-table-of-spec =
+pub marks-of-spec : {M : Type 1} → statement M
+marks-of-spec =
     tie.close
     (tie.spec
     Inv-loop

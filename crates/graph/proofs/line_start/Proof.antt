@@ -1,8 +1,8 @@
 -- The texts one after the other.
 use borrow.Author.Needs.{needs}
 use Rattle.text.proofs.Text.{puts-then}
-use Rattle.graph.proofs.name.Statement.{statement}
-use Rattle.graph.proofs.name.Tie as tie
+use Rattle.graph.proofs.line_start.Statement.{statement}
+use Rattle.graph.proofs.line_start.Tie as tie
 
 returns : tie.Need-returns
 returns c =
@@ -10,5 +10,5 @@ returns c =
     let marked = numbered .before .before .before .before in
     puts-then (marked .before .before .before .before .put .ensures) (puts-then (marked .put2 .ensures) (numbered .number .ensures .0 (search needs)))
 
-pub name-spec : {M : Type 1} → statement M
-name-spec = tie.close (tie.spec (λ c. search needs) (λ c κs. search needs) (λ c κs. search needs) (λ c κs. search needs) (λ c. search needs) returns)
+pub line-start-spec : {M : Type 1} → statement M
+line-start-spec = tie.close (tie.spec (λ c. search needs) (λ c κs. search needs) (λ c κs. search needs) (λ c κs. search needs) (λ c. search needs) returns)
