@@ -28,7 +28,7 @@ use Rattle.monitor.specs.Runs.{Call, opens, takes, Memory, after, run}
 use Rattle.monitor.specs.Rules.{Session, Sessions, noSessions, entitledByFile, fittingByFile, givesByFile, openRule, takeRule, partRule, rule, sessionOf, holding, next, sessions}
 use Rattle.monitor.specs.Rights.{canNumber, roleCould, could, Cans, canRule, couldByFile, useOf, CouldUse}
 use Rattle.monitor.proofs.Answers.{unless-done, figure-same}
-use Rattle.monitor.proofs.Orderly.{Orderly, opening, opening-done, taking, gives-iff, part-done}
+use Rattle.monitor.proofs.Orderly.{opening, opening-done, taking, gives-iff, part-done}
 use Rattle.monitor.proofs.Stands.{Stands}
 use Rattle.monitor.proofs.InFile.{test-same, test-passed, sound-file, cleared-file, entitled-file, fitting-file}
 use Rattle.monitor.proofs.Places.{put-at}
@@ -36,31 +36,31 @@ use Rattle.monitor.proofs.Demand2.{Runs, runs-next, runs-number, loaded
 
 -- ---- by the file
 
-module _ (f : List ℕ) (form : WellFormed f) (t : Sessions) (known : Orderly f t) (xs : List ℕ) (stands : Stands f t xs) where
+module _ (f : List ℕ) (form : WellFormed f) (t : Sessions) (xs : List ℕ) (stands : Stands f t xs) where
   number-by : (u l o m : ℕ) → canNumber xs u l o m ≡ canRule f u l o m
   unfolding canNumber canRule
   number-by u l o m =
-      test-passed 21 (sound-file f form t known xs stands)
+      test-passed 21 (sound-file f form t xs stands)
       ∙ test-same (among (usersIn xs) u) (among (users f) u) 25 (rw (stands .tables .counted .users)) (λ user.
       test-same (among (labelsIn xs) l) (among (labels f) l) 25 (rw (stands .tables .counted .labels)) (λ label.
       test-same (among (cardsIn xs) o) (among (cards f) o) 25 (rw (stands .tables .counted .cards)) (λ card.
       test-same (among 2 m) (among 2 m) 25 refl (λ mode.
       test-same (cleared xs u l) (dominates f (clearance f u) l) 26
-      (cleared-file f form t known xs stands u l (among-iff (users f) u .0 user) (among-iff (labels f) l .0 label)) (λ dominated. refl)))))
+      (cleared-file f form t xs stands u l (among-iff (users f) u .0 user) (among-iff (labels f) l .0 label)) (λ dominated. refl)))))
 
   -- the table of a mode says who may
   pub table-says : (m : ℕ) → Among 2 m → Allows f m (tableOf m) xs
   table-says = by-mode (λ m. Allows f m (tableOf m) xs) (stands .tables .permitting .readers) (stands .tables .permitting .writers)
 
-  pub could-by : (u l o m : ℕ) → Among (users f) u → Among (labels f) l → Among (cards f) o → Among 2 m → could xs u l o (tableOf m) ≡ couldByFile f u l o m
+  pub could-by : (u l o m : ℕ) → Among (users f) u → Among (cards f) o → Among 2 m → could xs u l o (tableOf m) ≡ couldByFile f u l o m
   unfolding could couldByFile roleCould
-  could-by u l o m user label card mode =
+  could-by u l o m user card mode =
       rw (stands .tables .counted .roles)
       (some-agree (λ r. entitled xs u r && (fitting xs l r && member xs (rowOf (tableOf m) o) r)) (λ r. entitledByFile f u r && (fittingByFile f l r && may f m r o)) (roles f)
       (λ r w.
       let few-roles = counts-known f form .roles in
       let few-cards = counts-known f form .cards in
-      rw (entitled-file f form t known xs stands u r user w, fitting-file f form t known xs stands l r label w, table-says m mode o r (omega arith) (omega arith))))
+      rw (entitled-file f form t xs stands u r user w, fitting-file f form t xs stands l r w, table-says m mode o r (omega arith) (omega arith))))
 
 -- ---- by the session calls
 
@@ -186,10 +186,10 @@ module _ (f : List ℕ) (accepted : Accepted f) (xs ys : List ℕ) (v : Verdict)
 
     pub can-file : (u l o m n figure : ℕ) → Cans end u l o m n figure → (n ≡ canRule f u l o m) × (figure ≡ ifDone n (cond (couldByFile f u l o m) 1 0) 0)
     can-file u l o m n figure h =
-        let e = h .number ∙ number-by f form t (ran .known) end (ran .stands) u l o m in (
+        let e = h .number ∙ number-by f form t end (ran .stands) u l o m in (
           e,
           figure-same n (h .number) (h .answer) (λ z.
-              let a = can-done f u l o m (sym e ∙ z) in could-by f form t (ran .known) end (ran .stands) u l o m (a .user) (a .label) (a .card) (a .mode)),
+              let a = can-done f u l o m (sym e ∙ z) in could-by f form t end (ran .stands) u l o m (a .user) (a .card) (a .mode)),
         )
       where
         t : Sessions

@@ -50,14 +50,14 @@ module _ (f : List ℕ) (form : WellFormed f) (t : Sessions) (known : Orderly f 
 
   number-file : (c : Call) → number m c ≡ rule f (length (m .store)) t c
   unfolding number rule
-  number-file (opens p u l) = open-file f form t known xs stands p u l
-  number-file (closes p) = close-file f form t known xs stands p
-  number-file (takes p r) = take-file f form t known xs stands p r
-  number-file (drops p r) = drop-file f form t known xs stands p r
+  number-file (opens p u l) = open-file f form t xs stands p u l
+  number-file (closes p) = close-file f form t xs stands known p
+  number-file (takes p r) = take-file f form t xs stands known p r
+  number-file (drops p r) = drop-file f form t xs stands known p r
   number-file (reads p o k n) =
-      part-file f form t known xs stands readersAt 1 (omega arith) (stands .tables .permitting .readers) (length (m .store)) p o k n
+      part-file f form t xs stands readersAt 1 (omega arith) (stands .tables .permitting .readers) known (length (m .store)) p o k n
   number-file (writes p o k bytes) =
-      part-file f form t known xs stands writersAt 2 (omega arith) (stands .tables .permitting .writers) (length (m .store)) p o k (length bytes)
+      part-file f form t xs stands writersAt 2 (omega arith) (stands .tables .permitting .writers) known (length (m .store)) p o k (length bytes)
 
   session-there : (p : ℕ) (s : Session) → Among 64 p → t p ≡ some s → SessionAt xs p s
   session-there p s w e = rw e at (stands .places p w)
@@ -65,7 +65,7 @@ module _ (f : List ℕ) (form : WellFormed f) (t : Sessions) (known : Orderly f 
   stands-after : (c : Call) → Stands f (next f t c) (stateAfter m c)
   unfolding stateAfter next closeRule takeRule dropRule
   stands-after (opens p u l) =
-      rw (open-file f form t known xs stands p u l)
+      rw (open-file f form t xs stands p u l)
       (both-ways (Stands f) (openRule f t p u l) (put t p (some (sessionOf u l))) t (opened xs p u l) xs
       (λ h.
       let o = opening f t p u l h in
@@ -73,14 +73,14 @@ module _ (f : List ℕ) (form : WellFormed f) (t : Sessions) (known : Orderly f 
       (some (sessionOf u l)) (opened-place xs p (stands .long) (o .place) u l (o .user .0)))
       stands)
   stands-after (closes p) =
-      rw (close-file f form t known xs stands p)
+      rw (close-file f form t xs stands known p)
       (both-ways (Stands f) (closeRule t p) (put t p none) t (closed xs p) xs
       (λ h.
       let w = session-done t p (λ s. 0) h .place in
       stands-put f t xs (closed xs p) p stands w (closed-touched xs p (stands .long) w) none (closed-place xs p (stands .long) w))
       stands)
   stands-after (takes p r) =
-      rw (take-file f form t known xs stands p r)
+      rw (take-file f form t xs stands known p r)
       (both-ways (Stands f) (takeRule f t p r) (put t p (Option·map (holding r) (t p))) t (taken xs p r) xs
       (λ h.
       let a = session-done t p _ h in
@@ -90,7 +90,7 @@ module _ (f : List ℕ) (form : WellFormed f) (t : Sessions) (known : Orderly f 
       (Option·map (holding r) (t p)) (rw (a .found) (taken-place xs p (stands .long) (a .place) r w s (session-there p s (a .place) (a .found)))))
       stands)
   stands-after (drops p r) =
-      rw (drop-file f form t known xs stands p r)
+      rw (drop-file f form t xs stands known p r)
       (both-ways (Stands f) (dropRule f t p r) (put t p (Option·map (without r) (t p))) t (dropped xs p r) xs
       (λ h.
       let a = session-done t p _ h in
@@ -180,7 +180,7 @@ module _ (f : List ℕ) (accepted : Accepted f) (xs ys : List ℕ) (v : Verdict)
     left-runs = runs-after f form cs noSessions (length store) (record { state = ys; store = store }) (loaded-runs store)
 
     left-sound : sound (left .state) ≡ true
-    left-sound = let r = left-runs in sound-file f form (sessions f noSessions cs) (r .known) (left .state) (r .stands)
+    left-sound = sound-file f form (sessions f noSessions cs) (left .state) (left-runs .stands)
 
     -- what each call is answered, whatever store it is lent, by the file and the calls so far
     pub answers : (lent : List ℕ) (c : Call) → number (record { state = left .state; store = lent }) c ≡ rule f (length lent) (sessions f noSessions cs) c

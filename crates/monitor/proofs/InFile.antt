@@ -49,7 +49,7 @@ pub some-first : (n : ℕ) → n ≤ 128 → (q p : ℕ → Bool) → ((r : ℕ)
     → search.some 128 q ≡ search.some n p
 some-first n few q p only agree = some-within 128 0 n (omega arith) q p (λ r w e. let k = only r w e in omega arith) (λ r w. rw zero-add (agree r w))
 
-module _ (f : List ℕ) (form : WellFormed f) (t : Sessions) (known : Orderly f t) (xs : List ℕ) (stands : Stands f t xs) where
+module _ (f : List ℕ) (form : WellFormed f) (t : Sessions) (xs : List ℕ) (stands : Stands f t xs) where
   -- ---- the tests
 
   pub sound-file : sound xs ≡ true
@@ -68,17 +68,6 @@ module _ (f : List ℕ) (form : WellFormed f) (t : Sessions) (known : Orderly f 
       by : (s : Option Session) → PlaceIs xs p s → not (eqb (getD xs (placeAt p) 0) 1) ≡ isFree s
       by none e = rw e
       by (some s) a = rw (a .used)
-
-  -- the place has a session, or 21, 22 or 24
-  session-file : (p : ℕ) {x : ℕ} (rule : Session → ℕ) → ((s : Session) → SessionAt xs p s → Admitted f p s → x ≡ rule s) → atSession xs p x ≡ atSessionByFile t p rule
-  unfolding inUse unless
-  session-file p {x} rule h =
-      test-passed 21 sound-file
-      ∙ test-same (among 64 p) (among 64 p) 22 refl (λ place. by (t p) (stands .places p (among-iff 64 p .0 place)) (known p))
-    where
-      by : (s : Option Session) → PlaceIs xs p s → Known f p s → unless (eqb (getD xs (placeAt p) 0) 1) 24 x ≡ sessionRule s rule
-      by none e k = rw e
-      by (some s) a k = rw (a .used) (h s a k)
 
   pub cleared-file : (u l : ℕ) → Among (users f) u → Among (labels f) l → cleared xs u l ≡ dominates f (clearance f u) l
   unfolding cleared
@@ -105,9 +94,9 @@ module _ (f : List ℕ) (form : WellFormed f) (t : Sessions) (known : Orderly f 
       (λ q i. rw (stands .tables .assigning u q (omega arith) i, stands .tables .seniors r q (omega arith) i, le-leb r (roles f) (w .1)))
       (λ q e. assigned-known f (form .good) u q (and-iff (assigned f u q) (senior f q r) .0 e .0) .1)
 
-  pub fitting-file : (l r : ℕ) → Among (labels f) l → Among (roles f) r → fitting xs l r ≡ fittingByFile f l r
+  pub fitting-file : (l r : ℕ) → Among (roles f) r → fitting xs l r ≡ fittingByFile f l r
   unfolding fitting fittingByFile
-  fitting-file l r v w =
+  fitting-file l r w =
       let c = counts-known f form in
       let between = over-between f (form .good) in
       let i = role-few f form r w in
@@ -117,6 +106,53 @@ module _ (f : List ℕ) (form : WellFormed f) (t : Sessions) (known : Orderly f 
         reads-test f xs c between (stands .tables .dominating) l r,
         writes-test f xs c between (stands .tables .dominating) l r,
       )
+
+  -- ---- the numbers
+
+  pub open-file : (p u l : ℕ) → openNumber xs p u l ≡ openRule f t p u l
+  unfolding openNumber openRule
+  open-file p u l =
+      test-passed 21 sound-file
+      ∙ test-same (among 64 p) (among 64 p) 22 refl (λ place.
+      test-same (not (inUse xs p)) (isFree (t p)) 23 (free-file p (among-iff 64 p .0 place)) (λ free.
+      test-same (among (usersIn xs) u) (among (users f) u) 25 (rw (stands .tables .counted .users)) (λ user.
+      test-same (among (labelsIn xs) l) (among (labels f) l) 25 (rw (stands .tables .counted .labels)) (λ label.
+      test-same (cleared xs u l) (dominates f (clearance f u) l) 26
+      (cleared-file u l (among-iff (users f) u .0 user) (among-iff (labels f) l .0 label)) (λ dominated. refl)))))
+
+  -- where the rules have seen to every session
+  module _ (known : Orderly f t) where
+    -- the place has a session, or 21, 22 or 24
+    session-file : (p : ℕ) {x : ℕ} (rule : Session → ℕ) → ((s : Session) → SessionAt xs p s → Admitted f p s → x ≡ rule s) → atSession xs p x ≡ atSessionByFile t p rule
+    unfolding inUse unless
+    session-file p {x} rule h =
+        test-passed 21 sound-file
+        ∙ test-same (among 64 p) (among 64 p) 22 refl (λ place. by (t p) (stands .places p (among-iff 64 p .0 place)) (known p))
+      where
+        by : (s : Option Session) → PlaceIs xs p s → Known f p s → unless (eqb (getD xs (placeAt p) 0) 1) 24 x ≡ sessionRule s rule
+        by none e k = rw e
+        by (some s) a k = rw (a .used) (h s a k)
+
+    pub close-file : (p : ℕ) → closeNumber xs p ≡ closeRule t p
+    unfolding closeNumber closeRule
+    close-file p = session-file p (λ s. 0) (λ s a adm. refl)
+
+    pub take-file : (p r : ℕ) → takeNumber xs p r ≡ takeRule f t p r
+    unfolding takeNumber takeRule
+    take-file p r =
+        session-file p _ (λ s a adm.
+        test-same (among (rolesIn xs) r) (among (roles f) r) 25 (rw (stands .tables .counted .roles)) (λ role.
+        let w = among-iff (roles f) r .0 role in
+        test-same (entitled xs (userAt xs p) r) (entitledByFile f (s .user) r) 27
+        (ap (λ (u : ℕ). entitled xs u r) (a .user) ∙ entitled-file (s .user) r (adm .user) w) (λ member.
+        test-same (fitting xs (labelAt xs p) r) (fittingByFile f (s .label) r) 28
+        (ap (λ (l : ℕ). fitting xs l r) (a .label) ∙ fitting-file (s .label) r w) (λ suited. refl))))
+
+    pub drop-file : (p r : ℕ) → dropNumber xs p r ≡ dropRule f t p r
+    unfolding dropNumber dropRule
+    drop-file p r =
+        session-file p _ (λ s a adm.
+        test-same (among (rolesIn xs) r) (among (roles f) r) 25 (rw (stands .tables .counted .roles)) (λ role. refl))
 
   -- the table at `at` says who may use cards by mode m
   module _ (at m : ℕ) (inside : at + 8192 ≤ 65536) (says : Allows f m at xs) where
@@ -132,45 +168,11 @@ module _ (f : List ℕ) (form : WellFormed f) (t : Sessions) (known : Orderly f 
         (λ r i. rw (a .held r, says o r (omega arith) i))
         (λ r e. k .roles r (and-iff (s .held r) (may f m r o) .0 e .0) .0)
 
-    pub part-file : (size p o k n : ℕ) → partNumber at xs size p o k n ≡ partRule f m t size p o k n
+    pub part-file : Orderly f t → (size p o k n : ℕ) → partNumber at xs size p o k n ≡ partRule f m t size p o k n
     unfolding partNumber partRule
-    part-file size p o k n =
-        session-file p _ (λ s a adm.
+    part-file known size p o k n =
+        session-file known p _ (λ s a adm.
         test-same (among (cardsIn xs) o) (among (cards f) o) 25 (rw (stands .tables .counted .cards)) (λ card.
         test-same (gives xs at p o) (givesByFile f m s o) 29 (gives-file p o s a adm (among-iff (cards f) o .0 card)) (λ used.
         test-same (leb (k + n) 64) (leb (k + n) 64) 30 refl (λ fits.
         test-same (leb (64 * cardsIn xs) size) (leb (64 * cards f) size) 31 (rw (stands .tables .counted .cards)) (λ stored. refl)))))
-
-  -- ---- the numbers
-
-  pub open-file : (p u l : ℕ) → openNumber xs p u l ≡ openRule f t p u l
-  unfolding openNumber openRule
-  open-file p u l =
-      test-passed 21 sound-file
-      ∙ test-same (among 64 p) (among 64 p) 22 refl (λ place.
-      test-same (not (inUse xs p)) (isFree (t p)) 23 (free-file p (among-iff 64 p .0 place)) (λ free.
-      test-same (among (usersIn xs) u) (among (users f) u) 25 (rw (stands .tables .counted .users)) (λ user.
-      test-same (among (labelsIn xs) l) (among (labels f) l) 25 (rw (stands .tables .counted .labels)) (λ label.
-      test-same (cleared xs u l) (dominates f (clearance f u) l) 26
-      (cleared-file u l (among-iff (users f) u .0 user) (among-iff (labels f) l .0 label)) (λ dominated. refl)))))
-
-  pub close-file : (p : ℕ) → closeNumber xs p ≡ closeRule t p
-  unfolding closeNumber closeRule
-  close-file p = session-file p (λ s. 0) (λ s a adm. refl)
-
-  pub take-file : (p r : ℕ) → takeNumber xs p r ≡ takeRule f t p r
-  unfolding takeNumber takeRule
-  take-file p r =
-      session-file p _ (λ s a adm.
-      test-same (among (rolesIn xs) r) (among (roles f) r) 25 (rw (stands .tables .counted .roles)) (λ role.
-      let w = among-iff (roles f) r .0 role in
-      test-same (entitled xs (userAt xs p) r) (entitledByFile f (s .user) r) 27
-      (ap (λ (u : ℕ). entitled xs u r) (a .user) ∙ entitled-file (s .user) r (adm .user) w) (λ member.
-      test-same (fitting xs (labelAt xs p) r) (fittingByFile f (s .label) r) 28
-      (ap (λ (l : ℕ). fitting xs l r) (a .label) ∙ fitting-file (s .label) r (adm .label) w) (λ suited. refl))))
-
-  pub drop-file : (p r : ℕ) → dropNumber xs p r ≡ dropRule f t p r
-  unfolding dropNumber dropRule
-  drop-file p r =
-      session-file p _ (λ s a adm.
-      test-same (among (rolesIn xs) r) (among (roles f) r) 25 (rw (stands .tables .counted .roles)) (λ role. refl))

@@ -20,15 +20,14 @@ use Rattle.monitor.specs.Session.{sound, entitled, fitting}
 use Rattle.monitor.specs.Rules.{Sessions, entitledByFile, fittingByFile}
 use Rattle.monitor.specs.Rights.{roleCould, could, couldByFile}
 use Rattle.monitor.specs.Review.{knownCount, known, isLabel, isRole, isUser, isCard, clearanceOf, dominatesIn, seniorTo, assignedTo, entitledTo, mayOpen, mayTake, giveCard}
-use Rattle.monitor.proofs.Orderly.{Orderly}
 use Rattle.monitor.proofs.Stands.{Stands}
 use Rattle.monitor.proofs.InFile.{some-first, sound-file, cleared-file, entitled-file, fitting-file}
 use Rattle.monitor.proofs.Known.{may-role, may-known}
 use Rattle.monitor.proofs.Able.{table-says, could-by}
 
-module _ (f : List ℕ) (form : WellFormed f) (t : Sessions) (orderly : Orderly f t) (xs : List ℕ) (stands : Stands f t xs) where
+module _ (f : List ℕ) (form : WellFormed f) (t : Sessions) (xs : List ℕ) (stands : Stands f t xs) where
   whole : sound xs ≡ true
-  whole = sound-file f form t orderly xs stands
+  whole = sound-file f form t xs stands
 
   -- ---- counts and ranges
 
@@ -84,16 +83,16 @@ module _ (f : List ℕ) (form : WellFormed f) (t : Sessions) (orderly : Orderly 
 
   pub review-entitled : (u r : ℕ) → Among (users f) u → Among (roles f) r → entitledTo xs u r ≡ entitledByFile f u r
   unfolding entitledTo
-  review-entitled u r v w = rw (user u v, role r w) (entitled-file f form t orderly xs stands u r v w)
+  review-entitled u r v w = rw (user u v, role r w) (entitled-file f form t xs stands u r v w)
 
   pub review-opens : (u l : ℕ) → Among (users f) u → Among (labels f) l → mayOpen xs u l ≡ dominates f (clearance f u) l
   unfolding mayOpen
-  review-opens u l v w = rw (user u v, label l w) (cleared-file f form t orderly xs stands u l v w)
+  review-opens u l v w = rw (user u v, label l w) (cleared-file f form t xs stands u l v w)
 
   pub review-takes : (u l r : ℕ) → Among (users f) u → Among (labels f) l → Among (roles f) r
       → mayTake xs u l r ≡ (dominates f (clearance f u) l && (entitledByFile f u r && fittingByFile f l r))
   unfolding mayTake
-  review-takes u l r v w i = rw (review-opens u l v w, review-entitled u r v i, fitting-file f form t orderly xs stands l r w i)
+  review-takes u l r v w i = rw (review-opens u l v w, review-entitled u r v i, fitting-file f form t xs stands l r i)
 
   -- ---- what a set of the file's roles gives
 
@@ -111,7 +110,7 @@ module _ (f : List ℕ) (form : WellFormed f) (t : Sessions) (orderly : Orderly 
     pub review-gives : giveCard xs m o held ≡ search.some (roles f) (λ r. may f m r o && held r)
     review-gives =
         let few-cards = counts-known f form .cards in
-        gives-by (λ r. may f m r o && held r) (λ r k. rw (table-says f form t orderly xs stands m j o r (omega arith) (role-few f form r k)))
+        gives-by (λ r. may f m r o && held r) (λ r k. rw (table-says f form t xs stands m j o r (omega arith) (role-few f form r k)))
 
   -- ---- what the roles that a user may take at a label give
 
@@ -134,4 +133,4 @@ module _ (f : List ℕ) (form : WellFormed f) (t : Sessions) (orderly : Orderly 
     review-can = rw (stands .tables .counted .roles) (gives-by o m (mayTake xs u l) i j taken-known (roleCould xs u l o (tableOf m)) role-could-as)
 
     pub review-could : giveCard xs m o (mayTake xs u l) ≡ couldByFile f u l o m
-    review-could = review-can ∙ could-by f form t orderly xs stands u l o m v w i j
+    review-could = review-can ∙ could-by f form t xs stands u l o m v i j
