@@ -60,7 +60,7 @@ record Kind (p : ℕ) (set : ℕ → Bool) (call : Call) (Good : Session → Typ
   pub spares : (r : ℕ) (s : Session) → Good s → set r ≡ false → Good (without r s)
   pub role : (f : List ℕ) (s : Session) → Admitted f p s → Good s → (r : ℕ) → set r ≡ true → Among (roles f) r
 
-module _ (f : List ℕ) (p : ℕ) (set : ℕ → Bool) (call : Call) (Good : Session → Type 0) (kind : Kind p set call Good) (t : Sessions) (known : Orderly f t) where
+module _ (f : List ℕ) (p : ℕ) (set : ℕ → Bool) (call : Call) (Good : Session → Type 0) (kind : Kind p set call Good) (t : Sessions) where
   -- what is so at place p
   abbrev So : Sessions → Type 0
   So u = SessionWith Good (u p)
@@ -118,9 +118,9 @@ module _ (f : List ℕ) (p : ℕ) (set : ℕ → Bool) (call : Call) (Good : Ses
   back-dropped r none h = absurd h
   back-dropped r (some s) h = kind .dropped r s h
 
-  back-next : (c : Call) → So (next f t c) → Came c
+  back-next : Orderly f t → (c : Call) → So (next f t c) → Came c
   unfolding next rule closeRule dropRule unless
-  back-next (opens q u l) h =
+  back-next known (opens q u l) h =
       ⊎-elim
       (λ (z, g). elim (ℕ-discrete q p) [
         | yes i ↦ inr (rw i (kind .opened u l (rw (put-at t q (some (sessionOf u l)) p i) at g)), z)
@@ -128,7 +128,7 @@ module _ (f : List ℕ) (p : ℕ) (set : ℕ → Bool) (call : Call) (Good : Ses
       ])
       (λ (z, g). inl (g, refl))
       (which-way So (openRule f t q u l) (put t q (some (sessionOf u l))) t h)
-  back-next (closes q) h =
+  back-next known (closes q) h =
       ⊎-elim
       (λ (z, g). elim (ℕ-discrete q p) [
         | yes i ↦ absurd (rw (put-at t q none p i) at g)
@@ -138,7 +138,7 @@ module _ (f : List ℕ) (p : ℕ) (set : ℕ → Bool) (call : Call) (Good : Ses
       let (s, found, good) = session-with Good (t p) g in
       inl (g, ne-eqb q p (λ i. z (rw i (session-granted f t known p s found (λ s. 0) refl)))))
       (which-way So (closeRule t q) (put t q none) t h)
-  back-next (takes q r) h =
+  back-next known (takes q r) h =
       ⊎-elim
       (λ (z, g). elim (ℕ-discrete q p) [
         | yes i ↦
@@ -148,7 +148,7 @@ module _ (f : List ℕ) (p : ℕ) (set : ℕ → Bool) (call : Call) (Good : Ses
       ])
       (λ (z, g). inl (g, refl))
       (which-way So (takeRule f t q r) (put t q (Option·map (holding r) (t q))) t h)
-  back-next (drops q r) h =
+  back-next known (drops q r) h =
       ⊎-elim
       (λ (z, g). elim (ℕ-discrete q p) [
         | yes i ↦
@@ -165,17 +165,17 @@ module _ (f : List ℕ) (p : ℕ) (set : ℕ → Bool) (call : Call) (Good : Ses
             z (rw (eqb-true q p i) (session-granted f t known p s found _ (rw (among-iff (roles f) r .1 (kind .role f s (admitted f t known p s found) good r j)))))),
       ))
       (which-way So (dropRule f t q r) (put t q (Option·map (without r) (t q))) t h)
-  back-next (reads q o k n) h = inl (h, refl)
-  back-next (writes q o k bytes) h = inl (h, refl)
+  back-next known (reads q o k n) h = inl (h, refl)
+  back-next known (writes q o k bytes) h = inl (h, refl)
 
 -- ---- along a list
 
 module _ (f : List ℕ) (p : ℕ) (set : ℕ → Bool) (call : Call) (Good : Session → Type 0) (kind : Kind p set call Good)
     (begins : (t : Sessions) → rule f 0 t call ≡ 0 → SessionWith Good (next f t call p)) where
-  lasts-on : (cs : List Call) (t : Sessions) → Orderly f t → SessionWith Good (t p) → NoneEnds p set cs → SessionWith Good (sessions f t cs p)
+  lasts-on : (cs : List Call) (t : Sessions) → SessionWith Good (t p) → NoneEnds p set cs → SessionWith Good (sessions f t cs p)
   unfolding sessions
-  lasts-on [] t k h lasting = h
-  lasts-on (c ∷ cs) t k h (e, lasting) = lasts-on cs (next f t c) (orderly-next f t k c) (lasts-next f p set call Good kind t k c h e) lasting
+  lasts-on [] t h lasting = h
+  lasts-on (c ∷ cs) t h (e, lasting) = lasts-on cs (next f t c) (lasts-next f p set call Good kind t c h e) lasting
 
   came : (cs : List Call) (t : Sessions) → Orderly f t → SessionWith Good (sessions f t cs p) → (SessionWith Good (t p) × NoneEnds p set cs) ⊎ Since f t p set call cs
   unfolding sessions
@@ -197,9 +197,8 @@ module _ (f : List ℕ) (p : ℕ) (set : ℕ → Bool) (call : Call) (Good : Ses
     λ h. ⊎-elim (λ (so, lasting). absurd so) (λ s. s) (came cs noSessions (no-sessions-orderly f) h),
     λ s.
         let t = sessions f noSessions (s .earlier) in
-        let k = orderly-sessions f (s .earlier) noSessions (no-sessions-orderly f) in
         rw (s .split, sessions-append f (s .earlier) (call ∷ s .later) noSessions)
-        (lasts-on (s .later) (next f t call) (orderly-next f t k call) (begins t (s .done)) (s .lasts)),
+        (lasts-on (s .later) (next f t call) (begins t (s .done)) (s .lasts)),
   )
 
 -- ---- for whom a place is open, and what is held
