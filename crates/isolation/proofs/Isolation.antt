@@ -83,9 +83,9 @@ module _ (f : List ℕ) (accepted : Accepted f) (L : ℕ) (label : Among (labels
     shared-pair = record {
       runs₁ = runs-next f form s₁ size m₁ (pair .runs₁) c;
       runs₂ = runs-next f form s₂ size m₂ (pair .runs₂) c;
-      fits₁ = fits-track f t s₁ (pair .runs₁ .known) (pair .fits₁) c;
-      fits₂ = fits-track f t s₂ (pair .runs₂ .known) (pair .fits₂) c;
-      sessions = next-same f L t s₁ s₂ (pair .fits₁) (pair .fits₂) (pair .sessions) (pair .runs₁ .known) c h;
+      fits₁ = fits-track f t s₁ (pair .fits₁) (pair .runs₁ .known) c;
+      fits₂ = fits-track f t s₂ (pair .fits₂) (pair .runs₂ .known) c;
+      sessions = next-same f L t s₁ s₂ (pair .fits₁) (pair .fits₂) (pair .sessions) c h;
       cards = cards-after f L m₁ m₂ c numbers (pair .cards);
     }
 
@@ -136,7 +136,7 @@ module _ (f : List ℕ) (accepted : Accepted f) (L : ℕ) (label : Among (labels
       record {
         runs₁ = runs-next f form s₁ size m₁ (pair .runs₁) c;
         runs₂ = pair .runs₂;
-        fits₁ = rw same at (fits-track f t s₁ (pair .runs₁ .known) (pair .fits₁) c);
+        fits₁ = rw same at (fits-track f t s₁ (pair .fits₁) (pair .runs₁ .known) c);
         fits₂ = pair .fits₂;
         sessions = λ p k. other-sessions t s₁ m₁ (pair .runs₁) (pair .fits₁) c high p k ∙ pair .sessions p k;
         cards = λ o i w d l. other-cards t s₁ m₁ (pair .runs₁) (pair .fits₁) c high o i w d l ∙ pair .cards o i w d l;

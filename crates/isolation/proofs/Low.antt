@@ -58,25 +58,25 @@ module _ (f : List ℕ) (L : ℕ) (t : Open) (s₁ s₂ : Sessions) (fits₁ : F
   changed-here p n change e =
       both-ways (λ a b. a p ≡ b p) n (put s₁ p _) s₁ (put s₂ p _) s₂ (λ z. put-at s₁ p _ p refl ∙ ap (Option·map change) e ∙ sym (put-at s₂ p _ p refl)) e
 
-  here : Orderly f s₁ → (c : Call) → shared f L t c ≡ true → under f L (track f t c (placeOf c)) ≡ true → next f s₁ c (placeOf c) ≡ next f s₂ c (placeOf c)
+  here : (c : Call) → shared f L t c ≡ true → under f L (track f t c (placeOf c)) ≡ true → next f s₁ c (placeOf c) ≡ next f s₂ c (placeOf c)
   unfolding shared track next ifDone rule
-  here known (opens p u l) h k = rw (same-number 0 (opens p u l) refl) (by (openRule f s₂ p u l) refl)
+  here (opens p u l) h k = rw (same-number 0 (opens p u l) refl) (by (openRule f s₂ p u l) refl)
     where
       by : (n : ℕ) → openRule f s₂ p u l ≡ n → ifDone n (put s₁ p (some (sessionOf u l))) s₁ p ≡ ifDone n (put s₂ p (some (sessionOf u l))) s₂ p
       by zero e = put-at s₁ p _ p refl ∙ sym (put-at s₂ p _ p refl)
       by (suc n) e =
           let z = same-number 0 (opens p u l) refl in
-          let refused = false-iff (grants-iff f t s₁ known fits₁ p u l) .1 (λ w. omega arith) in
+          let refused = false-iff (grants-iff f t s₁ fits₁ p u l) .1 (λ w. omega arith) in
           same p (rw refused at k)
-  here known (closes p) h k = absurd (false≢true (rw (put-at t p none p refl) at k))
-  here known (takes p r) h k = rw (same-number 0 (takes p r) h) (changed-here p (takeRule f s₂ p r) (holding r) (same p h))
-  here known (drops p r) h k = rw (same-number 0 (drops p r) h) (changed-here p (dropRule f s₂ p r) (without r) (same p h))
-  here known (reads p o i n) h k = same p h
-  here known (writes p o i bytes) h k = same p h
+  here (closes p) h k = absurd (false≢true (rw (put-at t p none p refl) at k))
+  here (takes p r) h k = rw (same-number 0 (takes p r) h) (changed-here p (takeRule f s₂ p r) (holding r) (same p h))
+  here (drops p r) h k = rw (same-number 0 (drops p r) h) (changed-here p (dropRule f s₂ p r) (without r) (same p h))
+  here (reads p o i n) h k = same p h
+  here (writes p o i bytes) h k = same p h
 
-  pub next-same : Orderly f s₁ → (c : Call) → shared f L t c ≡ true → SameSessions f L (track f t c) (next f s₁ c) (next f s₂ c)
-  next-same known c h q k = elim (ℕ-discrete (placeOf c) q) [
-    | yes e ↦ rw (← e) (here known c h (rw (← e) at k))
+  pub next-same : (c : Call) → shared f L t c ≡ true → SameSessions f L (track f t c) (next f s₁ c) (next f s₂ c)
+  next-same c h q k = elim (ℕ-discrete (placeOf c) q) [
+    | yes e ↦ rw (← e) (here c h (rw (← e) at k))
     | no n ↦ next-other f s₁ c q n ∙ same q (rw (track-other f t c q n) at k) ∙ sym (next-other f s₂ c q n)
   ]
 

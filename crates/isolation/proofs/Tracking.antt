@@ -70,7 +70,7 @@ module _ (f : List ℕ) (t : Open) where
 
 -- ---- the tracker goes along with the sessions
 
-module _ (f : List ℕ) (t : Open) (s : Sessions) (known : Orderly f s) (fits : Fits t s) where
+module _ (f : List ℕ) (t : Open) (s : Sessions) (fits : Fits t s) where
   -- the openings that the tracker grants are those that are done
   pub grants-iff : (p u l : ℕ) → (grants f t p u l ≡ true) ↔ (openRule f s p u l ≡ 0)
   unfolding grants openRule unless
@@ -99,30 +99,31 @@ module _ (f : List ℕ) (t : Open) (s : Sessions) (known : Orderly f s) (fits : 
   change-fits p change h =
       put-everywhere (λ q x. t q ≡ labelOf x) s p (Option·map change (s p)) (fits p ∙ sym (same-label change h (s p))) (λ q n. fits q)
 
-  -- a closing that is refused is of a place that has no session
-  refused-free : (p : ℕ) → (closeRule s p ≡ 0 → ⊥) → s p ≡ none
-  unfolding closeRule
-  refused-free p h = by (s p) refl
-    where
-      by : (o : Option Session) → s p ≡ o → o ≡ none
-      by none e = refl
-      by (some x) e = absurd (h (session-granted f s known p x e (λ x. 0) refl))
+  module _ (known : Orderly f s) where
+    -- a closing that is refused is of a place that has no session
+    refused-free : (p : ℕ) → (closeRule s p ≡ 0 → ⊥) → s p ≡ none
+    unfolding closeRule
+    refused-free p h = by (s p) refl
+      where
+        by : (o : Option Session) → s p ≡ o → o ≡ none
+        by none e = refl
+        by (some x) e = absurd (h (session-granted f s known p x e (λ x. 0) refl))
 
-  pub fits-track : (c : Call) → Fits (track f t c) (next f s c)
-  unfolding track next ifDone
-  fits-track (opens p u l) = by (openRule f s p u l) refl
-    where
-      by : (n : ℕ) → openRule f s p u l ≡ n → Fits (cond (grants f t p u l) (put t p (some l)) t) (ifDone n (put s p (some (sessionOf u l))) s)
-      by zero e = rw (grants-iff p u l .1 e) (put-fits p (some (sessionOf u l)))
-      by (suc n) e = rw (false-iff (grants-iff p u l) .1 (λ z. omega arith)) fits
-  fits-track (closes p) = by (closeRule s p) refl
-    where
-      by : (n : ℕ) → closeRule s p ≡ n → Fits (put t p none) (ifDone n (put s p none) s)
-      by zero e = put-fits p none
-      by (suc n) e = put-everywhere (λ q x. x ≡ labelOf (s q)) t p none (ap labelOf (sym (refused-free p (λ z. omega arith)))) (λ q n. fits q)
-  fits-track (takes p r) =
-      either-way (Fits t) (takeRule f s p r) (put s p (Option·map (holding r) (s p))) s (λ z. change-fits p (holding r) (λ x. refl)) fits
-  fits-track (drops p r) =
-      either-way (Fits t) (dropRule f s p r) (put s p (Option·map (without r) (s p))) s (λ z. change-fits p (without r) (λ x. refl)) fits
-  fits-track (reads p o k n) = fits
-  fits-track (writes p o k bytes) = fits
+    pub fits-track : (c : Call) → Fits (track f t c) (next f s c)
+    unfolding track next ifDone
+    fits-track (opens p u l) = by (openRule f s p u l) refl
+      where
+        by : (n : ℕ) → openRule f s p u l ≡ n → Fits (cond (grants f t p u l) (put t p (some l)) t) (ifDone n (put s p (some (sessionOf u l))) s)
+        by zero e = rw (grants-iff p u l .1 e) (put-fits p (some (sessionOf u l)))
+        by (suc n) e = rw (false-iff (grants-iff p u l) .1 (λ z. omega arith)) fits
+    fits-track (closes p) = by (closeRule s p) refl
+      where
+        by : (n : ℕ) → closeRule s p ≡ n → Fits (put t p none) (ifDone n (put s p none) s)
+        by zero e = put-fits p none
+        by (suc n) e = put-everywhere (λ q x. x ≡ labelOf (s q)) t p none (ap labelOf (sym (refused-free p (λ z. omega arith)))) (λ q n. fits q)
+    fits-track (takes p r) =
+        either-way (Fits t) (takeRule f s p r) (put s p (Option·map (holding r) (s p))) s (λ z. change-fits p (holding r) (λ x. refl)) fits
+    fits-track (drops p r) =
+        either-way (Fits t) (dropRule f s p r) (put s p (Option·map (without r) (s p))) s (λ z. change-fits p (without r) (λ x. refl)) fits
+    fits-track (reads p o k n) = fits
+    fits-track (writes p o k bytes) = fits
