@@ -11,7 +11,7 @@ use lib.ListN.{length}
 use borrow.Author.Tests.{le-leb, eqb-true, eq-eqb}
 use Rattle.search.specs.Search.{among, Among}
 use Rattle.search.proofs.Truth.{or-iff, and-iff, among-iff}
-use Rattle.search.proofs.Found.{some-iff, some-agree}
+use Rattle.search.proofs.Found.{some-agree, some-both}
 use Rattle.roleset.specs.Row.{member, rowOf}
 use Rattle.rolefile.specs.declared.Verdict.{Verdict}
 use Rattle.rolefile.specs.Said.{labels, roles, users, cards, clearance}
@@ -138,8 +138,7 @@ module _ (f : List ℕ) (size p u l : ℕ) (place : Among 64 p) (enough : 64 * c
   come : (o m : ℕ) → Able f u l o m → couldByFile f u l o m ≡ true → (r : ℕ) × Let o m r
   unfolding couldByFile takeRule partRule unless
   come o m a h =
-      let (r, w, e) = some-iff (λ r. entitledByFile f u r && (fittingByFile f l r && may f m r o)) (roles f) .0 h in
-      let (b, x) = and-iff (entitledByFile f u r) (fittingByFile f l r && may f m r o) .0 e in
+      let (r, w, b, x) = some-both (entitledByFile f u) (λ r. fittingByFile f l r && may f m r o) (roles f) .0 h in
       let (s, g) = and-iff (fittingByFile f l r) (may f m r o) .0 x in
       let opened = opening-done f noSessions p u l (record { place = place; free = refl; user = a .user; label = a .label; cleared = a .cleared }) in
       let taken : takeRule f one p r ≡ 0 = rw (among-iff 64 p .1 place, session-one opened, among-iff (roles f) r .1 w, b, s) in (
@@ -161,8 +160,8 @@ module _ (f : List ℕ) (size p u l : ℕ) (place : Among 64 p) (enough : 64 * c
       Option·some-injective (part .session) (holding r (sessionOf u l)) (sym (part .found) ∙ session-two (x .opened) r (x .taken)) in
       let same : givesByFile f m (holding r (sessionOf u l)) o ≡ true = ap (λ (s : Session). givesByFile f m s o) (sym who) ∙ part .used in (
         record { user = op .user; label = op .label; card = part .card; mode = mode; cleared = op .cleared },
-        some-iff (λ r. entitledByFile f u r && (fittingByFile f l r && may f m r o)) (roles f) .1
-            (r, w, and-iff (entitledByFile f u r) (fittingByFile f l r && may f m r o) .1 (b, and-iff (fittingByFile f l r) (may f m r o) .1 (s, holds-one m o r same))),
+        some-both (entitledByFile f u) (λ r. fittingByFile f l r && may f m r o) (roles f) .1
+            (r, w, b, and-iff (fittingByFile f l r) (may f m r o) .1 (s, holds-one m o r same)),
       )
 
 -- a figure is 1 exactly when the question is done and the answer is yes
