@@ -4,12 +4,11 @@ use Prim.Native.Nat.{ℕ}
 use mathlib.Core.Path.{_≡_, refl}
 use mathlib.Core.Logic.{⊎-elim}
 use mathlib.Core.List.{List}
-use mathlib.Core.Bool.{Bool, true, _&&_}
+use mathlib.Core.Bool.{Bool, true}
 use lib.Dec.{eqb}
 use borrow.Author.Tests.{eq-eqb}
 use Rattle.search.specs.Search.{Among}
-use Rattle.search.proofs.Truth.{and-iff}
-use Rattle.search.proofs.Found.{some-of}
+use Rattle.search.proofs.Found.{some-both}
 use Rattle.order.specs.Closure.{Relation, PartialOrder}
 use Rattle.order.specs.Bound.{converse}
 use Rattle.rolefile.specs.Said.{labels, cards, cardLabel}
@@ -33,9 +32,7 @@ module _ (f : List ℕ) (accepted : Accepted f) where
 
   may-at : (m r o : ℕ) → Among (cards f) o → may f m r o ≡ true → mayAt f m r (cardLabel f o) ≡ true
   unfolding mayAt
-  may-at m r o w h =
-      some-of (λ c. may f m r c && eqb (cardLabel f c) (cardLabel f o)) (cards f) o w
-      (and-iff (may f m r o) (eqb (cardLabel f o) (cardLabel f o)) .1 (h, eq-eqb (cardLabel f o) (cardLabel f o) refl))
+  may-at m r o w h = some-both (may f m r) (λ c. eqb (cardLabel f c) (cardLabel f o)) (cards f) .1 (o, w, h, eq-eqb (cardLabel f o) (cardLabel f o) refl)
 
   module _ (l r o : ℕ) (label : Among (labels f) l) (card : Among (cards f) o) (suited : fittingByFile f l r ≡ true) where
     pub reads-below : may f 1 r o ≡ true → dominates f l (cardLabel f o) ≡ true
