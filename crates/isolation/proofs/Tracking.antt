@@ -1,21 +1,20 @@
 -- The tracker of "Two runs side by side" fits the sessions: it has a label at a place exactly where a session sits, and it is that session's. Assumes nothing.
 use Prim.Native.Nat.{ℕ, zero, suc}
 use mathlib.Core.Path.{_≡_, refl, sym, ap, _∙_}
-use mathlib.Core.Logic.{_↔_}
+use mathlib.Core.Logic.{_↔_, Iff·rfl}
 use mathlib.Core.List.{List}
-use mathlib.Core.Bool.{true, _&&_, cond}
+use mathlib.Core.Bool.{true, cond}
 use mathlib.Core.Option.{Option, none, some, Option·map}
 use native.Mathlib.Omega.{arith}
-use Rattle.search.specs.Search.{among}
-use Rattle.search.proofs.Truth.{and-iff, among-iff, false-iff, either}
+use Rattle.search.proofs.Truth.{and-both, among-iff, false-iff, either}
 use Rattle.rolefile.specs.Said.{labels, users, clearance}
 use Rattle.policy.specs.Policy.{dominates}
-use Rattle.monitor.specs.Calls.{unless, ifDone}
+use Rattle.monitor.specs.Calls.{ifDone}
 use Rattle.monitor.specs.Runs.{Call, opens, closes, takes, drops, reads, writes}
 use Rattle.monitor.specs.Places.{isFree, put}
 use Rattle.monitor.specs.Rules.{Session, Sessions, noSessions, openRule, closeRule, takeRule, dropRule, sessionOf, holding, without, next}
 use Rattle.monitor.proofs.Answers.{either-way}
-use Rattle.monitor.proofs.Orderly.{Orderly, opening, session-granted}
+use Rattle.monitor.proofs.Orderly.{Orderly, opening, opening-done, session-granted}
 use Rattle.monitor.proofs.Places.{put-everywhere, put-at, put-other}
 use Rattle.isolation.specs.TwoRuns.{Open, noneOpen, grants, track}
 
@@ -73,18 +72,14 @@ module _ (f : List ℕ) (t : Open) where
 module _ (f : List ℕ) (t : Open) (s : Sessions) (fits : Fits t s) where
   -- the openings that the tracker grants are those that are done
   pub grants-iff : (p u l : ℕ) → (grants f t p u l ≡ true) ↔ (openRule f s p u l ≡ 0)
-  unfolding grants openRule unless
-  grants-iff p u l = (
-    λ h.
-        let (a, b) = and-iff (among 64 p) (isFree (t p) && (among (users f) u && (among (labels f) l && dominates f (clearance f u) l))) .0 h in
-        let (c, d) = and-iff (isFree (t p)) (among (users f) u && (among (labels f) l && dominates f (clearance f u) l)) .0 b in
-        let (e, g) = and-iff (among (users f) u) (among (labels f) l && dominates f (clearance f u) l) .0 d in
-        let (i, j) = and-iff (among (labels f) l) (dominates f (clearance f u) l) .0 g in
-        rw (a, sym (free t s fits p) ∙ c, e, i, j),
-    λ z.
-        let o = opening f s p u l z in
-        rw (among-iff 64 p .1 (o .place), free t s fits p ∙ o .free, among-iff (users f) u .1 (o .user), among-iff (labels f) l .1 (o .label), o .cleared),
-  )
+  unfolding grants
+  grants-iff p u l =
+      let named = and-both (among-iff (users f) u) (and-both (among-iff (labels f) l) (Iff·rfl {A = dominates f (clearance f u) l ≡ true})) in
+      let tests = and-both (among-iff 64 p) (and-both (Iff·rfl {A = isFree (s p) ≡ true}) named) in
+      rw (free t s fits p) (
+        λ h. let (a, (b, (c, (d, e)))) = tests .0 h in opening-done f s p u l (record { place = a; free = b; user = c; label = d; cleared = e }),
+        λ z. let o = opening f s p u l z in tests .1 (o .place, (o .free, (o .user, (o .label, o .cleared)))),
+      )
 
   put-fits : (p : ℕ) (v : Option Session) → Fits (put t p (labelOf v)) (put s p v)
   put-fits p v =
