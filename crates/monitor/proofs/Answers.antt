@@ -1,6 +1,7 @@
 -- Each number of a call from the tests that led to it, and what a number 0 tells. Assumes nothing.
 use Prim.Native.Nat.{ℕ, zero, suc, _+_, _*_, _≤_, _<_}
 use mathlib.Core.Path.{_≡_, refl, sym, _∙_}
+use mathlib.Core.Logic.{_↔_}
 use mathlib.Core.List.{List}
 use mathlib.Core.Bool.{Bool, true, false, not, cond}
 use native.Mathlib.Omega.{arith}
@@ -79,16 +80,17 @@ pub record Sound (xs : List ℕ) : Type 0 where
   pub users : usersIn xs ≤ 256
   pub cards : cardsIn xs ≤ 512
 
-pub sound-of : (xs : List ℕ) → sound xs ≡ true → Sound xs
+pub sound-iff : (xs : List ℕ) → (sound xs ≡ true) ↔ Sound xs
 unfolding sound
-sound-of xs h =
-    let tests = and-both (leb-iff 65536 (length xs)) (limits-iff (labelsIn xs) (rolesIn xs) (usersIn xs) (cardsIn xs)) in
-    let (long, (labels, (roles, (users, cards)))) = tests .0 h in
-    record { long = long; labels = labels; roles = roles; users = users; cards = cards }
+sound-iff xs =
+    let tests = and-both (leb-iff 65536 (length xs)) (limits-iff (labelsIn xs) (rolesIn xs) (usersIn xs) (cardsIn xs)) in (
+      λ e. let (long, (labels, (roles, (users, cards)))) = tests .0 e in record { long = long; labels = labels; roles = roles; users = users; cards = cards },
+      λ s. tests .1 (s .long, (s .labels, (s .roles, (s .users, s .cards)))),
+    )
 
 -- ---- what a test that passed tells
 pub user-known : (xs : List ℕ) {r : Bool} → r ≡ sound xs → not r ≡ false → (x : ℕ) {q : Bool} → q ≡ among (usersIn xs) x → not q ≡ false → Among 256 x
-user-known xs e h x f k = let w = one-of (usersIn xs) x f k in let few = sound-of xs (passed e h) .users in omega arith
+user-known xs e h x f k = let w = one-of (usersIn xs) x f k in let few = sound-iff xs .0 (passed e h) .users in omega arith
 
 -- ---- what a call that is done tells, for the code that then writes
 pub record Room (xs : List ℕ) (p : ℕ) : Type 0 where
@@ -103,7 +105,7 @@ open-room xs p u l h =
     let c = unless-done _ _ _ (omega arith) (b .1) in
     let d = unless-done _ _ _ (omega arith) (c .1) in
     let e = unless-done _ _ _ (omega arith) (d .1) in
-    let s = sound-of xs (a .0) in
+    let s = sound-iff xs .0 (a .0) in
     let v = among-iff (usersIn xs) u .0 (d .0) in
     let w = among-iff (labelsIn xs) l .0 (e .0) in
     (record { long = s .long; place = among-iff 64 p .0 (b .0) }, omega arith, omega arith)
@@ -119,7 +121,7 @@ at-session-done xs p rest h =
     let a = unless-done (sound xs) 21 _ (omega arith) h in
     let b = unless-done (among 64 p) 22 _ (omega arith) (a .1) in
     let c = unless-done (inUse xs p) 24 rest (omega arith) (b .1) in
-    record { sound = sound-of xs (a .0); place = among-iff 64 p .0 (b .0); done = c .1 }
+    record { sound = sound-iff xs .0 (a .0); place = among-iff 64 p .0 (b .0); done = c .1 }
 
 -- ---- a call at a session, where the number r of what it asks first is a closing's
 module _ (xs : List ℕ) (p : ℕ) {r : ℕ} (e : r ≡ closeNumber xs p) where
@@ -212,7 +214,7 @@ can-room xs u l o m h =
     let b = unless-done _ _ _ (omega arith) (a .1) in
     let c = unless-done _ _ _ (omega arith) (b .1) in
     let d = unless-done _ _ _ (omega arith) (c .1) in
-    let s = sound-of xs (a .0) in
+    let s = sound-iff xs .0 (a .0) in
     let v = among-iff (usersIn xs) u .0 (b .0) in
     let w = among-iff (cardsIn xs) o .0 (d .0) in
     record { sound = s; user = omega (arith, s .users); card = omega (arith, s .cards) }

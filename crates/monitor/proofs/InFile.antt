@@ -12,15 +12,14 @@ use lib.ListN.{length, getD}
 use borrow.Author.Tests.{le-leb}
 use Rattle.search.specs.Search as search
 use Rattle.search.specs.Search.{among, Among}
-use Rattle.search.proofs.Truth.{leb-iff, and-iff, and-both, among-iff}
+use Rattle.search.proofs.Truth.{and-iff, among-iff}
 use Rattle.roleset.specs.Row.{member, rowOf, common}
 use Rattle.roleset.proofs.Rows.{whole-true}
 use Rattle.rolefile.specs.Said.{labels, roles, users, cards, clearance, assigned}
 use Rattle.rolefile.specs.WellFormed.{WellFormed}
-use Rattle.rolefile.proofs.Formed.{limits-iff}
 use Rattle.rolefile.proofs.Within.{some-within}
 use Rattle.policy.specs.Policy.{dominates, senior, may}
-use Rattle.policy.specs.Tables.{stateSize, seniorsAt, assignedAt}
+use Rattle.policy.specs.Tables.{seniorsAt, assignedAt}
 use Rattle.policy.proofs.Assigning.{reads-test, writes-test}
 use Rattle.policy.proofs.Inside.{assigned-known, over-between}
 use Rattle.policy.proofs.Meaning.{counts-known, role-few, marked-file}
@@ -29,6 +28,7 @@ use Rattle.monitor.specs.Session.{sound, labelsIn, rolesIn, usersIn, car
 use Rattle.monitor.specs.Calls.{unless, atSession, openNumber, closeNumber, takeNumber, dropNumber, partNumber}
 use Rattle.monitor.specs.Places.{isFree}
 use Rattle.monitor.specs.Rules.{Session, Sessions, sessionRule, atSessionByFile, entitledByFile, fittingByFile, givesByFile, openRule, closeRule, takeRule, dropRule, partRule}
+use Rattle.monitor.proofs.Answers.{sound-iff}
 use Rattle.monitor.proofs.Orderly.{Admitted, Known, Orderly}
 use Rattle.monitor.proofs.Stands.{SessionAt, PlaceIs, Stands}
 
@@ -53,13 +53,16 @@ module _ (f : List ℕ) (form : WellFormed f) (t : Sessions) (xs : List ℕ) (st
   -- ---- the tests
 
   pub sound-file : sound xs ≡ true
-  unfolding sound
   sound-file =
       let c = counts-known f form in
       let e = stands .tables .counted in
-      rw (e .labels, e .roles, e .users, e .cards)
-      (and-both (leb-iff stateSize (length xs)) (limits-iff (labels f) (roles f) (users f) (cards f)) .1
-      (stands .long, (c .labels, (c .roles, (c .users, c .cards)))))
+      sound-iff xs .1 (record {
+        long = stands .long;
+        labels = rw (e .labels) (c .labels);
+        roles = rw (e .roles) (c .roles);
+        users = rw (e .users) (c .users);
+        cards = rw (e .cards) (c .cards);
+      })
 
   free-file : (p : ℕ) → Among 64 p → not (inUse xs p) ≡ isFree (t p)
   unfolding inUse

@@ -11,7 +11,7 @@ use Rattle.search.proofs.Found.{wider}
 use Rattle.policy.specs.Tables.{word}
 use Rattle.monitor.specs.Session.{sound, entitled, fitting}
 use Rattle.monitor.specs.Review.{known, isRole, isUser, isCard, knownCount, entitledTo, mayOpen, mayTake}
-use Rattle.monitor.proofs.Answers.{Sound, sound-of}
+use Rattle.monitor.proofs.Answers.{Sound, sound-iff}
 
 -- the test that fails, and one before it; a call's `ensures` is r ≡ t
 module _ (t rest : Bool) {r : Bool} (e : r ≡ t) where
@@ -25,7 +25,7 @@ pub ruleset tests = (fails, holds)
 
 module _ (xs : List ℕ) where
   few : (n at : ℕ) → (Sound xs → word xs at ≤ n) → knownCount xs at ≤ n
-  few n at most = either-by (λ k. k ≤ n) (sound xs) (word xs at) 0 (λ e. most (sound-of xs e)) (λ e. omega arith)
+  few n at most = either-by (λ k. k ≤ n) (sound xs) (word xs at) 0 (λ e. most (sound-iff xs .0 e)) (λ e. omega arith)
 
   pub few-labels : knownCount xs 0 ≤ 32
   few-labels = few 32 0 (λ s. s .labels .1)
@@ -53,7 +53,7 @@ module _ (xs : List ℕ) where
 
   -- only a sound state knows a number
   pub long : (at x : ℕ) → known xs at x ≡ true → 65536 ≤ length xs
-  long at x h = sound-of xs (by (sound xs) (inside at x h)) .long
+  long at x h = sound-iff xs .0 (by (sound xs) (inside at x h)) .long
     where
       by : (b : Bool) → Among (cond b (word xs at) 0) x → b ≡ true
       by true w = refl
