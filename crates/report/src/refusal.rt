@@ -155,9 +155,11 @@ fn reason_row(number: u64, out: &mut [u8], at: usize) -> usize
 }
 
 // Puts the report on a file that was refused with a number and the two numbers of its place, none
-// above 99,999, at the start of `out`, and answers how many bytes are then in use.
-fn told(file: &[u8], number: u64, first: u64, second: u64, out: &mut [u8]) -> usize
+// above 99,999, at the start of `out`, and answers how many bytes are then in use: whole, where `out`
+// has 256 bytes.
+pub fn refusal(file: &[u8], number: u64, first: u64, second: u64, out: &mut [u8]) -> usize
     ensures { λ r. ⌜ Puts (refusal.refusalText (now (file .entry)) number first second) 0 (now (out .entry)) r (now (out .exit)) ⌝ }
+    ensures { λ r. ⌜ (256 ≤ length (now (out .entry)) → take r (now (out .exit)) ≡ refusal.refusalText (now (file .entry)) number first second) ⌝ }
 {
     if 99999 < number {
         return 0;
@@ -171,12 +173,4 @@ fn told(file: &[u8], number: u64, first: u64, second: u64, out: &mut [u8]) -> us
     let mut used = place_rows(number, first, second, out);
     used = reason_row(number, out, used);
     line_row(file, number, first, out, used)
-}
-
-// The same, whole where `out` has 256 bytes.
-pub fn refusal(file: &[u8], number: u64, first: u64, second: u64, out: &mut [u8]) -> usize
-    ensures { λ r. ⌜ Puts (refusal.refusalText (now (file .entry)) number first second) 0 (now (out .entry)) r (now (out .exit)) ⌝ }
-    ensures { λ r. ⌜ (256 ≤ length (now (out .entry)) → take r (now (out .exit)) ≡ refusal.refusalText (now (file .entry)) number first second) ⌝ }
-{
-    told(file, number, first, second, out)
 }
