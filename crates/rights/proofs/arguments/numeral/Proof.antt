@@ -2,7 +2,7 @@
 use Prim.Native.Nat.{ℕ, _+_, _-_, _*_, _^_, _≤_, _<_}
 use mathlib.Core.Path.{_≡_, refl, sym, _∙_}
 use mathlib.Core.List.{List}
-use mathlib.Core.Bool.{Bool, true, false}
+use mathlib.Core.Bool.{Bool, true, false, cond}
 use native.Mathlib.Nat.{pow-le-pow-right}
 use native.Mathlib.Omega.{arith}
 use native.Mathlib.Numerals.{add-one}
@@ -35,13 +35,9 @@ module _ (t : List ℕ) where
   unfolding numeral
   long l = rw (lt-leb (length t) 5 l)
 
-  other : length t ≤ 5 → false ≡ every (length t) (digit t) → 0 ≡ numeral t
+  short : length t ≤ 5 → {b : Bool} → b ≡ every (length t) (digit t) → cond b (valueOf (length t) t) 0 ≡ numeral t
   unfolding numeral
-  other l h = rw (le-leb (length t) 5 l, ← h)
-
-  whole : length t ≤ 5 → true ≡ every (length t) (digit t) → valueOf (length t) t ≡ numeral t
-  unfolding numeral
-  whole l h = rw (le-leb (length t) 5 l, ← h)
+  short l h = rw (le-leb (length t) 5 l, ← h)
 
 abbrev Inv-loop : tie.InvT-loop
 Inv-loop t value₀ i₀ value i = (length t ≤ 5) × (i ≤ length t) × (value ≡ valueOf i t) × (true ≡ every i (digit t)) × (value < 10 ^ i) × (10 ^ i ≤ 100000)
@@ -80,7 +76,7 @@ returns-2 : tie.Need-returns-2 Inv-loop μ-loop
 returns-2 c =
     let w = c .before .before .before .before .loop in
     let t = now (c .before .before .before .before .before .before .before .args .t) in
-    other t (w .inv .0) (fails t (w .i) (search needs) (failed (c .before .is-digit .ensures) (c .if2 .taken)))
+    short t (w .inv .0) (fails t (w .i) (search needs) (failed (c .before .is-digit .ensures) (c .if2 .taken)))
 
 mul-value : tie.Need-mul-value Inv-loop μ-loop
 mul-value c = let w = c .before .before .before .before .loop in omega (arith, w .inv .4, w .inv .5)
@@ -112,7 +108,7 @@ returns-3 c =
     let w = c .before .loop in
     let t = now (c .before .before .before .before .args .t) in
     let all : w .i ≡ length t = omega arith in
-    w .inv .2 ∙ rw all (whole t (w .inv .0) (rw all at (w .inv .3)))
+    w .inv .2 ∙ rw all (short t (w .inv .0) (rw all at (w .inv .3)))
 
 pub numeral-spec : {M : Type 1} → statement M
 numeral-spec =
