@@ -11,7 +11,7 @@ use lib.ListN.{length, getD, take, drop, length-drop}
 use lib.Seq.{length-take-le, getD-take, getD-drop, ext-getD}
 use Rattle.search.specs.Search.{Among}
 use Rattle.search.proofs.Truth.{untrue, both, false-iff}
-use Rattle.rolefile.specs.Said.{labels, roles, cards, cardLabel}
+use Rattle.rolefile.specs.Said.{labels, cards, cardLabel}
 use Rattle.policy.specs.Policy.{dominates, may}
 use Rattle.policy.specs.Accepted.{Accepted}
 use Rattle.monitor.specs.Calls.{ifDone, written, partAt, writeNumber}

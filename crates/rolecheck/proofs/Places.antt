@@ -26,7 +26,7 @@ value-few f at = go (fieldAt f at) refl
     go (Number n) e = field-number f at n .0 e .0
     go Bad e = omega arith
 
-pub record Few (l : Line) : Type 0 where
+record Few (l : Line) : Type 0 where
   pub a : l .a < 100000
   pub b : l .b < 100000
   pub c : l .c < 100000

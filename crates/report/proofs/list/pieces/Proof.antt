@@ -7,7 +7,7 @@ use denote.Ref.{now}
 use Rattle.roleset.specs.Row.{member}
 use Rattle.text.specs.Text.{Puts}
 use Rattle.text.proofs.Each.{each-none, each-more}
-use Rattle.report.specs.Lists.{piece, pieces, sizeOf, listed}
+use Rattle.report.specs.Lists.{pieces, sizeOf, listed}
 use Rattle.report.proofs.Few.{few}
 use Rattle.report.proofs.list.pieces.Statement.{statement}
 use Rattle.report.proofs.list.pieces.Tie as tie
