@@ -4,14 +4,14 @@ use mathlib.Core.List.{List, [], _++_}
 use mathlib.Core.Bool.{Bool}
 use native.Mathlib.Omega.{arith}
 use lib.ListN.{length, getD, length-append}
-use Rattle.search.specs.Search.{among, some}
-use Rattle.search.proofs.Truth.{among-iff, either}
+use Rattle.search.specs.Search.{some}
+use Rattle.search.proofs.Truth.{either}
 use Rattle.rolefile.specs.Decimal.{digits}
 use Rattle.policy.specs.Tables.{clearancesAt}
 use Rattle.rolefile.proofs.Decimals.{few-digits, padded-length}
 use Rattle.text.specs.Text.{ascii}
-use Rattle.monitor.specs.Review.{knownLabels, knownUsers, isUser, clearanceOf, mayOpen, mayTake}
-use Rattle.monitor.proofs.Known.{few-labels, few-users}
+use Rattle.monitor.specs.Review.{knownLabels, isUser, clearanceOf, mayOpen, mayTake}
+use Rattle.monitor.proofs.Known.{few-labels, user}
 use Rattle.report.specs.declared.list.Listed.{Listed}
 use Rattle.report.specs.declared.list.Listed.the-variants.{Assigned, Inherited, Taken, Untaken, Read, Written, Unread}
 use Rattle.report.specs.Lists.{piece, pieces, ranges, sizeOf, listed, rangesOf}
@@ -78,9 +78,7 @@ module _ (xs : List ℕ) where
   pub user-fits : (u : ℕ) → clearanceOf xs u < 100000 → length (userText xs u) ≤ 304200
   unfolding userText
   user-fits u m =
-      where-most (among (knownUsers xs) u) _ (λ e.
-      let w = among-iff (knownUsers xs) u .0 e in
-      simp length-append (omega (arith, lines-most u (omega (arith, few-users xs)) m, labels-most u, few-labels xs)))
+      where-most (isUser xs u) _ (λ e. simp length-append (omega (arith, lines-most u (omega (arith, user xs u e)) m, labels-most u, few-labels xs)))
 
   pub nobody-fits : length (nobodyText xs) ≤ 304200
   unfolding nobodyText

@@ -11,10 +11,10 @@
 use Prim.Native.Nat.{ℕ}
 use mathlib.Core.List.{List, [], _++_}
 use mathlib.Core.Bool.{Bool, true, false, cond}
-use Rattle.search.specs.Search.{among, some}
+use Rattle.search.specs.Search.{some}
 use Rattle.rolefile.specs.Decimal.{digits, columnsOf}
 use Rattle.text.specs.Text.{ascii, each}
-use Rattle.monitor.specs.Review.{knownLabels, knownUsers, clearanceOf, mayOpen, mayTake}
+use Rattle.monitor.specs.Review.{knownLabels, knownUsers, isUser, clearanceOf, mayOpen, mayTake}
 use Rattle.report.specs.declared.list.Listed.the-variants.{Assigned, Inherited, Taken, Untaken, Read, Written, Unread}
 use Rattle.report.specs.Lists.{rangesOf}
 
@@ -57,7 +57,7 @@ labelsLines xs u = each (knownLabels xs) (labelLines xs u)
 
 -- all of one of the state's users, and an empty line; nothing of another number
 unfoldable pub userText : List ℕ → ℕ → List ℕ
-userText xs u = cond (among (knownUsers xs) u) (userLines xs u ++ (labelsLines xs u ++ ascii "\n")) []
+userText xs u = cond (isUser xs u) (userLines xs u ++ (labelsLines xs u ++ ascii "\n")) []
 
 -- some user may take role r at some label
 unfoldable pub anyoneTakes : List ℕ → ℕ → Bool

@@ -7,27 +7,26 @@ use native.Mathlib.Omega.{arith}
 use native.Mathlib.Nat.{le-trans}
 use borrow.Author.Needs.{needs}
 use denote.Ref.{now}
-use Rattle.search.specs.Search.{among}
-use Rattle.search.proofs.Truth.{among-iff, passed, failed}
+use Rattle.search.proofs.Truth.{passed, failed}
 use Rattle.text.specs.Text.{ascii}
 use Rattle.text.proofs.Text.{puts-then, puts-nothing, puts-whole, puts-as}
-use Rattle.monitor.specs.Review.{knownUsers}
-use Rattle.monitor.proofs.Known.{few-users}
+use Rattle.monitor.specs.Review.{isUser}
+use Rattle.monitor.proofs.Known.{user}
 use Rattle.report.specs.Rights.{userLines, labelsLines, userText}
 use Rattle.report.proofs.Whole.{user-fits, clearance-byte}
 use Rattle.report.proofs.user.user_text.Statement.{statement}
 use Rattle.report.proofs.user.user_text.Tie as tie
 
-module _ (xs : List ℕ) (u : ℕ) (e : among (knownUsers xs) u ≡ true) where
+module _ (xs : List ℕ) (u : ℕ) (e : isUser xs u ≡ true) where
   all-told : userLines xs u ++ (labelsLines xs u ++ ascii "\n") ≡ userText xs u
   unfolding userText
   all-told = rw e
 
   few : u < 100000
-  few = let w = among-iff (knownUsers xs) u .0 e in omega (arith, few-users xs)
+  few = omega (arith, user xs u e)
 
 -- what is tested
-tested : (c : tie.After-among) → let a = c .before .before .before .before .args in c .among .result ≡ among (knownUsers (now (a .s))) (a .user)
+tested : (c : tie.After-among) → let a = c .before .before .before .before .args in c .among .result ≡ isUser (now (a .s)) (a .user)
 tested c = rw (c .before .users .ensures) at (c .among .ensures)
 
 returns : tie.Need-returns
