@@ -13,7 +13,7 @@ use Rattle.rolefile.specs.Section.{part}
 use Rattle.policy.specs.declared.build.Parts.{Parts}
 use Rattle.policy.specs.Tables.{word, assignedAt, pairs, Related}
 use Rattle.policy.specs.Stages.{Ready, Zeros, Counting, Finishing}
-use Rattle.policy.proofs.Readying.{good-of, section-a}
+use Rattle.policy.proofs.Readying.{good-of, a-lines}
 use Rattle.policy.proofs.Relating.{unites-zeros}
 use Rattle.policy.proofs.Ranks.{pairs-say}
 use Rattle.policy.proofs.Builds.{word-stays}
@@ -37,7 +37,7 @@ module _ (f : List ℕ) (q : Parts) (h : Line) (ready : Ready f q h) (xs ys zs p
     (its : p ≡ part f (q .a .start)) (filled : Related 4112 256 (pairs p (q .a .count)) xs ys) (counted : Counting h ys zs) where
   said : (u r : ℕ) → pairs p (q .a .count) u r ≡ assigned f u r
   unfolding fields
-  said u r = rw its (pairs-say f (good-of f (ready .lines)) (section-a f q (ready .lines) (ready .laid)) refl u r)
+  said u r = rw its (pairs-say f (good-of f (ready .lines)) (a-lines f q (ready .lines) (ready .laid)) refl u r)
 
   pub finished : Finishing f xs zs
   finished = record {

@@ -31,7 +31,7 @@ use Rattle.policy.specs.Tables.{rLevelsAt, wLevelsAt, seniorsAt, readers
 use Rattle.policy.specs.Tables.{lineGrants, grantedByLines, brings, gathered, Bytes, GrantedRows}
 use Rattle.policy.specs.Image.{Labelled, Seniors, Permitting, Allows}
 use Rattle.policy.specs.Stages.{Ready, Zeros, Closed, Granting}
-use Rattle.policy.proofs.Readying.{good-of, counts-of, section-p, one-within, limits-p}
+use Rattle.policy.proofs.Readying.{good-of, counts-of, p-lines, one-within, limits-p}
 use Rattle.policy.proofs.Inside.{Between, closure-between, above-between}
 use Rattle.policy.proofs.Dominance.{closed-agree}
 use Rattle.policy.proofs.Builds.{seniors-stay, permitting-stays, labelled-stays}
@@ -180,7 +180,7 @@ module _ (f : List ℕ) (q : Parts) (h : Line) (t up : List (List Bool)) (x₀ x
   permitting₂ =
       permitted f x₁ good (counts .roles)
       (seniors-stay f x₀ x₁ (λ i l m. kept i (λ n. omega arith)) seniors)
-      (section-p f q (ready .lines) (ready .laid)) x₂ grants
+      (p-lines f q (ready .lines) (ready .laid) .0) x₂ grants
       (λ i l m. kept i (λ n. omega arith) ∙ no-role i l m)
 
   permitting₃ : Permitting f x₃

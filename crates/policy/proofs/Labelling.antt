@@ -23,7 +23,7 @@ use Rattle.rolefile.specs.WellFormed.{GoodLines}
 use Rattle.policy.specs.declared.build.Parts.{Parts}
 use Rattle.policy.specs.Tables.{clearancesAt, cardLabelsAt, byteOf, Bytes, noted, notes, unlabelledByte}
 use Rattle.policy.specs.Stages.{Laid, Zeros, Noting}
-use Rattle.policy.proofs.Readying.{good-of, counts-of, section-u, section-o, one-within, two-within, limits-u, limits-o}
+use Rattle.policy.proofs.Readying.{good-of, counts-of, u-lines, o-lines, one-within, two-within, limits-u, limits-o}
 
 -- ---- one byte
 
@@ -126,12 +126,12 @@ tables-of f q e laid xs ys zs clear u o =
     let good = good-of f e in
     let counts = counts-of f e in
     record {
-      user = noted-table f good (section-u f q e laid) (omega arith) (users f) (limits-u h .0) (omega (arith, limits-u h .1, counts .labels))
+      user = noted-table f good (u-lines f q e laid .0) (omega arith) (users f) (limits-u h .0) (omega (arith, limits-u h .1, counts .labels))
           clearancesAt 256 zs (counts .users)
           (λ x w. o .rest (clearancesAt + (x - 1)) (λ l. omega arith)
           ∙ u .bytes x w
           ∙ rw (clear (clearancesAt + (x - 1)) (omega arith) (omega arith)));
-      card = noted-table f good (section-o f q e laid) (omega arith) (cards f) (limits-o h .0) (omega (arith, limits-o h .1, counts .labels))
+      card = noted-table f good (o-lines f q e laid .0) (omega arith) (cards f) (limits-o h .0) (omega (arith, limits-o h .1, counts .labels))
           cardLabelsAt 512 zs (counts .cards)
           (λ x w. o .bytes x w
           ∙ rw (u .rest (cardLabelsAt + (x - 1)) (λ l. omega arith), clear (cardLabelsAt + (x - 1)) (omega arith) (omega arith)));

@@ -27,7 +27,7 @@ use Rattle.policy.specs.Tables.{seniorsAt, pairs, Related}
 use Rattle.policy.specs.Verdict.{roleVerdict}
 use Rattle.policy.specs.Stages.{Ready, Zeros, Ranking}
 use Rattle.policy.specs.declared.build.Parts.{Parts}
-use Rattle.policy.proofs.Readying.{good-of, counts-of, head-roles, section-s}
+use Rattle.policy.proofs.Readying.{good-of, counts-of, head-roles, s-lines}
 use Rattle.policy.proofs.Inside.{above-between}
 use Rattle.policy.proofs.Closing.{paths-table, closed-table}
 use Rattle.policy.proofs.Relating.{unites-zeros}
@@ -62,7 +62,7 @@ module _ (f : List ℕ) (q : Parts) (h : Line) (ready : Ready f q h) (xs ys zs p
   unfolding fields
   direct a b v w =
       unites-zeros seniorsAt 128 _ xs ys (filled .rows) zeros a b v w
-      ∙ rw its (pairs-say f good (section-s f q (ready .lines) (ready .laid)) refl b a)
+      ∙ rw its (pairs-say f good (s-lines f q (ready .lines) (ready .laid) .0) refl b a)
 
   -- and the paths
   by-roles : Tabled seniorsAt (roles f) (path (roles f) (related ys seniorsAt)) ys zs

@@ -15,7 +15,7 @@ use Rattle.rolefile.specs.WellFormed.{Sized, GoodCounts, GoodNumbers, GoodLines
 use Rattle.rolefile.specs.Decimal.{letterByte}
 use Rattle.rolefile.proofs.Decides.{decides-zero}
 use Rattle.rolefile.proofs.Formed.{header-counts, lines-decides}
-use Rattle.rolefile.proofs.Sections.{Cut, Section, cut-first, cut-next, section-of, told}
+use Rattle.rolefile.proofs.Sections.{Cut, Section, cut-first, section-next, told}
 use Rattle.policy.specs.declared.build.Parts.{Parts}
 use Rattle.policy.specs.Stages.{Laid, Ready}
 
@@ -33,7 +33,7 @@ module _ (f : List ℕ) (e : linesVerdict f .number ≡ 0) where
   pub counts-of : GoodCounts (lineAt f 1)
   counts-of = header-counts f sized-of good-of
 
--- the sections, one after the other
+-- the sections, one after the other: each letter's lines, and where the next letter begins
 module _ (f : List ℕ) (q : Parts) (e : linesVerdict f .number ≡ 0) (laid : Laid f q) where
   good : GoodLines f
   good = good-of f e
@@ -42,41 +42,26 @@ module _ (f : List ℕ) (q : Parts) (e : linesVerdict f .number ≡ 0) (laid : L
   unfolding letterByte
   bytes = (refl, refl, refl, refl, refl, refl)
 
-  at-d : Cut f 2 (q .d .start)
-  at-d = rw (laid .first) (cut-first f good (some-line f e))
+  d-begins : Cut f D (q .d .start)
+  d-begins = rw (laid .first) (cut-first f good (some-line f e))
 
-  at-s : Cut f 3 (q .s .start)
-  at-s = rw (laid .s-after) (cut-next f good 2 (q .d .start) (q .d .count) 68 at-d (bytes .0) (omega arith) (laid .d))
+  pub d-lines : Section f D (q .d .start) (q .d .count) × Cut f S (q .s .start)
+  d-lines = rw (laid .s-after) (section-next f good d-begins (bytes .0) (omega arith) (laid .d))
 
-  at-u : Cut f 4 (q .u .start)
-  at-u = rw (laid .u-after) (cut-next f good 3 (q .s .start) (q .s .count) 83 at-s (bytes .1) (omega arith) (laid .s))
+  pub s-lines : Section f S (q .s .start) (q .s .count) × Cut f U (q .u .start)
+  s-lines = rw (laid .u-after) (section-next f good (d-lines .1) (bytes .1) (omega arith) (laid .s))
 
-  at-o : Cut f 5 (q .o .start)
-  at-o = rw (laid .o-after) (cut-next f good 4 (q .u .start) (q .u .count) 85 at-u (bytes .2) (omega arith) (laid .u))
+  pub u-lines : Section f U (q .u .start) (q .u .count) × Cut f O (q .o .start)
+  u-lines = rw (laid .o-after) (section-next f good (s-lines .1) (bytes .2) (omega arith) (laid .u))
 
-  at-p : Cut f 6 (q .p .start)
-  at-p = rw (laid .p-after) (cut-next f good 5 (q .o .start) (q .o .count) 79 at-o (bytes .3) (omega arith) (laid .o))
+  pub o-lines : Section f O (q .o .start) (q .o .count) × Cut f P (q .p .start)
+  o-lines = rw (laid .p-after) (section-next f good (u-lines .1) (bytes .3) (omega arith) (laid .o))
 
-  at-a : Cut f 7 (q .a .start)
-  at-a = rw (laid .a-after) (cut-next f good 6 (q .p .start) (q .p .count) 80 at-p (bytes .4) (omega arith) (laid .p))
+  pub p-lines : Section f P (q .p .start) (q .p .count) × Cut f A (q .a .start)
+  p-lines = rw (laid .a-after) (section-next f good (o-lines .1) (bytes .4) (omega arith) (laid .p))
 
-  pub section-d : Section f D (q .d .start) (q .d .count)
-  section-d = section-of f good 2 (q .d .start) (q .d .count) 68 at-d (bytes .0) (omega arith) (laid .d)
-
-  pub section-s : Section f S (q .s .start) (q .s .count)
-  section-s = section-of f good 3 (q .s .start) (q .s .count) 83 at-s (bytes .1) (omega arith) (laid .s)
-
-  pub section-u : Section f U (q .u .start) (q .u .count)
-  section-u = section-of f good 4 (q .u .start) (q .u .count) 85 at-u (bytes .2) (omega arith) (laid .u)
-
-  pub section-o : Section f O (q .o .start) (q .o .count)
-  section-o = section-of f good 5 (q .o .start) (q .o .count) 79 at-o (bytes .3) (omega arith) (laid .o)
-
-  pub section-p : Section f P (q .p .start) (q .p .count)
-  section-p = section-of f good 6 (q .p .start) (q .p .count) 80 at-p (bytes .4) (omega arith) (laid .p)
-
-  pub section-a : Section f A (q .a .start) (q .a .count)
-  section-a = section-of f good 7 (q .a .start) (q .a .count) 65 at-a (bytes .5) (omega arith) (laid .a)
+  pub a-lines : Section f A (q .a .start) (q .a .count)
+  a-lines = section-next f good (p-lines .1) (bytes .5) (omega arith) (laid .a) .0
 
 -- the counts in line 1
 module _ (f : List ℕ) (q : Parts) (h : Line) (ready : Ready f q h) where

@@ -43,20 +43,6 @@ part-letter : (f : List ℕ) (j i : ℕ) → 1 ≤ i → letterAt (part f j) i �
 unfolding letterAt
 part-letter f j i l = rw (getD-drop, part-start j i l)
 
--- a section ends where the next letter begins
-between : {f : List ℕ} {k j : ℕ} (m : ℕ) → Cut f k j → Cut f (k + 1) (j + m) → Section f k j m
-between {f} {k} {j} m c d = record {
-  fits = d .fits;
-  inside = λ i w. omega (arith, c .rest (j + i) (omega arith) (omega (arith, d .fits)), d .below (j + i) (omega arith));
-  only = λ i w e. (starts i w e, ends i w e);
-}
-  where
-    starts : (i : ℕ) → Among (lines f) i → lineAt f i .letter ≡ k → j < i
-    starts i w e = elim (decLt j i) [ yes l ↦ l | no l ↦ absurd (omega (arith, c .below i (omega arith))) ]
-
-    ends : (i : ℕ) → Among (lines f) i → lineAt f i .letter ≡ k → i ≤ j + m
-    ends i w e = elim (decLt (j + m) i) [ yes l ↦ absurd (omega (arith, d .rest i l (w .1))) | no l ↦ omega arith ]
-
 module _ (f : List ℕ) (good : GoodLines f) where
   -- ---- the letters
 
@@ -100,7 +86,7 @@ module _ (f : List ℕ) (good : GoodLines f) where
     rest = λ i p q. good i (omega arith) .body (λ e. omega arith) .letter;
   }
 
-  module _ (k j m b : ℕ) (c : Cut f k j) (e : letterByte k ≡ b) (u : Among 7 k) (h : Leads (part f j) b m) where
+  module _ {k j m b : ℕ} (c : Cut f k j) (e : letterByte k ≡ b) (u : Among 7 k) (h : Leads (part f j) b m) where
     cut-fits : j + m ≤ lines f
     cut-fits = omega (arith, c .fits, h .fits, part-lines f j)
 
@@ -112,8 +98,12 @@ module _ (f : List ℕ) (good : GoodLines f) where
     next-other l g =
         h .next (omega (arith, part-lines f j)) (part-letter f j (m + 1) (omega arith) ∙ letter-byte (j + (m + 1)) k (omega arith) u .0 g ∙ e)
 
-    pub cut-next : Cut f (k + 1) (j + m)
-    cut-next = record { fits = cut-fits; below = low; rest = high }
+    -- the lines of one letter are a section, and the next letter begins where it ends
+    pub section-next : Section f k j m × Cut f (k + 1) (j + m)
+    section-next = (
+      record { fits = cut-fits; inside = leads-letter; only = λ i w q. (starts i w q, ends i w q) },
+      record { fits = cut-fits; below = low; rest = high },
+    )
       where
         low : (i : ℕ) → Among (j + m) i → lineAt f i .letter < k + 1
         low i w = elim (decLt j i) [
@@ -128,8 +118,11 @@ module _ (f : List ℕ) (good : GoodLines f) where
             let other = next-other (omega arith) in
             omega arith
 
-    pub section-of : Section f k j m
-    section-of = between m c cut-next
+        starts : (i : ℕ) → Among (lines f) i → lineAt f i .letter ≡ k → j < i
+        starts i w q = elim (decLt j i) [ yes l ↦ l | no l ↦ absurd (omega (arith, c .below i (omega arith))) ]
+
+        ends : (i : ℕ) → Among (lines f) i → lineAt f i .letter ≡ k → i ≤ j + m
+        ends i w q = elim (decLt (j + m) i) [ yes l ↦ absurd (omega (arith, high i l (w .1))) | no l ↦ omega arith ]
 
 -- ---- searches for lines of one letter
 

@@ -4,7 +4,7 @@ use native.Mathlib.Omega.{arith}
 use borrow.Author.Needs.{needs}
 use denote.Ref.{now}
 use Rattle.policy.specs.Tables.{assignByTables}
-use Rattle.policy.proofs.Readying.{good-of, counts-of, section-a}
+use Rattle.policy.proofs.Readying.{good-of, counts-of, a-lines}
 use Rattle.policy.proofs.Inside.{over-between}
 use Rattle.policy.proofs.Assigning.{tables-verdict, numbers-within, scan-assignments}
 use Rattle.policy.proofs.build.check_assignments.Statement.{statement}
@@ -20,7 +20,7 @@ assign-lines-requires c κs =
     rw (c .part .ensures) (
       omega arith,
       ready .laid .a .fits,
-      numbers-within f (good-of f l) (counts-of f l) (section-a f q l (ready .laid)),
+      numbers-within f (good-of f l) (counts-of f l) (a-lines f q l (ready .laid)),
     )
 
 returns : tie.Need-returns
@@ -34,7 +34,7 @@ returns c =
     let good = good-of f l in
     let counts = counts-of f l in
     rw (c .before .part .ensures) at (c .assign-lines .ensures)
-    ∙ scan-assignments f good counts (section-a f q l (ready .laid)) (assignByTables ys)
+    ∙ scan-assignments f good counts (a-lines f q l (ready .laid)) (assignByTables ys)
     (tables-verdict f ys counts (over-between f good) dominating labelled levelled)
 
 pub check-assignments-spec : {M : Type 1} → statement M

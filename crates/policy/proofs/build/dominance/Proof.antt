@@ -1,7 +1,7 @@
 -- The lines of the letter D are marked, and the marks closed.
 use borrow.Author.Needs.{needs}
 use denote.Ref.{now}
-use Rattle.policy.proofs.Readying.{good-of, counts-of, section-d, head-labels}
+use Rattle.policy.proofs.Readying.{good-of, counts-of, d-lines, head-labels}
 use Rattle.policy.proofs.Dominance.{paths-of}
 use Rattle.policy.proofs.build.dominance.Statement.{statement}
 use Rattle.policy.proofs.build.dominance.Tie as tie
@@ -16,7 +16,7 @@ returns c =
     let r = start .pre in
     let few = counts-of f (r .lines) .labels in
     let marks = c .before .marks-of in
-    paths-of f (good-of f (r .lines)) (few .1) (section-d f (start .args .q) (r .lines) (r .laid)) (marks .result) (c .paths .result)
+    paths-of f (good-of f (r .lines)) (few .1) (d-lines f (start .args .q) (r .lines) (r .laid) .0) (marks .result) (c .paths .result)
     (rw (c .before .before .part .ensures) at (marks .ensures))
     (rw (head-labels f (start .args .q) (start .args .h) r) at (c .paths .ensures))
 
