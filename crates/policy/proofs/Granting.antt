@@ -11,8 +11,8 @@ use lib.Dec.{eqb}
 use lib.ListN.{getD}
 use borrow.Author.Tests.{eqb-true, eq-eqb, le-leb}
 use Rattle.search.specs.Search.{Among, among, some}
-use Rattle.search.proofs.Truth.{and-iff, among-iff, untrue, same}
-use Rattle.search.proofs.Found.{some-of, some-iff, some-none, some-agree}
+use Rattle.search.proofs.Truth.{among-iff, untrue, same}
+use Rattle.search.proofs.Found.{some-both, some-none, some-agree}
 use Rattle.roleset.specs.Row.{member, rowOf, Kept}
 use Rattle.order.specs.Closure.{Relation}
 use Rattle.order.specs.Bound.{converse}
@@ -43,29 +43,17 @@ use Rattle.policy.proofs.Relating.{unites-zeros}
 -- a search for a thing and a line that names it is one for the line
 by-line : (n m : ℕ) (x : ℕ → ℕ) (t u : ℕ → Bool) → ((i : ℕ) → Among m i → Among n (x i))
     → some m (λ i. u i && t (x i)) ≡ some n (λ q. t q && some m (λ i. eqb (x i) q && u i))
-by-line n m x t u inside = same (some m line) (some n thing) (λ h. to (some-iff line m .0 h)) (λ h. of (some-iff thing n .0 h))
-  where
-    line : ℕ → Bool
-    line i = u i && t (x i)
-
-    names : ℕ → ℕ → Bool
-    names q i = eqb (x i) q && u i
-
-    thing : ℕ → Bool
-    thing q = t q && some m (names q)
-
-    to : (i : ℕ) × Among m i × (line i ≡ true) → some n thing ≡ true
-    to (i, w, h) =
-        let (a, b) = and-iff (u i) (t (x i)) .0 h in
-        let named = some-of (names (x i)) m i w (and-iff (eqb (x i) (x i)) (u i) .1 (eq-eqb (x i) (x i) refl, a)) in
-        some-of thing n (x i) (inside i w) (and-iff (t (x i)) (some m (names (x i))) .1 (b, named))
-
-    of : (q : ℕ) × Among n q × (thing q ≡ true) → some m line ≡ true
-    of (q, w, h) =
-        let (a, b) = and-iff (t q) (some m (names q)) .0 h in
-        let (i, v, e) = some-iff (names q) m .0 b in
-        let (c, d) = and-iff (eqb (x i) q) (u i) .0 e in
-        some-of line m i v (and-iff (u i) (t (x i)) .1 (d, rw (eqb-true (x i) q c) a))
+by-line n m x t u inside =
+    let lines = some-both u (λ i. t (x i)) m in
+    let things = some-both t (λ q. some m (λ i. eqb (x i) q && u i)) n in
+    same (some m (λ i. u i && t (x i))) (some n (λ q. t q && some m (λ i. eqb (x i) q && u i)))
+    (λ h.
+    let (i, w, a, b) = lines .0 h in
+    things .1 (x i, inside i w, b, some-both (λ j. eqb (x j) (x i)) u m .1 (i, w, eq-eqb (x i) (x i) refl, a)))
+    (λ h.
+    let (q, w, a, b) = things .0 h in
+    let (i, v, c, d) = some-both (λ i. eqb (x i) q) u m .0 b in
+    lines .1 (i, v, d, rw (eqb-true (x i) q c) a))
 
 module _ (f xs : List ℕ) (good : GoodLines f) (few : roles f ≤ 128) (seniors : Seniors f xs) {j m : ℕ} (s : Section f P j m) where
   role-within : (i : ℕ) → Among m i → Among (roles f) (one (part f j) i)
