@@ -2,75 +2,56 @@
 -- reached from itself, and no circle is a partial order. Assumes nothing.
 use Prim.Native.Nat.{ℕ, zero, suc, _+_, _≤_, _<_}
 use mathlib.Core.Path.{_≡_, refl, sym, ap, _∙_}
-use mathlib.Core.Logic.{_↔_, _⊎_, inl, inr, ⊎-elim}
-use mathlib.Core.Bool.{Bool, true, false, _&&_, _||_, and-comm}
+use mathlib.Core.Logic.{_↔_, Iff·rfl, _⊎_, inl, inr, ⊎-elim}
+use mathlib.Core.Bool.{Bool, true, false, _||_, and-comm}
 use native.Mathlib.Omega.{arith}
 use native.Mathlib.Numerals.{add-one}
-use lib.Dec.{eqb}
-use borrow.Author.Tests.{eq-eqb, eqb-true}
 use Rattle.search.specs.Search.{Among}
-use Rattle.search.proofs.Truth.{or-iff, and-iff, untrue, both, false-iff}
+use Rattle.search.proofs.Truth.{eqb-iff, and-iff, or-both, untrue, both, false-iff}
 use Rattle.search.proofs.Found.{last-or, among-next, first-none, first-agree}
 use Rattle.order.specs.Table.{Rows}
 use Rattle.order.specs.Bound.{converse}
 use Rattle.order.specs.Closure.{Relation, via, path, closure, circle, Reach, here, step, HasPath, OnCircle, PartialOrder, Irreflexive, round}
 
 -- a path past one thing more: one that was there, or two that meet in it
-module _ (e : Relation) (k a b : ℕ) where
-  abbrev pub Ways : Type 0
-  Ways = (via e k a b ≡ true) ⊎ ((via e k a (suc k) ≡ true) × (via e k (suc k) b ≡ true))
-
-  pub ways : via e (suc k) a b ≡ true → Ways
-  unfolding via
-  ways h =
-      ⊎-elim
-      (λ p. inl p)
-      (λ q. inr (and-iff (via e k a (suc k)) (via e k (suc k) b) .0 q))
-      (or-iff (via e k a b) (via e k a (suc k) && via e k (suc k) b) .0 h)
-
-  old : via e k a b ≡ true → via e (suc k) a b ≡ true
-  unfolding via
-  old p = or-iff (via e k a b) (via e k a (suc k) && via e k (suc k) b) .1 (inl p)
-
-  new : via e k a (suc k) ≡ true → via e k (suc k) b ≡ true → via e (suc k) a b ≡ true
-  unfolding via
-  new p q =
-      or-iff (via e k a b) (via e k a (suc k) && via e k (suc k) b) .1
-      (inr (and-iff (via e k a (suc k)) (via e k (suc k) b) .1 (p, q)))
+pub ways : (e : Relation) (k a b : ℕ)
+    → (via e (suc k) a b ≡ true) ↔ ((via e k a b ≡ true) ⊎ ((via e k a (suc k) ≡ true) × (via e k (suc k) b ≡ true)))
+unfolding via
+ways e k a b = or-both Iff·rfl (and-iff (via e k a (suc k)) (via e k (suc k) b))
 
 module _ (e : Relation) where
   single : (k a b : ℕ) → e a b ≡ true → via e k a b ≡ true
   unfolding via
   single zero a b p = p
-  single (suc k) a b p = old e k a b (single k a b p)
+  single (suc k) a b p = ways e k a b .1 (inl (single k a b p))
 
   -- a path that ends or begins at the thing that may be passed next was there before
   to-last : (k a : ℕ) → via e (suc k) a (suc k) ≡ true → via e k a (suc k) ≡ true
-  to-last k a h = ⊎-elim (λ p. p) (λ q. q .0) (ways e k a (suc k) h)
+  to-last k a h = ⊎-elim (λ p. p) (λ q. q .0) (ways e k a (suc k) .0 h)
 
   from-last : (k b : ℕ) → via e (suc k) (suc k) b ≡ true → via e k (suc k) b ≡ true
-  from-last k b h = ⊎-elim (λ p. p) (λ q. q .1) (ways e k (suc k) b h)
+  from-last k b h = ⊎-elim (λ p. p) (λ q. q .1) (ways e k (suc k) b .0 h)
 
   -- paths to m and from m are a path, for m among 1 to k
   meeting : (k a m b : ℕ) → Among k m → via e k a m ≡ true → via e k m b ≡ true → via e k a b ≡ true
   meeting zero a m b w p q = absurd (omega arith)
   meeting (suc k) a m b w p q =
-      ⊎-elim
-      (λ i. new e k a b (to-last k a (rw i at p)) (from-last k b (rw i at q)))
+      ways e k a b .1 (⊎-elim
+      (λ i. inr (to-last k a (rw i at p), from-last k b (rw i at q)))
       (λ v. ⊎-elim
       (λ am. ⊎-elim
-      (λ mb. old e k a b (meeting k a m b v am mb))
-      (λ mb. new e k a b (meeting k a m (suc k) v am (mb .0)) (mb .1))
-      (ways e k m b q))
+      (λ mb. inl (meeting k a m b v am mb))
+      (λ mb. inr (meeting k a m (suc k) v am (mb .0), mb .1))
+      (ways e k m b .0 q))
       (λ am. ⊎-elim
-      (λ mb. new e k a b (am .0) (meeting k (suc k) m b v (am .1) mb))
-      (λ mb. new e k a b (am .0) (mb .1))
-      (ways e k m b q))
-      (ways e k a m p))
-      (last-or k m w)
+      (λ mb. inr (am .0, meeting k (suc k) m b v (am .1) mb))
+      (λ mb. inr (am .0, mb .1))
+      (ways e k m b .0 q))
+      (ways e k a m .0 p))
+      (last-or k m w))
 
   module _ (n : ℕ) where
-    pub onward : {a b c : ℕ} → Reach n e a b → Reach n e b c → Reach n e a c
+    onward : {a b c : ℕ} → Reach n e a b → Reach n e b c → Reach n e a c
     onward here s = s
     onward (step p w r) s = step p w (onward r s)
 
@@ -84,7 +65,7 @@ module _ (e : Relation) where
         let (m, v, s, r) = sound k a (suc k) (omega arith) (omega arith) (q .0) in
         let (m₂, v₂, s₂, r₂) = sound k (suc k) b (omega arith) w (q .1) in
         (m, v, s, onward r (step s₂ v₂ r₂)))
-        (ways e k a b p)
+        (ways e k a b .0 p)
 
     complete : {a b c : ℕ} → e a b ≡ true → Among n b → Reach n e b c → path n e a c ≡ true
     complete {a} {b} p w here = single n a b p
@@ -93,19 +74,19 @@ module _ (e : Relation) where
     pub path-iff : (a c : ℕ) → Among n c → (path n e a c ≡ true) ↔ HasPath n e a c
     path-iff a c w = (sound n a c (omega arith) w, λ (b, v, p, r). complete p v r)
 
-    pub same-or-path : (a b : ℕ) → closure n e a b ≡ true → (a ≡ b) ⊎ (path n e a b ≡ true)
-    same-or-path a b h = ⊎-elim (λ q. inl (eqb-true a b q)) (λ q. inr q) (or-iff (eqb a b) (path n e a b) .0 h)
+    pub same-or-path : (a b : ℕ) → (closure n e a b ≡ true) ↔ ((a ≡ b) ⊎ (path n e a b ≡ true))
+    same-or-path a b = or-both (eqb-iff a b) Iff·rfl
 
     -- the closure is what steps reach
     pub closure-iff : (a b : ℕ) → Among n b → (closure n e a b ≡ true) ↔ Reach n e a b
     closure-iff a b w = (
-      λ h. ⊎-elim (λ q. rw q here) (λ q. let (m, v, p, r) = path-iff a b w .0 q in step p v r) (same-or-path a b h),
-      λ r. of r w,
+      λ h. ⊎-elim (λ q. rw q here) (λ q. let (m, v, p, r) = path-iff a b w .0 q in step p v r) (same-or-path a b .0 h),
+      of,
     )
       where
-        of : {a b : ℕ} → Reach n e a b → Among n b → closure n e a b ≡ true
-        of (here {a}) w = or-iff (eqb a a) (path n e a a) .1 (inl (eq-eqb a a refl))
-        of (step {a} {b} {c} p v r) w = or-iff (eqb a c) (path n e a c) .1 (inr (complete p v r))
+        of : {a b : ℕ} → Reach n e a b → closure n e a b ≡ true
+        of (here {a}) = same-or-path a a .1 (inl refl)
+        of (step {a} {b} {c} p v r) = same-or-path a c .1 (inr (complete p v r))
 
     pub circle-misses : (a : ℕ) → Among n a → (path n e a a ≡ false) ↔ (OnCircle n e a → ⊥)
     circle-misses a w = false-iff (path-iff a a w)
@@ -133,8 +114,8 @@ module _ (e : Relation) where
             transitive = λ a b c u v w p q. closure-transitive a b c v w p q;
             antisymmetric = λ a b v w p q. ⊎-elim
                 (λ i. i)
-                (λ r. ⊎-elim (λ i. sym i) (λ s. absurd (both (meeting n a b a w r s) (none a v))) (same-or-path b a q))
-                (same-or-path a b p);
+                (λ r. ⊎-elim (λ i. sym i) (λ s. absurd (both (meeting n a b a w r s) (none a v))) (same-or-path b a .0 q))
+                (same-or-path a b .0 p);
           },
           λ a w. untrue (e a a) (λ p. both (single n a a p) (none a w)),
         )

@@ -27,11 +27,11 @@ module _ (n : ℕ) (e : Relation) (between : Between n e) where
   unfolding via
   path-between zero a b h = between a b h
   path-between (suc k) a b h =
-      ⊎-elim (path-between k a b) (λ (l, r). (path-between k a (suc k) l .0, path-between k (suc k) b r .1)) (ways e k a b h)
+      ⊎-elim (path-between k a b) (λ (l, r). (path-between k a (suc k) l .0, path-between k (suc k) b r .1)) (ways e k a b .0 h)
 
   -- what is none of them is closed with itself alone
   pub closure-between : (a b : ℕ) → closure n e a b ≡ true → (a ≡ b) ⊎ (Among n a × Among n b)
-  closure-between a b h = ⊎-elim inl (λ q. inr (path-between n a b q)) (same-or-path e n a b h)
+  closure-between a b h = ⊎-elim inl (λ q. inr (path-between n a b q)) (same-or-path e n a b .0 h)
 
 -- what holds of the value at each that is so holds of the last one's
 last-of : (n : ℕ) (p : ℕ → Bool) (v : ℕ → ℕ) (Q : ℕ → Type 0) → ((i : ℕ) → Among n i → p i ≡ true → Q (v i))
