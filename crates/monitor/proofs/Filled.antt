@@ -3,11 +3,11 @@ use Prim.Native.Nat.{ℕ, _+_, _≤_}
 use mathlib.Core.Path.{_≡_, refl, ap}
 use mathlib.Core.Bool.{Bool, false, _&&_, _||_, and-true, and-false, or-false}
 use native.Mathlib.Omega.{arith}
-use native.Mathlib.Decide.{ℕ-discrete, decLt}
-use borrow.Author.Tests.{leb-true, le-leb, lt-leb, eq-eqb, ne-eqb}
+use native.Mathlib.Decide.{ℕ-discrete}
+use borrow.Author.Tests.{le-leb, lt-leb, eq-eqb, ne-eqb}
 use lib.Dec.{leb, eqb}
 use Rattle.search.specs.Search.{among}
-use Rattle.search.proofs.Truth.{among-iff, same}
+use Rattle.search.proofs.Truth.{among-iff, leb-same}
 
 module _ (p : ℕ → Bool) where
   pub fill-none : (r : ℕ) → 1 ≤ r → false ≡ (leb r 0 && p r)
@@ -18,9 +18,5 @@ module _ (p : ℕ → Bool) where
     | yes e ↦ rw (e, lt-leb (i + 1) i (omega arith), among-iff 128 (i + 1) .1 (omega arith), eq-eqb (i + 1) (i + 1) refl, le-leb (i + 1) (i + 1) (omega arith))
         (and-true (p (i + 1)))
     | no n ↦ rw (ne-eqb r (i + 1) n, and-false (among 128 (i + 1)), and-false (p (i + 1)), or-false (leb r i && p r))
-        (ap (λ b. b && p r) (same (leb r i) (leb r (i + 1)) (λ h. le-leb r (i + 1) (let t = leb-true r i h in omega arith))
-        (λ h. let t = leb-true r (i + 1) h in elim (decLt i r) [
-          | yes l ↦ absurd (n (omega arith))
-          | no l ↦ le-leb r i (omega arith)
-        ])))
+        (ap (λ b. b && p r) (leb-same r i r (i + 1) (λ l. omega arith) (λ l. omega arith)))
   ]

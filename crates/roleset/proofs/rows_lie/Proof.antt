@@ -3,8 +3,8 @@ use Prim.Native.Nat.{_+_, _-_, _*_}
 use mathlib.Core.Path.{sym}
 use native.Mathlib.Omega.{arith}
 use borrow.Author.Needs.{needs}
-use borrow.Author.Tests.{leb-true, le-leb, lt-leb}
-use Rattle.search.proofs.Truth.{same}
+use borrow.Author.Tests.{lt-leb}
+use Rattle.search.proofs.Truth.{leb-same}
 use Rattle.roleset.proofs.rows_lie.Statement.{statement}
 use Rattle.roleset.proofs.rows_lie.Tie as tie
 
@@ -14,9 +14,7 @@ returns c = let a = c .before .args in sym (lt-leb (a .at + 16 * a .n) (a .len) 
 returns-2 : tie.Need-returns-2
 returns-2 c =
     let a = c .before .args in
-    same _ _
-    (λ e. le-leb (a .at + 16 * a .n) (a .len) (omega (arith, leb-true (a .at) (a .len - 16 * a .n) e)))
-    (λ e. le-leb (a .at) (a .len - 16 * a .n) (omega (arith, leb-true (a .at + 16 * a .n) (a .len) e)))
+    leb-same (a .at) (a .len - 16 * a .n) (a .at + 16 * a .n) (a .len) (λ l. omega arith) (λ l. omega arith)
 
 pub rows-lie-spec : {M : Type 1} → statement M
 rows-lie-spec = tie.close (tie.spec returns (λ c. search needs) (λ c. search needs) returns-2)

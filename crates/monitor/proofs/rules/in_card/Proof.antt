@@ -1,10 +1,9 @@
 -- The two tests together say that the sum is at most 64.
 use Prim.Native.Nat.{_+_, _-_}
 use mathlib.Core.Path.{sym}
-use lib.Dec.{leb}
 use native.Mathlib.Omega.{arith}
-use borrow.Author.Tests.{lt-leb, le-leb, leb-true}
-use Rattle.search.proofs.Truth.{same}
+use borrow.Author.Tests.{lt-leb}
+use Rattle.search.proofs.Truth.{leb-same}
 use Rattle.monitor.proofs.rules.in_card.Statement.{statement}
 use Rattle.monitor.proofs.rules.in_card.Tie as tie
 
@@ -14,9 +13,7 @@ returns c = let a = c .before .args in sym (lt-leb (a .offset + a .n) 64 (omega 
 returns-2 : tie.Need-returns-2
 returns-2 c =
     let a = c .before .args in
-    same (leb (a .offset) (64 - a .n)) (leb (a .offset + a .n) 64)
-    (λ h. let l = leb-true (a .offset) (64 - a .n) h in le-leb (a .offset + a .n) 64 (omega arith))
-    (λ h. let l = leb-true (a .offset + a .n) 64 h in le-leb (a .offset) (64 - a .n) (omega arith))
+    leb-same (a .offset) (64 - a .n) (a .offset + a .n) 64 (λ l. omega arith) (λ l. omega arith)
 
 pub in-card-spec : {M : Type 1} → statement M
 in-card-spec = tie.close (tie.spec returns returns-2)

@@ -6,9 +6,8 @@ use native.Mathlib.Omega.{arith}
 use lib.Dec.{leb}
 use lib.ListN.{getD}
 use borrow.Author.Needs.{needs}
-use borrow.Author.Tests.{leb-true, le-leb}
 use Rattle.search.specs.Search.{first, Among}
-use Rattle.search.proofs.Truth.{among-iff, same}
+use Rattle.search.proofs.Truth.{among-iff, leb-same}
 use Rattle.search.proofs.Found.{first-agree, first-sooner, first-never, first-later, first-within}
 use Rattle.roleset.specs.Row.{bit, roleByte, roleBit, member, bitAfter, memberAfter, halfAt}
 use Rattle.roleset.proofs.Bits.{bit-byte}
@@ -31,10 +30,7 @@ module _ (xs : List ℕ) (at after : ℕ) (bytes : (i : ℕ) → getD xs i 0 < 2
   low-half = first-agree _ _ 64 (λ b w. rw (low-bit b w))
 
   passed : (b : ℕ) → Among 64 b → leb b (after - 64) ≡ leb (64 + b) after
-  passed b w =
-      same (leb b (after - 64)) (leb (64 + b) after)
-      (λ e. le-leb (64 + b) after (omega (arith, leb-true b (after - 64) e)))
-      (λ e. le-leb b (after - 64) (omega (arith, leb-true (64 + b) after e)))
+  passed b w = leb-same b (after - 64) (64 + b) after (λ l. omega arith) (λ l. omega arith)
 
   high-half : first 64 (bitAfter (halfAt xs (at + 8)) (after - 64)) ≡ first 64 (λ b. memberAfter xs at after (64 + b))
   high-half = first-agree _ _ 64 (λ b w. rw (passed b w, high-bit b w))
