@@ -10,7 +10,7 @@ use lib.Dec.{eqb}
 use lib.ListN.{length}
 use borrow.Author.Tests.{eq-eqb, ne-eqb, eqb-true}
 use Rattle.search.specs.Search.{among, Among}
-use Rattle.search.proofs.Truth.{and-iff, and-when, and-right, among-iff, false-iff, same}
+use Rattle.search.proofs.Truth.{and-iff, and-when, among-iff, false-iff, same}
 use Rattle.search.proofs.Found.{some-more, some-yet}
 use Rattle.roleset.specs.Row.{member, rowOf, added, joined, Kept, Placed}
 use Rattle.roleset.proofs.Rows.{row-kept, rows-apart, whole-true, zero-row}
@@ -156,14 +156,13 @@ module _ (role card mode : ℕ) (xs ys : List ℕ) (fits : 28688 ≤ length xs) 
 -- numbers that are no role's, no card's or no mode's grant nothing
 module _ (role card mode : ℕ) (xs : List ℕ) where
   pub no-role : (Among 128 role → ⊥) → GrantedRows (lineGrants xs role card mode) xs xs
-  no-role h = granted-none _ xs (λ d o r u t.
-      and-right (eqb card o) (and-right (eqb mode d) (rw (false-iff (among-iff 128 role) .1 h))))
+  no-role h = granted-none _ xs (λ d o r u t. rw (false-iff (among-iff 128 role) .1 h, and-false (eqb mode d), and-false (eqb card o)))
 
   pub no-card : (Among 512 card → ⊥) → GrantedRows (lineGrants xs role card mode) xs xs
   no-card h = granted-none _ xs (λ d o r u t. rw (ne-eqb card o (λ e. h (rw e t))))
 
   pub no-mode : (Among 2 mode → ⊥) → GrantedRows (lineGrants xs role card mode) xs xs
-  no-mode h = granted-none _ xs (λ d o r u t. and-right (eqb card o) (rw (ne-eqb mode d (λ e. h (rw e u)))))
+  no-mode h = granted-none _ xs (λ d o r u t. rw (ne-eqb mode d (λ e. h (rw e u)), and-false (eqb card o)))
 
 -- one line more; the seniors' rows are as they were
 pub granted-line : (xs ys p : List ℕ) (i a b c d o r : ℕ) → a ≡ one p (i + 1) → b ≡ two p (i + 1) → c ≡ three p (i + 1) → Kept readersAt 28688 xs ys

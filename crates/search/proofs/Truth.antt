@@ -19,10 +19,6 @@ pub and-when : (a : Bool) {b c : Bool} → (a ≡ true → b ≡ c) → (a && b)
 and-when true h = h refl
 and-when false h = refl
 
-pub and-right : (a : Bool) {b : Bool} → b ≡ false → (a && b) ≡ false
-and-right true e = e
-and-right false e = refl
-
 pub implies-iff : (a b : Bool) → (implies a b ≡ true) ↔ (a ≡ true → b ≡ true)
 implies-iff true b = (λ e h. e, λ h. h refl)
 implies-iff false b = (λ e h. absurd (false≢true h), λ h. refl)
