@@ -19,7 +19,7 @@ use Rattle.rolefile.specs.Section.{part}
 use Rattle.rolefile.proofs.Sections.{Section}
 use Rattle.rolefile.specs.WellFormed.{GoodLines}
 use Rattle.policy.specs.Policy.{dominates}
-use Rattle.policy.specs.Tables.{pairs, Marking}
+use Rattle.policy.specs.Tables.{Marking}
 use Rattle.policy.specs.Verdict.{orderVerdict, labelVerdict}
 use Rattle.policy.specs.Stages.{Paths, Closed}
 use Rattle.policy.proofs.Inside.{over-between}
@@ -29,14 +29,11 @@ use Rattle.policy.proofs.Ranks.{pairs-say}
 -- ---- the tables
 
 module _ (f : List ℕ) (good : GoodLines f) (few : labels f ≤ 32) {j m : ℕ} (s : Section f D j m) where
-  pairs-over : (a b : ℕ) → pairs (part f j) m a b ≡ over f a b
-  unfolding fields
-  pairs-over a b = pairs-say f good s refl a b
-
   -- t has the marks of the D lines, and u its paths
   pub paths-of : (t u : List (List Bool)) → Marking (part f j) m t → Rows 32 (labels f) (path (labels f) (mark t)) (mark t) (mark u) → Paths f u
+  unfolding fields
   paths-of t u said =
-      paths-table 32 (labels f) (over f) (mark t) (mark u) few (over-between f good) (λ a b v w. said a b v w ∙ pairs-over a b)
+      paths-table 32 (labels f) (over f) (mark t) (mark u) few (over-between f good) (λ a b v w. said a b v w ∙ pairs-say f good s refl a b)
 
 pub closed-of : (f : List ℕ) (t c : List (List Bool)) → Paths f t
     → Rows 32 (labels f) (reflexive (mark t)) (mark t) (mark c) → Closed f c

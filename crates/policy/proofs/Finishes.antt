@@ -8,7 +8,6 @@ use Rattle.roleset.specs.Row.{rowOf, Kept}
 use Rattle.roleset.proofs.Rows.{row-kept}
 use Rattle.rolefile.specs.declared.Line.{Line}
 use Rattle.rolefile.specs.Line.{fields}
-use Rattle.rolefile.specs.Said.{assigned}
 use Rattle.rolefile.specs.Section.{part}
 use Rattle.policy.specs.declared.build.Parts.{Parts}
 use Rattle.policy.specs.Tables.{word, assignedAt, pairs, Related}
@@ -35,16 +34,13 @@ module _ (h : Line) (v w x y z : List ℕ) (first : (word w 0 ≡ h .a) × Kept 
 
 module _ (f : List ℕ) (q : Parts) (h : Line) (ready : Ready f q h) (xs ys zs p : List ℕ) (zeros : Zeros 4112 8208 xs)
     (its : p ≡ part f (q .a .start)) (filled : Related 4112 256 (pairs p (q .a .count)) xs ys) (counted : Counting h ys zs) where
-  said : (u r : ℕ) → pairs p (q .a .count) u r ≡ assigned f u r
-  unfolding fields
-  said u r = rw its (pairs-say f (good-of f (ready .lines)) (a-lines f q (ready .lines) (ready .laid)) refl u r)
-
   pub finished : Finishing f xs zs
+  unfolding fields
   finished = record {
     assigning = λ u r v w.
         row-kept ys zs (counted .rest) (rowOf assignedAt u) r (inr (omega arith))
         ∙ unites-zeros assignedAt 256 _ xs ys (filled .rows) zeros u r v w
-        ∙ said u r;
+        ∙ rw its (pairs-say f (good-of f (ready .lines)) (a-lines f q (ready .lines) (ready .laid)) refl u r);
     counted = rw (ready .head) at (counted .counts);
     rest = λ i l out. counted .rest i (λ m. l) ∙ filled .rest i (λ m. let far = out m in omega arith);
   }
