@@ -2,15 +2,15 @@
 -- is the first by its lower and then by its higher thing. Assumes nothing.
 use Prim.Native.Nat.{ℕ, zero, suc, _+_, _≤_, _<_}
 use mathlib.Core.Path.{_≡_, refl, sym, _∙_}
-use mathlib.Core.Logic.{_↔_, _⊎_, inl, inr, ⊎-elim}
+use mathlib.Core.Logic.{_↔_, Iff·trans, _⊎_, inl, inr, ⊎-elim}
 use mathlib.Core.Bool.{Bool, true, false, _&&_, and-assoc}
 use native.Mathlib.Omega.{arith}
 use native.Mathlib.Decide.{decLt}
-use lib.Dec.{leb}
+use lib.Dec.{leb, ltb}
 use borrow.Author.Tests.{ltb-true, lt-ltb, ltb-false, le-ltb}
 use Rattle.search.specs.Search.{every, first, implies, Among, Lowest}
 use Rattle.search.proofs.Truth.{eqb-iff, ltb-iff, and-iff, and-both, or-both, untrue, both, false-iff, same}
-use Rattle.search.proofs.Found.{every-agree, every-in, every-cut, first-found, first-more, first-none, first-none-of, first-lowest, first-within, first-agree, first-cut}
+use Rattle.search.proofs.Found.{every-agree, every-in, every-cut, first-found, first-more, first-none-of, first-lowest, first-within, first-agree, first-cut}
 use Rattle.order.specs.Closure.{Relation, PartialOrder}
 use Rattle.order.specs.Bound.{upper, isLeast, least, lub, converse, pair, withoutBound, partnerWithoutBound, someWithoutBound, lowestWithoutBound, Upper, IsLub, Joined, AllJoined, FirstPair, FirstWithoutBound}
 use Rattle.order.proofs.Closure.{Agree}
@@ -37,10 +37,9 @@ module _ (n : ℕ) (ge : Relation) (s : ℕ → Bool) where
   -- 0 is answered just where there is none
   pub lub-none : (lub n ge s ≡ 0) ↔ ((c : ℕ) → IsLub n ge s c → ⊥)
   unfolding lub least
-  lub-none = (
-    λ q c b. false-iff (isLub-iff c (b .inside)) .0 (first-none (isLeast n ge (upper n ge s)) n .0 q c (b .inside)) b,
-    λ none. first-none (isLeast n ge (upper n ge s)) n .1 (λ c w. false-iff (isLub-iff c w) .1 (none c)),
-  )
+  lub-none =
+      Iff·trans (first-none-of (isLeast n ge (upper n ge s)) n (λ c w. false-iff (isLub-iff c w)))
+      (λ none c b. none c (b .inside) b, λ none c w. none c)
 
   -- and else one
   pub lub-is : (c : ℕ) → 1 ≤ c → lub n ge s ≡ c → IsLub n ge s c
@@ -96,12 +95,15 @@ module _ (n : ℕ) (ge : Relation) where
   separate : (a b : ℕ) → withoutBound n ge a b ≡ true → Joined n ge a b → ⊥
   separate a b h j = lub-exists n ge (pair a b) .1 j (without-bound-iff a b .0 h .1)
 
-  partnerWithoutBound-none : (a : ℕ) → (partnerWithoutBound n ge a ≡ 0) ↔ ((b : ℕ) → Among n b → a < b → Joined n ge a b)
+  someWithoutBound-none : (a : ℕ) → (someWithoutBound n ge a ≡ false) ↔ ((b : ℕ) → Among n b → a < b → Joined n ge a b)
   unfolding partnerWithoutBound
-  partnerWithoutBound-none a = first-none-of (withoutBound n ge a) n (λ b w. (
-    λ q l. together a b l q,
-    λ h. untrue (withoutBound n ge a b) (λ p. separate a b p (h (without-bound-iff a b .0 p .0))),
-  ))
+  someWithoutBound-none a =
+      let partner = first n (withoutBound n ge a) in
+      let none : (ltb 0 partner ≡ false) ↔ (partner ≡ 0) = (λ e. omega (arith, ltb-false 0 partner e), λ z. le-ltb 0 partner (omega arith)) in
+      Iff·trans none (first-none-of (withoutBound n ge a) n (λ b w. (
+        λ q l. together a b l q,
+        λ h. untrue (withoutBound n ge a b) (λ p. separate a b p (h (without-bound-iff a b .0 p .0))),
+      )))
 
   -- a pair the other way round, and a thing with itself
   joined-swap : (a b : ℕ) → Joined n ge b a → Joined n ge a b
@@ -129,19 +131,16 @@ module _ (n : ℕ) (ge : Relation) where
 
   pub lowest-without-none : PartialOrder n ge → (lowestWithoutBound n ge ≡ 0) ↔ AllJoined n ge
   unfolding lowestWithoutBound
-  lowest-without-none o = (
-    λ q a b v w. elim (decLt a b) [
-      | yes l ↦ rising q a b v w l
+  lowest-without-none o = Iff·trans (first-none-of (someWithoutBound n ge) n (λ a v. someWithoutBound-none a)) (
+    λ rising a b v w. elim (decLt a b) [
+      | yes l ↦ rising a v b w l
       | no l ↦ elim (decLt b a) [
-        | yes m ↦ joined-swap a b (rising q b a w v m)
+        | yes m ↦ joined-swap a b (rising b w a v m)
         | no m ↦ let i : a ≡ b = omega arith in rw (← i) (joined-self o a v)
       ]
     ],
-    λ h. first-none (someWithoutBound n ge) n .1 (λ a v. le-ltb 0 (partnerWithoutBound n ge a) (omega (arith, partnerWithoutBound-none a .1 (λ b w l. h a b v w)))),
+    λ h a v b w l. h a b v w,
   )
-    where
-      rising : first n (someWithoutBound n ge) ≡ 0 → (a b : ℕ) → Among n a → Among n b → a < b → Joined n ge a b
-      rising q a b v w l = partnerWithoutBound-none a .0 (omega (arith, ltb-false 0 (partnerWithoutBound n ge a) (first-none (someWithoutBound n ge) n .0 q a v))) b w l
 
   pub lowest-without-first : (a : ℕ) → 1 ≤ a → lowestWithoutBound n ge ≡ a → FirstPair n ge a (partnerWithoutBound n ge a)
   unfolding lowestWithoutBound partnerWithoutBound
@@ -153,7 +152,7 @@ module _ (n : ℕ) (ge : Relation) where
         higher = h .inside;
         rising = without-bound-iff a (partnerWithoutBound n ge a) .0 (h .holds) .0;
         withoutBound = separate a (partnerWithoutBound n ge a) (h .holds);
-        earlier = λ x y v w k m. partnerWithoutBound-none x .0 (omega (arith, ltb-false 0 (partnerWithoutBound n ge x) (low .lower x v m))) y w k;
+        earlier = λ x y v w k m. someWithoutBound-none x .0 (low .lower x v m) y w k;
         sooner = λ y w k m. together a y k (h .lower y w m);
       }
 
