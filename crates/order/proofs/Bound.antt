@@ -2,7 +2,7 @@
 -- is the first by its lower and then by its higher thing. Assumes nothing.
 use Prim.Native.Nat.{ℕ, zero, suc, _+_, _≤_, _<_}
 use mathlib.Core.Path.{_≡_, refl, sym, _∙_}
-use mathlib.Core.Logic.{_↔_, Iff·trans, _⊎_, inl, inr, ⊎-elim}
+use mathlib.Core.Logic.{_↔_, Iff·rfl, Iff·trans, _⊎_, inl, inr, ⊎-elim}
 use mathlib.Core.Bool.{Bool, true, false, _&&_, and-assoc}
 use native.Mathlib.Omega.{arith}
 use native.Mathlib.Decide.{decLt}
@@ -23,7 +23,7 @@ module _ (n : ℕ) (ge : Relation) (s : ℕ → Bool) where
 module _ (n : ℕ) (ge : Relation) (s : ℕ → Bool) where
   isLeast-iff : (c : ℕ) → (isLeast n ge s c ≡ true) ↔ ((s c ≡ true) × Upper n (converse ge) s c)
   unfolding isLeast
-  isLeast-iff c = and-both (λ e. e, λ e. e) (upper-iff n (converse ge) s c)
+  isLeast-iff c = and-both Iff·rfl (upper-iff n (converse ge) s c)
 
 module _ (n : ℕ) (ge : Relation) (s : ℕ → Bool) where
   isLub-iff : (c : ℕ) → Among n c → (isLeast n ge (upper n ge s) c ≡ true) ↔ IsLub n ge s c

@@ -2,12 +2,12 @@
 -- Assumes nothing.
 use Prim.Native.Nat.{ℕ, zero, suc, _≤_}
 use mathlib.Core.Path.{_≡_, refl}
-use mathlib.Core.Logic.{_↔_, inl, inr, ⊎-elim}
+use mathlib.Core.Logic.{_↔_, Iff·symm, Iff·trans, Iff·not, inl, inr, ⊎-elim}
 use mathlib.Core.List.{List}
 use mathlib.Core.Bool.{Bool, true, false, cond, false≢true, true≢false, not-eq-not}
 use native.Mathlib.Omega.{arith}
 use Rattle.search.specs.Search.{some}
-use Rattle.search.proofs.Truth.{both, false-iff}
+use Rattle.search.proofs.Truth.{false-iff}
 use Rattle.search.proofs.Found.{some-iff}
 use Rattle.order.specs.Closure.{Relation, PartialOrder}
 use Rattle.order.specs.Bound.{lub, converse, IsLub}
@@ -57,7 +57,7 @@ module _ (n : ℕ) (ge : Relation) (s : ℕ → Bool) where
       go Undefined t e = t
 
   pub defined-iff : (isDefined (level n ge s) ≡ true) ↔ (UndefinedLevel n ge s → ⊥)
-  defined-iff = (λ e b. both e (undefined-iff .1 b), λ h. not-eq-not .0 (λ e. h (undefined-iff .0 e)))
+  defined-iff = Iff·trans (Iff·symm not-eq-not) (Iff·not undefined-iff)
 
   -- it can be told whether a set is boundless
   pub without-bound : ((UndefinedLevel n ge s → ⊥) → ⊥) → UndefinedLevel n ge s

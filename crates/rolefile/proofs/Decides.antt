@@ -2,7 +2,7 @@
 -- So checks that follow one another are read part by part. Assumes nothing.
 use Prim.Native.Nat.{ℕ, zero, suc}
 use mathlib.Core.Path.{_≡_, refl, sym, ap, _∙_}
-use mathlib.Core.Logic.{_↔_, _⊎_, inl, inr, ⊎-elim}
+use mathlib.Core.Logic.{_↔_, Iff·rfl, _⊎_, inl, inr, ⊎-elim}
 use mathlib.Core.Bool.{Bool, true, false, cond, false≢true}
 use native.Mathlib.Omega.{arith}
 use Rattle.search.specs.Search.{Among, first, LowestOf}
@@ -45,7 +45,7 @@ module _ {v : Verdict} {G : Type 0} {R : Verdict → Type 0} (d : Decides v G R)
   }
 
   pub decides-when : {H : Type 0} → (G ↔ H) → Decides v H R
-  decides-when g = decides-as g (λ x. (λ r. r, λ r. r))
+  decides-when g = decides-as g (λ x. Iff·rfl)
 
   module _ {w : Verdict} {H : Type 0} {Q : Verdict → Type 0} where
     -- w is looked at only where G holds

@@ -1,7 +1,7 @@
 -- A line reads as l just where its 22 bytes are l as it is written. Assumes nothing.
 use Prim.Native.Nat.{ℕ, zero, suc, _+_, _≤_, _<_}
 use mathlib.Core.Path.{_≡_, refl, sym, ap, ap₂, subst, _∙_}
-use mathlib.Core.Logic.{_↔_}
+use mathlib.Core.Logic.{_↔_, Iff·trans}
 use mathlib.Core.List.{List, _∷_, _++_, []}
 use mathlib.Core.Bool.{Bool, true, false, cond, false≢true}
 use native.Mathlib.Omega.{arith}
@@ -195,4 +195,4 @@ pub reads-line : (f : List ℕ) (k : ℕ) (l : Line) → 1 ≤ k → k ≤ lines
     → ((lineAt f k ≡ l) × (1 ≤ l .letter)) ↔ ((take 22 (drop (start k) f) ≡ asWritten l) × Writable l)
 reads-line f k l p q =
     let h : start k + 22 ≤ length f = omega arith in
-    (λ e. to-bytes f (start k) l h (line-iff f k l .0 e), λ w. line-iff f k l .1 (from-bytes f (start k) l h w))
+    Iff·trans (line-iff f k l) (to-bytes f (start k) l h, from-bytes f (start k) l h)

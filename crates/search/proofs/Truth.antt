@@ -3,7 +3,7 @@
 -- Assumes nothing.
 use Prim.Native.Nat.{ℕ, _≤_, _<_}
 use mathlib.Core.Path.{_≡_, refl, sym, _∙_}
-use mathlib.Core.Logic.{_↔_, _⊎_, inl, inr, ⊎-elim}
+use mathlib.Core.Logic.{_↔_, Iff·symm, Iff·trans, Iff·not, Iff·and, _⊎_, inl, inr, ⊎-elim}
 use mathlib.Core.Bool.{Bool, true, false, not, _&&_, _||_, cond, false≢true, true≢false, not-eq-not}
 pub use mathlib.Core.Bool.{and-eq-true-iff as and-iff}
 use lib.Dec.{leb, ltb, eqb}
@@ -35,7 +35,7 @@ ltb-iff a b = (ltb-true a b, lt-ltb a b)
 
 module _ {a b : Bool} {P Q : Type 0} (p : (a ≡ true) ↔ P) (q : (b ≡ true) ↔ Q) where
   pub and-both : ((a && b) ≡ true) ↔ (P × Q)
-  and-both = (λ e. let (x, y) = and-iff a b .0 e in (p .0 x, q .0 y), λ (x, y). and-iff a b .1 (p .1 x, q .1 y))
+  and-both = Iff·trans (and-iff a b) (Iff·and p q)
 
   pub or-both : ((a || b) ≡ true) ↔ (P ⊎ Q)
   or-both = (
@@ -58,7 +58,7 @@ both p q = true≢false (sym p ∙ q)
 
 -- what a test tells that fails
 pub false-iff : {a : Bool} {P : Type 0} → (a ≡ true) ↔ P → (a ≡ false) ↔ (P → ⊥)
-false-iff {a} i = (λ e p. both (i .1 p) e, λ h. untrue a (λ e. h (i .0 e)))
+false-iff i = Iff·trans (Iff·symm not-eq-not) (Iff·not i)
 
 -- what code that branches on `!test()` knows of the test that was answered
 pub passed : {t u : Bool} → t ≡ u → not t ≡ false → u ≡ true
