@@ -15,7 +15,7 @@ use Rattle.order.specs.Bound.{converse}
 use Rattle.rolefile.specs.declared.Verdict.{Verdict}
 use Rattle.rolefile.specs.Line.{A, lineAt, lines}
 use Rattle.rolefile.specs.Form.{refusal, header, scan}
-use Rattle.rolefile.specs.Said.{labels, roles, users, over, clearance}
+use Rattle.rolefile.specs.Said.{labels, over, clearance}
 use Rattle.rolefile.specs.Section.{part, one, two}
 use Rattle.rolefile.specs.WellFormed.{GoodCounts, GoodLines}
 use Rattle.rolefile.proofs.Verdicts.{Clean, unless-clean}
