@@ -12,8 +12,8 @@ use lib.Dec.{eqb, leb}
 use borrow.Author.Tests.{le-leb}
 use Rattle.search.specs.Search.{Among}
 use Rattle.search.proofs.Truth.{among-iff, both, eqb-swap}
-use Rattle.roleset.specs.Row.{rowOf, whole, member, added, unitedWhere, Placed, PlacedRows}
-use Rattle.roleset.proofs.Rows.{row-kept, rows-apart, whole-true}
+use Rattle.roleset.specs.Row.{whole, member, added, unitedWhere, Placed, PlacedRows}
+use Rattle.roleset.proofs.Rows.{row-kept, other-kept, whole-true}
 use Rattle.order.specs.Closure.{Relation, via, round, reflexive}
 use Rattle.order.specs.Table.{Rows, related, Tabled}
 use Rattle.order.proofs.Closure.{RowSet, rows-none, rows-more, rounds-none, rounds-more}
@@ -64,8 +64,7 @@ module _ (at : ℕ) (h : Relation) (xs : List ℕ) (fits : at + 2048 ≤ length 
       row : RowSet 128 (i + 1) h (related ys at) (related zs at)
       row = record {
         own = λ b w. rw (add-sub-cancel i 1) (p .row (omega arith) b ∙ new b w);
-        others = λ a b v ne w.
-            row-kept ys zs (p .rest) (rowOf at a) b (rw (add-sub-cancel i 1) at (rows-apart at (i + 1) a (omega arith) (v .0) ne));
+        others = λ a b v ne w. other-kept at (i + 1) ys zs (rw (add-sub-cancel i 1) (p .rest)) (omega arith) a b (v .0) ne;
       }
 
   -- a row that has had no turn yet

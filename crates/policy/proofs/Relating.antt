@@ -13,17 +13,14 @@ use Rattle.search.specs.Search.{among, Among}
 use Rattle.search.proofs.Truth.{and-iff, and-when, among-iff, false-iff, same}
 use Rattle.search.proofs.Found.{some-more, some-yet}
 use Rattle.roleset.specs.Row.{member, rowOf, added, joined, Kept, Placed}
-use Rattle.roleset.proofs.Rows.{row-kept, rows-apart, whole-true, zero-row}
+use Rattle.roleset.proofs.Rows.{row-kept, other-kept, whole-true, zero-row}
 use Rattle.order.specs.Closure.{Relation}
 use Rattle.rolefile.specs.Section.{one, two, three}
 use Rattle.policy.specs.Tables.{seniorsAt, readersAt, tableOf, pairs, lineGrants, grantedByLines, Related, GrantedRows, Unites}
 use Rattle.policy.specs.Stages.{Zeros}
 
--- where one row of a table is placed, the others stay
+-- where one row of a table is placed, what stands outside the table stays
 module _ (at size x : ℕ) {s : ℕ → Bool} {xs ys : List ℕ} (p : Placed (rowOf at x) s xs ys) (w : Among size x) where
-  others-stay : (y r : ℕ) → Among size y → (y ≡ x → ⊥) → member ys (rowOf at y) r ≡ member xs (rowOf at y) r
-  others-stay y r v ne = row-kept xs ys (p .rest) (rowOf at y) r (rows-apart at x y (w .0) (v .0) ne)
-
   rest-stays : Kept at (at + 16 * size) xs ys
   rest-stays i out = p .rest i (λ l. let far = out (omega arith) in omega arith)
 
@@ -32,7 +29,7 @@ module _ (at size x : ℕ) {s : ℕ → Bool} {xs ys : List ℕ} (p : Placed (ro
       → member ys (rowOf at y) r ≡ (member xs (rowOf at y) r || (eqb x y && new r))
   row-united new fits y r v e = elim (ℕ-discrete y x) [
     | yes i ↦ rw (i, eq-eqb x x refl) (p .row (omega arith) r ∙ e)
-    | no i ↦ rw (ne-eqb x y (λ j. i (sym j))) (others-stay y r v i ∙ sym (or-false (member xs (rowOf at y) r)))
+    | no i ↦ rw (ne-eqb x y (λ j. i (sym j))) (other-kept at x xs ys (p .rest) (w .0) y r (v .0) i ∙ sym (or-false (member xs (rowOf at y) r)))
   ]
 
 -- ---- a pair at a time

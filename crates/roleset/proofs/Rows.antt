@@ -66,9 +66,11 @@ pub row-kept : {a b : ℕ} (xs ys : List ℕ) → Kept a b xs ys → (at r : ℕ
 row-kept xs ys kept at r apart =
     same-bytes xs ys at at (λ k l. kept (at + k) (λ m. ⊎-elim (λ n. omega arith) (λ n. omega arith) apart)) r
 
--- two rows of one table do not overlap
-pub rows-apart : (at x y : ℕ) → 1 ≤ x → 1 ≤ y → (y ≡ x → ⊥) → (rowOf at y + 16 ≤ rowOf at x) ⊎ (rowOf at x + 16 ≤ rowOf at y)
-rows-apart at x y v w ne = elim (decLt y x) [ yes l ↦ inl (omega arith) | no l ↦ inr (omega arith) ]
+-- so another row of a table whose row x has changed
+pub other-kept : (at x : ℕ) (xs ys : List ℕ) → Kept (rowOf at x) (rowOf at x + 16) xs ys → 1 ≤ x → (y r : ℕ) → 1 ≤ y → (y ≡ x → ⊥)
+    → member ys (rowOf at y) r ≡ member xs (rowOf at y) r
+other-kept at x xs ys kept v y r w ne =
+    row-kept xs ys kept (rowOf at y) r (elim (decLt y x) [ yes l ↦ inl (omega arith) | no l ↦ inr (omega arith) ])
 
 -- a byte is one of the row's 16 or outside it
 inside-or : (at i : ℕ) → ((k : ℕ) × (k < 16) × (i ≡ at + k)) ⊎ (at ≤ i → at + 16 ≤ i)
