@@ -11,7 +11,7 @@ use Rattle.search.proofs.Truth.{eqb-iff, and-iff, or-both, untrue, both, false-
 use Rattle.search.proofs.Found.{last-or, among-next, first-none, first-agree}
 use Rattle.order.specs.Table.{Rows}
 use Rattle.order.specs.Bound.{converse}
-use Rattle.order.specs.Closure.{Relation, via, path, closure, circle, Reach, here, step, HasPath, OnCircle, PartialOrder, Irreflexive, round}
+use Rattle.order.specs.Closure.{Relation, via, path, closure, loop, circle, Reach, here, step, HasPath, OnCircle, PartialOrder, Irreflexive, round}
 
 -- a path past one thing more: one that was there, or two that meet in it
 pub ways : (e : Relation) (k a b : ℕ)
@@ -149,6 +149,10 @@ module _ (n m : ℕ) (d e : Relation) (l : n ≤ m) (h : Agree n m d e) where
 
   pub circle-agree : circle n d ≡ circle n e
   circle-agree = first-agree (λ a. path n d a a) (λ a. path n e a a) n (λ a w. via-agree n (omega arith) a a w (omega arith))
+
+-- the lowest thing on a circle, by a table g of the paths
+pub loop-circle : (e : Relation) {size n : ℕ} {f g : Relation} → n ≤ size → Rows size n (path n e) f g → loop n g ≡ circle n e
+loop-circle e {n = n} {g = g} l rows = first-agree (λ a. g a a) (λ a. path n e a a) n (λ a w. rows .done a a w (omega arith))
 
 -- ---- a table that is closed round by round, row by row
 

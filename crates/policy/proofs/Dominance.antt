@@ -6,11 +6,10 @@ use mathlib.Core.Bool.{Bool, cond}
 use native.Mathlib.Omega.{arith}
 use lib.Dec.{ltb}
 use borrow.Author.Tests.{le-leb, lt-ltb}
-use Rattle.search.proofs.Found.{first-agree}
-use Rattle.order.specs.Closure.{Relation, path, loop, circle, reflexive}
+use Rattle.order.specs.Closure.{Relation, path, reflexive}
 use Rattle.order.specs.Bound.{partnerWithoutBound, lowestWithoutBound, FirstWithoutBound}
 use Rattle.order.specs.Table.{mark, Rows}
-use Rattle.order.proofs.Closure.{Agree}
+use Rattle.order.proofs.Closure.{Agree, loop-circle}
 use Rattle.order.proofs.Bound.{first-without-agree}
 use Rattle.rolefile.specs.Line.{D, fields}
 use Rattle.rolefile.specs.Form.{refusal, found}
@@ -59,13 +58,10 @@ pub order-verdict-is : (f : List ℕ) (t c : List (List Bool)) → labels f ≤ 
     → orderVerdict (labels f) (mark t) (mark c) ≡ labelVerdict f
 unfolding orderVerdict labelVerdict
 order-verdict-is f t c few p closed =
-    rw (loops, pair-verdict n (mark c) a b here, pair-verdict n (dominates f) a b (first-without-agree n (mark c) (dominates f) (closed-agree f c few closed) a b here))
+    rw (loop-circle (over f) few p, pair-verdict n (mark c) a b here, pair-verdict n (dominates f) a b (first-without-agree n (mark c) (dominates f) (closed-agree f c few closed) a b here))
   where
     n : ℕ
     n = labels f
-
-    loops : loop n (mark t) ≡ circle n (over f)
-    loops = first-agree (λ a. mark t a a) (λ a. path n (over f) a a) n (λ a w. p .done a a w (omega arith))
 
     a : ℕ
     a = lowestWithoutBound n (mark c)

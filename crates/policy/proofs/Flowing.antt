@@ -16,7 +16,7 @@ use Rattle.roleset.specs.Row.{whole, member, removed, united, memberAfter, next
 use Rattle.roleset.proofs.Rows.{whole-true}
 use Rattle.order.specs.Closure.{Relation, path, loop, circle}
 use Rattle.order.specs.Table.{related, Tabled}
-use Rattle.order.proofs.Closure.{circle-agree}
+use Rattle.order.proofs.Closure.{circle-agree, loop-circle}
 use Rattle.order.proofs.Placing.{placing-more, placing-pass, placing-left}
 use Rattle.policy.specs.Tables.{readersAt, writersAt, stateSize, isState, flowsByCard, flowing, pastCard, withoutLoops}
 
@@ -139,6 +139,5 @@ pub flow-circles : (xs t v : List ℕ) (m n r : ℕ) → ((r q : ℕ) → Among 
     → r ≡ cond (leb (0 + 2048) (length v)) (loop n (related v 0)) 0 → r ≡ circle n (flowing xs m)
 flow-circles xs t v m n r has long kept l closed e =
     e
-    ∙ rw (le-leb (0 + 2048) (length v) (omega arith)) (first-agree (λ a. related v 0 a a) (λ a. path n (related t 0) a a) n
-    (λ a w. closed .rows (omega arith) .done a a w (omega arith)))
+    ∙ rw (le-leb (0 + 2048) (length v) (omega arith)) (loop-circle (related t 0) l (closed .rows (omega arith)))
     ∙ circle-agree n 128 (related t 0) (flowing xs m) l (λ a b v w. has a b (omega arith) w)
