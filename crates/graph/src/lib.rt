@@ -121,13 +121,13 @@ fn line_start(prefix: &[u8], a: u64, out: &mut [u8], at: usize) -> usize
 }
 
 // Puts a line's end, of what is red or of what is not.
-fn ending(red: bool, if_red: &[u8], if_not: &[u8], out: &mut [u8], at: usize) -> usize
-    ensures { λ r. ⌜ Puts (cond red (now (if_red .entry)) (now (if_not .entry))) at (now (out .entry)) r (now (out .exit)) ⌝ }
+fn ending(red: bool, colored: &[u8], plain: &[u8], out: &mut [u8], at: usize) -> usize
+    ensures { λ r. ⌜ Puts (cond red (now (colored .entry)) (now (plain .entry))) at (now (out .entry)) r (now (out .exit)) ⌝ }
 {
     if red {
-        return text::put(out, at, if_red);
+        return text::put(out, at, colored);
     }
-    text::put(out, at, if_not)
+    text::put(out, at, plain)
 }
 
 // Puts a thing.

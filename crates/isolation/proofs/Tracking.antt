@@ -7,8 +7,7 @@ use mathlib.Core.Bool.{true, cond}
 use mathlib.Core.Option.{Option, none, some, Option·map}
 use native.Mathlib.Omega.{arith}
 use Rattle.search.proofs.Truth.{and-both, among-iff, false-iff, either}
-use Rattle.rolefile.specs.Said.{labels, users, clearance}
-use Rattle.policy.specs.Policy.{dominates}
+use Rattle.rolefile.specs.Said.{labels, users}
 use Rattle.monitor.specs.Calls.{ifDone}
 use Rattle.monitor.specs.Runs.{Call, opens, closes, takes, drops, reads, writes}
 use Rattle.monitor.specs.Places.{isFree, put}
@@ -74,8 +73,7 @@ module _ (f : List ℕ) (t : Open) (s : Sessions) (fits : Fits t s) where
   pub grants-iff : (p u l : ℕ) → (grants f t p u l ≡ true) ↔ (openRule f s p u l ≡ 0)
   unfolding grants
   grants-iff p u l =
-      let named = and-both (among-iff (users f) u) (and-both (among-iff (labels f) l) (Iff·rfl {A = dominates f (clearance f u) l ≡ true})) in
-      let tests = and-both (among-iff 64 p) (and-both (Iff·rfl {A = isFree (s p) ≡ true}) named) in
+      let tests = and-both (among-iff 64 p) (and-both Iff·rfl (and-both (among-iff (users f) u) (and-both (among-iff (labels f) l) Iff·rfl))) in
       rw (free t s fits p) (
         λ h. let (a, (b, (c, (d, e)))) = tests .0 h in opening-done f s p u l (record { place = a; free = b; user = c; label = d; cleared = e }),
         λ z. let o = opening f s p u l z in tests .1 (o .place, (o .free, (o .user, (o .label, o .cleared)))),

@@ -53,7 +53,7 @@ module _ (p : ℕ → Bool) where
       (λ h. (suc n, omega arith, h))
       (or-iff (some n p) (p (suc n)) .0 e)
 
-  pub some-of : (n a : ℕ) → Among n a → p a ≡ true → some n p ≡ true
+  some-of : (n a : ℕ) → Among n a → p a ≡ true → some n p ≡ true
   unfolding some
   some-of zero a w h = absurd (omega arith)
   some-of (suc n) a w h =
