@@ -42,7 +42,7 @@ readersAt = 12304
 abbrev pub writersAt : ℕ
 writersAt = 20496
 
--- where the table starts of those who may read, mode 1, or write, mode 2; who uses it asks for a mode
+-- where the table starts of those who may read, mode 1, or write, mode 2; used only where m is 1 or 2
 abbrev pub tableOf : ℕ → ℕ
 tableOf m = cond (eqb m 1) readersAt writersAt
 
@@ -148,7 +148,7 @@ flowing xs n r q = not (eqb r q) && some n (flowsByCard xs r q)
 abbrev pub pastCard : List ℕ → List ℕ → ℕ → Relation
 pastCard t xs o r q = related t 0 r q || flowsByCard xs r q o
 
--- and without a role's pair with itself
+-- what t says, without a role's pair with itself
 abbrev pub withoutLoops : List ℕ → Relation
 withoutLoops t r q = related t 0 r q && not (eqb q r)
 
