@@ -12,7 +12,7 @@ use lib.Pow.{pow-lt}
 use lib.Seq.{getD-set-same, getD-set-other}
 use Rattle.search.specs.Search.{among, Among}
 use Rattle.search.proofs.Truth.{either, either-by}
-use Rattle.roleset.specs.Row.{member, Placed, added, removed, roleByte, roleBit}
+use Rattle.roleset.specs.Row.{AllBytes, member, Placed, added, removed, roleByte, roleBit}
 use Rattle.roleset.proofs.Bits.{shifted}
 use Rattle.roleset.proofs.Rows.{added-placed, removed-placed, placed-once, unwritten, none-less}
 use Rattle.monitor.specs.Session.{heldAt}
@@ -45,19 +45,19 @@ module _ (xs : List ℕ) (at r : ℕ) (fits : at + 16 ≤ length xs) (w : Among 
   pub length-less : (b : Bool) → length (less b) ≡ length xs
   length-less b = either (λ (ys : List ℕ). length ys ≡ length xs) b _ xs (length-set xs i _) refl
 
-  module _ (xs-bytes : (j : ℕ) → getD xs j 0 < 256) where
-    byte-set : (b : ℕ) → b < 256 → (j : ℕ) → getD (set xs i b) j 0 < 256
+  module _ (xs-bytes : AllBytes xs) where
+    byte-set : (b : ℕ) → b < 256 → AllBytes (set xs i b)
     byte-set b l j = elim (ℕ-discrete j i) [
       | yes e ↦ rw (e, getD-set-same xs i b 0 (omega arith)) l
       | no n ↦ rw (getD-set-other xs i j b 0 n) (xs-bytes j)
     ]
 
-    byte-less : (b : Bool) (j : ℕ) → getD (less b) j 0 < 256
+    byte-less : (b : Bool) → AllBytes (less b)
     byte-less b =
-        either (λ (ys : List ℕ). (j : ℕ) → getD ys j 0 < 256) b _ xs
+        either AllBytes b _ xs
         (byte-set (bitXor (getD xs i 0) (2 ^ k)) (xor-lt 8 _ _ (xs-bytes i) (pow-lt small))) xs-bytes
 
-    module _ (ys : List ℕ) (long : length ys ≡ length xs) (ys-bytes : (j : ℕ) → getD ys j 0 < 256) where
+    module _ (ys : List ℕ) (long : length ys ≡ length xs) (ys-bytes : AllBytes ys) where
       pub added-is : Placed at (added xs at r) xs ys → ys ≡ set xs i (bitOr (getD xs i 0) (2 ^ k))
       added-is p =
           placed-once at (added xs at r) xs ys _ p more-placed long (length-set xs i _) ys-bytes
@@ -79,7 +79,7 @@ module _ (xs : List ℕ) (at r : ℕ) (fits : at + 16 ≤ length xs) (w : Among 
 
 -- "Taking a role already held, or dropping one not held, is done and changes nothing"
 module _ (xs : List ℕ) (p r : ℕ) where
-  pub taken-again : 65536 ≤ length xs → Among 64 p → Among 128 r → ((j : ℕ) → getD xs j 0 < 256) → member xs (heldAt p) r ≡ true → taken xs p r ≡ xs
+  pub taken-again : 65536 ≤ length xs → Among 64 p → Among 128 r → AllBytes xs → member xs (heldAt p) r ≡ true → taken xs p r ≡ xs
   unfolding taken
   taken-again long v w bytes held = added-again xs (heldAt p) r (omega arith) w bytes held
 

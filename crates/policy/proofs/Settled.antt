@@ -8,7 +8,7 @@ use native.Mathlib.Decide.{decLt, ℕ-discrete}
 use lib.ListN.{getD}
 use lib.Seq.{ext-getD}
 use Rattle.search.specs.Search.{Among}
-use Rattle.roleset.specs.Row.{member, rowOf}
+use Rattle.roleset.specs.Row.{AllBytes, member, rowOf}
 use Rattle.roleset.proofs.Rows.{same-row}
 use Rattle.rolefile.specs.declared.Verdict.{Verdict}
 use Rattle.policy.specs.Tables.{dominanceAt, clearancesAt, cardLabelsAt, rLevelsAt, wLevelsAt, seniorsAt, assignedAt, readersAt, writersAt, markAt}
@@ -16,7 +16,7 @@ use Rattle.policy.specs.Tables.{stateSize, word, byteOf}
 use Rattle.policy.specs.Image.{Unused, Image, Loaded}
 use Rattle.policy.proofs.Builds.{Same}
 
-module _ (ys zs : List ℕ) (ys-bytes : (i : ℕ) → getD ys i 0 < 256) (zs-bytes : (i : ℕ) → getD zs i 0 < 256) where
+module _ (ys zs : List ℕ) (ys-bytes : AllBytes ys) (zs-bytes : AllBytes zs) where
   -- the bytes from a up to b are the same
   record Settled (a b : ℕ) : Type 0 where
     byte : Same a b zs ys
@@ -98,12 +98,12 @@ module _ (ys zs : List ℕ) (ys-bytes : (i : ℕ) → getD ys i 0 < 256) (zs-byt
         and rows-settled writersAt 512 _ (y .permitting .writers) (z .permitting .writers)
         and unused-settled 28688 stateSize (λ i l m. omega arith)
 
-pub image-settles : (f ys zs : List ℕ) → Image f ys → Image f zs → ((i : ℕ) → getD ys i 0 < 256) → ((i : ℕ) → getD zs i 0 < 256)
+pub image-settles : (f ys zs : List ℕ) → Image f ys → Image f zs → AllBytes ys → AllBytes zs
     → (i : ℕ) → i < 65536 → getD ys i 0 ≡ getD zs i 0
 image-settles f ys zs p q ys-bytes zs-bytes i l = state-settled ys zs ys-bytes zs-bytes f p q .byte i (omega arith) l
 
 pub loaded-once : (f : List ℕ) (v w : Verdict) (xs ys zs : List ℕ) → Loaded f v xs ys → Loaded f w xs zs
-    → ((i : ℕ) → getD ys i 0 < 256) → ((i : ℕ) → getD zs i 0 < 256) → (v ≡ w) × (ys ≡ zs)
+    → AllBytes ys → AllBytes zs → (v ≡ w) × (ys ≡ zs)
 loaded-once f v w xs ys zs p q ys-bytes zs-bytes =
     let same : v ≡ w = p .answer ∙ sym (q .answer) in
     let number : v .number ≡ w .number = ap (λ (u : Verdict). u .number) same in (

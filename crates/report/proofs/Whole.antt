@@ -3,9 +3,10 @@ use Prim.Native.Nat.{ℕ, _+_, _*_, _-_, _≤_, _<_}
 use mathlib.Core.List.{List, [], _++_}
 use mathlib.Core.Bool.{Bool}
 use native.Mathlib.Omega.{arith}
-use lib.ListN.{length, getD, length-append}
+use lib.ListN.{length, length-append}
 use Rattle.search.specs.Search.{some}
 use Rattle.search.proofs.Truth.{either}
+use Rattle.roleset.specs.Row.{AllBytes}
 use Rattle.rolefile.specs.Decimal.{digits}
 use Rattle.policy.specs.Tables.{clearancesAt}
 use Rattle.rolefile.proofs.Decimals.{few-digits, padded-length}
@@ -90,7 +91,7 @@ module _ (xs : List ℕ) where
       ))
 
   -- a clearance is a byte
-  pub clearance-byte : ((i : ℕ) → getD xs i 0 < 256) → (u : ℕ) → clearanceOf xs u < 100000
+  pub clearance-byte : AllBytes xs → (u : ℕ) → clearanceOf xs u < 100000
   unfolding clearanceOf
   clearance-byte bytes u =
       let byte = bytes (clearancesAt + (u - 1)) in

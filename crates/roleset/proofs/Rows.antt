@@ -15,7 +15,7 @@ use borrow.Author.Count.{below-more}
 use borrow.Author.Tests.{le-leb, eq-eqb, ne-eqb}
 use Rattle.search.specs.Search.{among, Among}
 use Rattle.search.proofs.Truth.{and-iff, and-when, among-iff, both}
-use Rattle.roleset.specs.Row.{bit, rowOf, roleByte, roleBit, whole, member, added, removed, Kept, Placed, PlacedRows}
+use Rattle.roleset.specs.Row.{AllBytes, bit, rowOf, roleByte, roleBit, whole, member, added, removed, Kept, Placed, PlacedRows}
 use Rattle.roleset.proofs.Bits.{bit-zero, bit-on, bit-off, same-bits}
 
 pub whole-true : (xs : List ℕ) (at : ℕ) → at + 16 ≤ length xs → whole xs at ≡ true
@@ -55,7 +55,7 @@ unfolding member
 same-bytes xs ys a b = member-of ys b (λ k. getD xs (a + k) 0)
 
 -- and two rows that hold the same roles are of the same bytes
-pub same-row : (xs ys : List ℕ) (a b : ℕ) → ((i : ℕ) → getD xs i 0 < 256) → ((i : ℕ) → getD ys i 0 < 256)
+pub same-row : (xs ys : List ℕ) (a b : ℕ) → AllBytes xs → AllBytes ys
     → ((r : ℕ) → Among 128 r → member ys b r ≡ member xs a r) → (k : ℕ) → k < 16 → getD ys (b + k) 0 ≡ getD xs (a + k) 0
 same-row xs ys a b xs-bytes ys-bytes h k l =
     same-bits 8 _ _ (ys-bytes (b + k)) (xs-bytes (a + k))
@@ -82,7 +82,7 @@ inside-or at i = elim (decLe at i) [
 -- no two lists of bytes are `Placed` alike
 module _ (at : ℕ) (s : ℕ → Bool) (xs ys zs : List ℕ) (p : Placed at s xs ys) (q : Placed at s xs zs)
     (ys-long : length ys ≡ length xs) (zs-long : length zs ≡ length xs)
-    (ys-bytes : (i : ℕ) → getD ys i 0 < 256) (zs-bytes : (i : ℕ) → getD zs i 0 < 256) where
+    (ys-bytes : AllBytes ys) (zs-bytes : AllBytes zs) where
   row-byte : at + 16 ≤ length xs → (k : ℕ) → k < 16 → getD ys (at + k) 0 ≡ getD zs (at + k) 0
   row-byte fits = same-row zs ys at at zs-bytes ys-bytes (λ r w. p .row fits r ∙ sym (q .row fits r))
 

@@ -4,6 +4,7 @@
 --     member xs at r            the row of xs at `at` holds role r
 --     common xs a b             the rows at a and at b have a role in common
 --     nextMember xs at after    the lowest role above `after` that the row holds, or 0
+--     AllBytes xs               each number of xs is a byte
 --     Kept a b xs ys            every byte of ys but those from a up to b is xs's
 --     Placed at s xs ys         ys is xs with the set s in the row at `at`, and nothing else changed
 --     PlacedRows at n s xs ys   the same for n rows from `at` on
@@ -74,6 +75,10 @@ unitedWhere xs at k other r = member xs at r || (member xs at k && member other 
 -- with the roles of the row at `from`, which is empty where it does not lie in xs
 abbrev pub joined : List ℕ → ℕ → ℕ → ℕ → Bool
 joined xs into from r = member xs into r || (whole xs from && member xs from r)
+
+-- each number of the list is a byte
+abbrev pub AllBytes : List ℕ → Type 0
+AllBytes xs = (i : ℕ) → getD xs i 0 < 256
 
 -- every byte but those from a up to b is as it was
 abbrev pub Kept : ℕ → ℕ → List ℕ → List ℕ → Type 0

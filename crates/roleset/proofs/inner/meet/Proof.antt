@@ -14,13 +14,13 @@ use borrow.Author.Tests.{eqb-true, eq-eqb, not-true}
 use Rattle.search.specs.Search.{some}
 use Rattle.search.proofs.Truth.{same}
 use Rattle.search.proofs.Found.{None, some-none}
-use Rattle.roleset.specs.Row.{bit, roleByte, roleBit, member, halfAt}
+use Rattle.roleset.specs.Row.{AllBytes, bit, roleByte, roleBit, member, halfAt}
 use Rattle.roleset.proofs.Bits.{and-none, or-none, bytes-apart}
 use Rattle.roleset.proofs.Rows.{bit-member}
 use Rattle.roleset.proofs.inner.meet.Statement.{statement}
 use Rattle.roleset.proofs.inner.meet.Tie as tie
 
-module _ (xs ys : List ℕ) (a b : ℕ) (bytes : (i : ℕ) → getD xs i 0 < 256) (others : (i : ℕ) → getD ys i 0 < 256) where
+module _ (xs ys : List ℕ) (a b : ℕ) (bytes : AllBytes xs) (others : AllBytes ys) where
   abbrev Shared : ℕ → Bool
   Shared r = member xs a r && member ys b r
 

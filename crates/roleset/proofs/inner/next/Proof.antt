@@ -9,12 +9,12 @@ use borrow.Author.Needs.{needs}
 use Rattle.search.specs.Search.{first, Among}
 use Rattle.search.proofs.Truth.{among-iff, leb-same}
 use Rattle.search.proofs.Found.{first-agree, first-sooner, first-never, first-later, first-within}
-use Rattle.roleset.specs.Row.{bit, roleByte, roleBit, member, bitAfter, memberAfter, halfAt}
+use Rattle.roleset.specs.Row.{AllBytes, bit, roleByte, roleBit, member, bitAfter, memberAfter, halfAt}
 use Rattle.roleset.proofs.Bits.{bit-byte}
 use Rattle.roleset.proofs.inner.next.Statement.{statement}
 use Rattle.roleset.proofs.inner.next.Tie as tie
 
-module _ (xs : List ℕ) (at after : ℕ) (bytes : (i : ℕ) → getD xs i 0 < 256) where
+module _ (xs : List ℕ) (at after : ℕ) (bytes : AllBytes xs) where
   low-bit : (b : ℕ) → Among 64 b → bit (halfAt xs at) (b - 1) ≡ member xs at b
   unfolding member
   low-bit b w = bit-byte 8 _ (λ k. bytes (at + k)) (b - 1) (omega arith) ∙ rw (among-iff 128 b .1 (omega arith))
