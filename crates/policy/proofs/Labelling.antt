@@ -1,7 +1,7 @@
 -- The byte that the lines of a section note for a thing is its label, or 255 where several lines give it one. So the bytes tell the lowest thing without
 -- just one label, and where there is none, each byte is the label that the file gives. Assumes nothing.
 use Prim.Native.Nat.{ℕ, zero, suc, _+_, _-_, _≤_, _<_}
-use mathlib.Core.Path.{_≡_, refl, sym, ap, _∙_}
+use mathlib.Core.Path.{_≡_, refl, sym, _∙_}
 use mathlib.Core.List.{List}
 use mathlib.Core.Bool.{Bool, true, false, not, cond}
 use native.Mathlib.Omega.{arith}
@@ -20,6 +20,7 @@ use Rattle.rolefile.specs.Section.{part, one, two}
 use Rattle.rolefile.proofs.Counts.{count-none}
 use Rattle.rolefile.proofs.Sections.{Section, count-about, label-section}
 use Rattle.rolefile.specs.WellFormed.{GoodLines}
+use Rattle.rolefile.proofs.Verdicts.{refuses}
 use Rattle.policy.specs.declared.build.Parts.{Parts}
 use Rattle.policy.specs.Tables.{clearancesAt, cardLabelsAt, byteOf, Bytes, noted, notes, unlabelledByte}
 use Rattle.policy.specs.Stages.{Laid, Zeros, Noting}
@@ -147,7 +148,7 @@ module _ {f xs ys : List ℕ} (t : Tables f xs ys) {u : ℕ} (lowest : u ≡ fir
   unfolding unlabelledVerdict
   user-refused some r = record {
     answer = rw (← user-is, ne-eqb u 0 some) r;
-    done = λ z. absurd (omega (arith, ap (λ v. v .number) r));
+    done = λ z. absurd (refuses r (omega arith) z);
     rest = t .rest;
   }
 
@@ -159,7 +160,7 @@ module _ {f xs ys : List ℕ} (t : Tables f xs ys) {u : ℕ} (lowest : u ≡ fir
     unfolding unlabelledVerdict
     card-refused some r = record {
       answer = rw (← user-is, no-user, ← card-is, ne-eqb o 0 some) r;
-      done = λ z. absurd (omega (arith, ap (λ v. v .number) r));
+      done = λ z. absurd (refuses r (omega arith) z);
       rest = t .rest;
     }
 

@@ -1,12 +1,13 @@
 -- A load: a state that is too short is refused first; the image is copied from a scratch state that began as zeros. Assumes nothing.
 use Prim.Native.Nat.{ℕ, _≤_, _<_}
-use mathlib.Core.Path.{_≡_, refl, sym, ap, _∙_}
+use mathlib.Core.Path.{_≡_, refl, sym, _∙_}
 use mathlib.Core.List.{List}
 use native.Mathlib.Omega.{arith}
 use lib.ListN.{length, replicate, getD-replicate}
 use borrow.Author.Tests.{le-leb, lt-leb}
 use Rattle.rolefile.specs.declared.Verdict.{Verdict}
 use Rattle.rolefile.specs.Form.{refusal}
+use Rattle.rolefile.proofs.Verdicts.{refuses}
 use Rattle.policy.specs.Verdict.{verdict}
 use Rattle.policy.specs.Tables.{stateSize}
 use Rattle.policy.specs.Image.{Image, loadVerdict, Loaded}
@@ -28,7 +29,7 @@ pub load-short : {f xs : List ℕ} {v : Verdict} → length xs < 65536 → v ≡
 load-short {f} {xs} {v} l e = record {
   answer = e ∙ short;
   refused = λ h. refl;
-  done = λ z. absurd (omega (arith, ap (λ v. v .number) e));
+  done = λ z. absurd (refuses e (omega arith) z);
   rest = λ i m. refl;
   long = refl;
 }

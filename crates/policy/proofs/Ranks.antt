@@ -1,6 +1,6 @@
 -- Seniority from the S lines: the rows that the lines fill are closed, and hold each role's seniors. Assumes nothing.
 use Prim.Native.Nat.{ℕ, _+_, _≤_, min}
-use mathlib.Core.Path.{_≡_, refl, sym, ap, _∙_}
+use mathlib.Core.Path.{_≡_, refl, sym, _∙_}
 use mathlib.Core.List.{List}
 use mathlib.Core.Bool.{false, cond}
 use native.Mathlib.Omega.{arith}
@@ -22,6 +22,7 @@ use Rattle.rolefile.specs.Said.{roles, above, says}
 use Rattle.rolefile.specs.Section.{part}
 use Rattle.rolefile.proofs.Sections.{Section, says-two}
 use Rattle.rolefile.specs.WellFormed.{GoodLines}
+use Rattle.rolefile.proofs.Verdicts.{refuses}
 use Rattle.policy.specs.Policy.{senior}
 use Rattle.policy.specs.Tables.{seniorsAt, pairs, Related}
 use Rattle.policy.specs.Verdict.{roleVerdict}
@@ -94,7 +95,7 @@ module _ {f : List ℕ} {h : Line} {xs zs : List ℕ} {r : ℕ} (p : Pathed f h 
   unfolding roleVerdict
   ranked-refused e ne = record {
     answer = rw (← (p .lowest), ne-eqb r 0 ne) e;
-    done = λ z. absurd (omega (arith, ap (λ v. v .number) e));
+    done = λ z. absurd (refuses e (omega arith) z);
     rest = p .rest;
   }
 

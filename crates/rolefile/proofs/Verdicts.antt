@@ -1,6 +1,6 @@
 -- Verdicts: which refusal comes first where checks follow one another, when there is none, and one turn of a loop that scans. Assumes nothing.
 use Prim.Native.Nat.{ℕ, zero, suc, _+_, _<_, _≤_}
-use mathlib.Core.Path.{_≡_, refl, sym, _∙_}
+use mathlib.Core.Path.{_≡_, refl, sym, ap, _∙_}
 use mathlib.Core.Logic.{⊎-elim}
 use mathlib.Core.Bool.{Bool, true, false}
 use native.Mathlib.Nat.{eq-or-lt-of-le}
@@ -11,10 +11,13 @@ use borrow.Author.Tests.{eqb-false, ne-eqb}
 use Rattle.search.specs.Search.{Among}
 use Rattle.search.proofs.Truth.{either-by}
 use Rattle.rolefile.specs.declared.Verdict.{Verdict}
-use Rattle.rolefile.specs.Form.{fine, unless, _then_, scan}
+use Rattle.rolefile.specs.Form.{fine, refusal, unless, _then_, scan}
 
 abbrev pub Refuses : Verdict → Type 0
 Refuses v = v .number ≡ 0 → ⊥
+
+pub refuses : {n a b : ℕ} {v : Verdict} → v ≡ refusal n a b → 1 ≤ n → Refuses v
+refuses e l z = omega (arith, ap (λ v. v .number) e)
 
 -- the number 0 stands with no place
 abbrev pub Clean : Verdict → Type 0
