@@ -11,9 +11,10 @@ use Rattle.roleset.proofs.Rows.{zero-rows}
 use Rattle.roleset.specs.Row.{rowOf, member, united, Placed}
 use Rattle.order.specs.Closure.{Relation, path}
 use Rattle.order.specs.Table.{related, Tabled}
-use Rattle.order.proofs.Closure.{Agree, via-agree}
+use Rattle.order.proofs.Closure.{Agree}
 use Rattle.text.specs.Text.{ascii}
 use Rattle.text.proofs.Each.{each-agree, each-pair-agree}
+use Rattle.policy.proofs.Closing.{paths-to}
 use Rattle.policy.proofs.Flowing.{row-left, row-more}
 use Rattle.graph.specs.Graph.{past, direct, directFlow, node, orderEdge, flowEdge, nodes, orderEdges, flowEdges, rolesText}
 
@@ -38,7 +39,7 @@ pub paths-agree : (n : ℕ) (f : Relation) (t v : List ℕ) → n ≤ 128 → 20
     → Tabled 0 (min n 128) (path (min n 128) (related t 0)) t v → Agree n n (related v 0) (path n f)
 paths-agree n f t v few long h closed a b u w =
     let m : min n 128 ≡ n = omega arith in
-    (rw m at closed) .rows (omega arith) .done a b u (omega arith) ∙ via-agree n n (related t 0) f (omega arith) h n (omega arith) a b u w
+    paths-to 128 n f (related t 0) (related v 0) n (omega arith) few h ((rw m at closed) .rows (omega arith)) a b u w
 
 module _ (n : ℕ) where
   past-agree : (d e f g : Relation) → Agree n n d e → Agree n n f g → Agree n n (past n d f) (past n e g)

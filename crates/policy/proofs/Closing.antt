@@ -8,16 +8,21 @@ use lib.Dec.{leb}
 use borrow.Author.Tests.{le-leb, lt-leb}
 use Rattle.search.specs.Search.{Among}
 use Rattle.search.proofs.Truth.{untrue}
+use Rattle.search.proofs.Found.{wider}
 use Rattle.order.specs.Closure.{Relation, path, reflexive, closure}
 use Rattle.order.specs.Table.{Rows}
 use Rattle.order.proofs.Closure.{Agree, via-agree}
 use Rattle.policy.proofs.Inside.{Between}
 
 module _ (size n : ℕ) (e t u : Relation) where
-  -- t has the relation, and u its paths
+  -- t has the relation, and u its paths: to the things 1 to m
+  pub paths-to : (m : ℕ) → n ≤ m → m ≤ size → Agree n m t e → Rows size n (path n t) t u → Agree n m u (path n e)
+  paths-to m few fits agree rows a b v w = rows .done a b v (wider m size fits w) ∙ via-agree n m t e few agree n (omega arith) a b v w
+
+  -- and as a table
   pub paths-table : n ≤ size → Between n e → Agree size size t e → Rows size n (path n t) t u → Rows size n (path n e) (λ a b. false) u
   paths-table few between agree rows = record {
-    done = λ a b v w. rows .done a b v w ∙ via-agree n size t e few (λ a b v w. agree a b (omega arith) w) n (omega arith) a b v w;
+    done = paths-to size few (omega arith) (λ a b v w. agree a b (wider n size few v) w) rows;
     left = λ a b l m w. rows .left a b l m w ∙ agree a b (omega arith) w ∙ untrue (e a b) (λ h. let v = between a b h in omega arith);
   }
 
