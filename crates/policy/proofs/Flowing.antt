@@ -120,15 +120,15 @@ module _ {t u xs : List ℕ} {o i w : ℕ} (turn : Turn t u xs o i w) where
           whole-true xs (readersAt + 16 * o) (omega arith),
         )))
 
-pub apart-row : (t u : List ℕ) (i q : ℕ) → 2048 ≤ length t → length u ≡ length t → i < 128 → Among 128 q → Tabled 0 i (withoutLoops t) t u
+pub loop-removed : (t u : List ℕ) (i q : ℕ) → 2048 ≤ length t → length u ≡ length t → i < 128 → Among 128 q → Tabled 0 i (withoutLoops t) t u
     → removed u (16 * i) (i + 1) q ≡ withoutLoops t (i + 1) q
-apart-row t u i q long same l w done = rw (row-left (withoutLoops t) t u i long same l done q w)
+loop-removed t u i q long same l w done = rw (row-left (withoutLoops t) t u i long same l done q w)
 
 -- a table that says which role may write one of the first m cards that which role may read
 module _ (xs t : List ℕ) (m : ℕ) (said : (r q : ℕ) → Among 128 r → Among 128 q → related t 0 r q ≡ some m (flowsByCard xs r q)) where
   -- has the flow among the first m cards, once no role is related to itself
-  pub apart-flows : (r q : ℕ) → Among 128 r → Among 128 q → withoutLoops t r q ≡ flowing xs m r q
-  apart-flows r q v w = elim (ℕ-discrete r q) [
+  pub without-loops-flows : (r q : ℕ) → Among 128 r → Among 128 q → withoutLoops t r q ≡ flowing xs m r q
+  without-loops-flows r q v w = elim (ℕ-discrete r q) [
     | yes e ↦ rw (eq-eqb q r (sym e)) (and-false (related t 0 r q) ∙ sym (flow-self xs m r q e))
     | no e ↦ rw (ne-eqb q r (λ i. e (sym i))) (and-true (related t 0 r q) ∙ said r q v w ∙ sym (flow-other xs m r q e))
   ]

@@ -8,7 +8,7 @@ use lib.ListN.{length}
 use Rattle.order.specs.Table.{Tabled}
 use Rattle.order.proofs.Placing.{placing-none}
 use Rattle.policy.specs.Tables.{withoutLoops}
-use Rattle.policy.proofs.Flowing.{row-more, apart-row}
+use Rattle.policy.proofs.Flowing.{row-more, loop-removed}
 use Rattle.policy.proofs.flow.remove_itself.Statement.{statement}
 use Rattle.policy.proofs.flow.remove_itself.Tie as tie
 
@@ -26,7 +26,7 @@ loop-again c =
       search needs,
       search needs,
       row-more (withoutLoops t) t (w .t) (w .i) (search needs) (search needs) (search needs) (w .inv .2) _ _ (c .before .before .remove .ensures)
-          (λ q v. apart-row t (w .t) (w .i) q (search needs) (search needs) (search needs) v (w .inv .2)),
+          (λ q v. loop-removed t (w .t) (w .i) q (search needs) (search needs) (search needs) v (w .inv .2)),
     )
 
 returns : tie.Need-returns Inv-loop μ-loop

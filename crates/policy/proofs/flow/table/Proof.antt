@@ -6,7 +6,7 @@ use borrow.Author.Needs.{needs}
 use denote.Ref.{now}
 use Rattle.roleset.proofs.Rows.{zero-rows}
 use Rattle.policy.specs.Tables.{cardsUpTo}
-use Rattle.policy.proofs.Flowing.{no-state, a-state, of-state, apart-flows}
+use Rattle.policy.proofs.Flowing.{no-state, a-state, of-state, without-loops-flows}
 use Rattle.policy.proofs.flow.table.Statement.{statement}
 use Rattle.policy.proofs.flow.table.Tie as tie
 
@@ -26,7 +26,7 @@ returns-2 c r q u v =
     let counted = made .before in
     let xs = now (counted .before .before .before .args .s) in
     apart .remove-itself .ensures .rows (search needs) .done r q u v
-    ∙ apart-flows xs (made .flow-table .result) (cardsUpTo xs) (rw (cards-are counted) at (made .flow-table .ensures)) r q u v
+    ∙ without-loops-flows xs (made .flow-table .result) (cardsUpTo xs) (rw (cards-are counted) at (made .flow-table .ensures)) r q u v
     ∙ rw (a-state xs (search needs))
 
 pub table-spec : {M : Type 1} → statement M
