@@ -19,7 +19,7 @@ use Rattle.rolefile.specs.WellFormed.{WellFormed}
 use Rattle.policy.specs.Policy.{dominates, may}
 use Rattle.policy.specs.Accepted.{Accepted}
 use Rattle.policy.specs.Image.{Loaded, Allows}
-use Rattle.policy.proofs.Meaning.{counts-known}
+use Rattle.policy.proofs.Meaning.{role-few, card-few}
 use Rattle.policy.specs.Tables.{tableOf}
 use Rattle.policy.proofs.Relating.{by-mode}
 use Rattle.monitor.specs.Session.{labelsIn, usersIn, cardsIn, cleared, entitled, fitting}
@@ -57,10 +57,7 @@ module _ (f : List ℕ) (form : WellFormed f) (t : Sessions) (xs : List ℕ) (st
   could-by u l o m user card mode =
       rw (stands .tables .counted .roles)
       (some-agree (λ r. entitled xs u r && (fitting xs l r && member xs (rowOf (tableOf m) o) r)) (λ r. entitledByFile f u r && (fittingByFile f l r && may f m r o)) (roles f)
-      (λ r w.
-      let few-roles = counts-known f form .roles in
-      let few-cards = counts-known f form .cards in
-      rw (entitled-file f form t xs stands u r user w, fitting-file f form t xs stands l r w, table-says m mode o r (omega arith) (omega arith))))
+      (λ r w. rw (entitled-file f form t xs stands u r user w, fitting-file f form t xs stands l r w, table-says m mode o r (card-few f form o card) (role-few f form r w))))
 
 -- ---- by the session calls
 

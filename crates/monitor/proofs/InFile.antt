@@ -22,7 +22,7 @@ use Rattle.policy.specs.Policy.{dominates, senior, may}
 use Rattle.policy.specs.Tables.{seniorsAt, assignedAt}
 use Rattle.policy.proofs.Assigning.{reads-test, writes-test}
 use Rattle.policy.proofs.Inside.{assigned-known, over-between}
-use Rattle.policy.proofs.Meaning.{counts-known, role-few, marked-file}
+use Rattle.policy.proofs.Meaning.{counts-known, role-few, user-few, card-few, marked-file}
 use Rattle.policy.specs.Image.{Allows}
 use Rattle.monitor.specs.Session.{sound, labelsIn, rolesIn, usersIn, cardsIn, placeAt, heldAt, inUse, userAt, labelAt, cleared, entitled, fitting, gives}
 use Rattle.monitor.specs.Calls.{unless, atSession, openNumber, closeNumber, takeNumber, dropNumber, partNumber}
@@ -75,8 +75,7 @@ module _ (f : List ℕ) (form : WellFormed f) (t : Sessions) (xs : List ℕ) (st
   pub cleared-file : (u l : ℕ) → Among (users f) u → Among (labels f) l → cleared xs u l ≡ dominates f (clearance f u) l
   unfolding cleared
   cleared-file u l v w =
-      let few = counts-known f form .users in
-      rw (stands .tables .labelled .users u (omega arith)) (marked-file f form xs (stands .tables) (clearance f u) l (inr w))
+      rw (stands .tables .labelled .users u (user-few f form u v)) (marked-file f form xs (stands .tables) (clearance f u) l (inr w))
 
   -- two rows with a role in common, where both together say g
   common-file : (a b n : ℕ) (g : ℕ → Bool) → a + 16 ≤ length xs → b + 16 ≤ length xs → n ≤ 128
@@ -89,12 +88,11 @@ module _ (f : List ℕ) (form : WellFormed f) (t : Sessions) (xs : List ℕ) (st
   pub entitled-file : (u r : ℕ) → Among (users f) u → Among (roles f) r → entitled xs u r ≡ entitledByFile f u r
   unfolding entitled entitledByFile
   entitled-file u r v w =
-      let c = counts-known f form in
-      let few-users = c .users in
-      let few-roles = c .roles in
+      let x = user-few f form u v in
+      let y = role-few f form r w in
       let long = stands .long in
-      common-file (rowOf assignedAt u) (rowOf seniorsAt r) (roles f) (λ q. assigned f u q && senior f q r) (omega arith) (omega arith) (omega arith)
-      (λ q i. rw (stands .tables .assigning u q (omega arith) i, stands .tables .seniors r q (omega arith) i, le-leb r (roles f) (w .1)))
+      common-file (rowOf assignedAt u) (rowOf seniorsAt r) (roles f) (λ q. assigned f u q && senior f q r) (omega arith) (omega arith) (counts-known f form .roles)
+      (λ q i. rw (stands .tables .assigning u q x i, stands .tables .seniors r q y i, le-leb r (roles f) (w .1)))
       (λ q e. assigned-known f (form .good) u q (and-iff (assigned f u q) (senior f q r) .0 e .0) .1)
 
   pub fitting-file : (l r : ℕ) → Among (roles f) r → fitting xs l r ≡ fittingByFile f l r
@@ -162,13 +160,11 @@ module _ (f : List ℕ) (form : WellFormed f) (t : Sessions) (xs : List ℕ) (st
     gives-file : (p o : ℕ) (s : Session) → SessionAt xs p s → Admitted f p s → Among (cards f) o → gives xs at p o ≡ givesByFile f m s o
     unfolding gives givesByFile
     gives-file p o s a k w =
-        let c = counts-known f form in
-        let few-cards = c .cards in
-        let few-roles = c .roles in
+        let i = card-few f form o w in
         let place = k .place in
         let long = stands .long in
-        common-file (heldAt p) (rowOf at o) (roles f) (λ r. s .held r && may f m r o) (omega arith) (omega arith) (omega arith)
-        (λ r i. rw (a .held r, says o r (omega arith) i))
+        common-file (heldAt p) (rowOf at o) (roles f) (λ r. s .held r && may f m r o) (omega arith) (omega arith) (counts-known f form .roles)
+        (λ r j. rw (a .held r, says o r i j))
         (λ r e. k .roles r (and-iff (s .held r) (may f m r o) .0 e .0) .0)
 
     pub part-file : Orderly f t → (size p o k n : ℕ) → partNumber at xs size p o k n ≡ partRule f m t size p o k n

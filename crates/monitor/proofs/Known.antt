@@ -8,9 +8,9 @@ use lib.ListN.{length}
 use Rattle.search.specs.Search.{Among}
 use Rattle.search.proofs.Truth.{and-iff, among-iff, passed, failed, either-by}
 use Rattle.search.proofs.Found.{wider}
-use Rattle.policy.specs.Tables.{word}
+use Rattle.policy.specs.Tables.{labelCountAt, roleCountAt, userCountAt, cardCountAt, word}
 use Rattle.monitor.specs.Session.{sound, entitled, fitting}
-use Rattle.monitor.specs.Review.{known, isRole, isUser, isCard, knownCount, entitledTo, mayOpen, mayTake}
+use Rattle.monitor.specs.Review.{known, isRole, isUser, isCard, knownCount, knownLabels, knownRoles, knownUsers, knownCards, entitledTo, mayOpen, mayTake}
 use Rattle.monitor.proofs.Answers.{Sound, sound-iff}
 
 -- the test that fails, and one before it; a call's `ensures` is r ≡ t
@@ -27,29 +27,29 @@ module _ (xs : List ℕ) where
   few : (n at : ℕ) → (Sound xs → word xs at ≤ n) → knownCount xs at ≤ n
   few n at most = either-by (λ k. k ≤ n) (sound xs) (word xs at) 0 (λ e. most (sound-iff xs .0 e)) (λ e. omega arith)
 
-  pub few-labels : knownCount xs 0 ≤ 32
-  few-labels = few 32 0 (λ s. s .labels .1)
+  pub few-labels : knownLabels xs ≤ 32
+  few-labels = few 32 labelCountAt (λ s. s .labels .1)
 
-  pub few-roles : knownCount xs 2 ≤ 128
-  few-roles = few 128 2 (λ s. s .roles)
+  pub few-roles : knownRoles xs ≤ 128
+  few-roles = few 128 roleCountAt (λ s. s .roles)
 
-  pub few-users : knownCount xs 4 ≤ 256
-  few-users = few 256 4 (λ s. s .users)
+  pub few-users : knownUsers xs ≤ 256
+  few-users = few 256 userCountAt (λ s. s .users)
 
-  pub few-cards : knownCount xs 6 ≤ 512
-  few-cards = few 512 6 (λ s. s .cards)
+  pub few-cards : knownCards xs ≤ 512
+  few-cards = few 512 cardCountAt (λ s. s .cards)
 
   inside : (at x : ℕ) → known xs at x ≡ true → Among (knownCount xs at) x
   inside at x = among-iff (knownCount xs at) x .0
 
   pub role : (r : ℕ) → isRole xs r ≡ true → Among 128 r
-  role r h = wider (knownCount xs 2) 128 few-roles (inside 2 r h)
+  role r h = wider (knownRoles xs) 128 few-roles (inside roleCountAt r h)
 
   pub user : (u : ℕ) → isUser xs u ≡ true → Among 256 u
-  user u h = wider (knownCount xs 4) 256 few-users (inside 4 u h)
+  user u h = wider (knownUsers xs) 256 few-users (inside userCountAt u h)
 
   pub card : (o : ℕ) → isCard xs o ≡ true → Among 512 o
-  card o h = wider (knownCount xs 6) 512 few-cards (inside 6 o h)
+  card o h = wider (knownCards xs) 512 few-cards (inside cardCountAt o h)
 
   -- only a sound state knows a number
   pub long : (at x : ℕ) → known xs at x ≡ true → 65536 ≤ length xs
@@ -75,5 +75,5 @@ module _ (xs : List ℕ) where
   may-role u l r h = role r (may-is-role u l r h)
 
   -- and so within the state's count
-  pub may-known : (u l r : ℕ) → mayTake xs u l r ≡ true → r ≤ knownCount xs 2
-  may-known u l r h = inside 2 r (may-is-role u l r h) .1
+  pub may-known : (u l r : ℕ) → mayTake xs u l r ≡ true → r ≤ knownRoles xs
+  may-known u l r h = inside roleCountAt r (may-is-role u l r h) .1

@@ -14,12 +14,12 @@ use Rattle.roleset.specs.Row.{member, rowOf}
 use Rattle.rolefile.specs.Said.{labels, roles, users, cards, clearance, assigned}
 use Rattle.rolefile.specs.WellFormed.{WellFormed}
 use Rattle.policy.specs.Policy.{dominates, senior, may}
-use Rattle.policy.specs.Tables.{word, tableOf}
-use Rattle.policy.proofs.Meaning.{counts-known, role-few, marked-file}
+use Rattle.policy.specs.Tables.{labelCountAt, roleCountAt, userCountAt, cardCountAt, word, tableOf}
+use Rattle.policy.proofs.Meaning.{counts-known, role-few, user-few, card-few, marked-file}
 use Rattle.monitor.specs.Session.{sound, entitled, fitting}
 use Rattle.monitor.specs.Rules.{Sessions, entitledByFile, fittingByFile}
 use Rattle.monitor.specs.Rights.{roleCould, could, couldByFile}
-use Rattle.monitor.specs.Review.{knownCount, known, isLabel, isRole, isUser, isCard, clearanceOf, dominatesIn, seniorTo, assignedTo, entitledTo, mayOpen, mayTake, giveCard}
+use Rattle.monitor.specs.Review.{knownLabels, knownRoles, knownUsers, knownCards, known, isLabel, isRole, isUser, isCard, clearanceOf, dominatesIn, seniorTo, assignedTo, entitledTo, mayOpen, mayTake, giveCard}
 use Rattle.monitor.proofs.Stands.{Stands}
 use Rattle.monitor.proofs.InFile.{some-first, sound-file, cleared-file, entitled-file, fitting-file}
 use Rattle.monitor.proofs.Known.{may-role, may-known}
@@ -31,38 +31,38 @@ module _ (f : List ℕ) (form : WellFormed f) (t : Sessions) (xs : List ℕ) (st
 
   -- ---- counts and ranges
 
-  pub review-labels : knownCount xs 0 ≡ labels f
+  pub review-labels : knownLabels xs ≡ labels f
   review-labels = rw whole (stands .tables .counted .labels)
 
-  pub review-roles : knownCount xs 2 ≡ roles f
+  pub review-roles : knownRoles xs ≡ roles f
   review-roles = rw whole (stands .tables .counted .roles)
 
-  pub review-users : knownCount xs 4 ≡ users f
+  pub review-users : knownUsers xs ≡ users f
   review-users = rw whole (stands .tables .counted .users)
 
-  pub review-cards : knownCount xs 6 ≡ cards f
+  pub review-cards : knownCards xs ≡ cards f
   review-cards = rw whole (stands .tables .counted .cards)
 
   thing : (at n x : ℕ) → word xs at ≡ n → Among n x → known xs at x ≡ true
   thing at n x e w = rw (whole, e) (among-iff n x .1 w)
 
   label : (l : ℕ) → Among (labels f) l → isLabel xs l ≡ true
-  label l = thing 0 (labels f) l (stands .tables .counted .labels)
+  label l = thing labelCountAt (labels f) l (stands .tables .counted .labels)
 
   role : (r : ℕ) → Among (roles f) r → isRole xs r ≡ true
-  role r = thing 2 (roles f) r (stands .tables .counted .roles)
+  role r = thing roleCountAt (roles f) r (stands .tables .counted .roles)
 
   user : (u : ℕ) → Among (users f) u → isUser xs u ≡ true
-  user u = thing 4 (users f) u (stands .tables .counted .users)
+  user u = thing userCountAt (users f) u (stands .tables .counted .users)
 
   card : (o : ℕ) → Among (cards f) o → isCard xs o ≡ true
-  card o = thing 6 (cards f) o (stands .tables .counted .cards)
+  card o = thing cardCountAt (cards f) o (stands .tables .counted .cards)
 
   -- ---- users, labels, roles and cards of the file
 
   pub review-clearance : (u : ℕ) → Among (users f) u → clearanceOf xs u ≡ clearance f u
   unfolding clearanceOf
-  review-clearance u v = let few = counts-known f form .users in rw (user u v) (stands .tables .labelled .users u (omega arith))
+  review-clearance u v = rw (user u v) (stands .tables .labelled .users u (user-few f form u v))
 
   pub review-dominates : (a b : ℕ) → Among (labels f) a → Among (labels f) b → dominatesIn xs a b ≡ dominates f a b
   unfolding dominatesIn
@@ -71,15 +71,11 @@ module _ (f : List ℕ) (form : WellFormed f) (t : Sessions) (xs : List ℕ) (st
   pub review-senior : (q r : ℕ) → Among (roles f) q → Among (roles f) r → seniorTo xs q r ≡ senior f q r
   unfolding seniorTo
   review-senior q r v w =
-      let few = counts-known f form .roles in
-      rw (role q v, role r w, stands .tables .seniors r q (omega arith) (omega arith), le-leb r (roles f) (w .1))
+      rw (role q v, role r w, stands .tables .seniors r q (role-few f form r w) (role-few f form q v), le-leb r (roles f) (w .1))
 
   pub review-assigned : (u r : ℕ) → Among (users f) u → Among (roles f) r → assignedTo xs u r ≡ assigned f u r
   unfolding assignedTo
-  review-assigned u r v w =
-      let few-users = counts-known f form .users in
-      let few-roles = counts-known f form .roles in
-      rw (user u v, role r w) (stands .tables .assigning u r (omega arith) (omega arith))
+  review-assigned u r v w = rw (user u v, role r w) (stands .tables .assigning u r (user-few f form u v) (role-few f form r w))
 
   pub review-entitled : (u r : ℕ) → Among (users f) u → Among (roles f) r → entitledTo xs u r ≡ entitledByFile f u r
   unfolding entitledTo
@@ -109,8 +105,7 @@ module _ (f : List ℕ) (form : WellFormed f) (t : Sessions) (xs : List ℕ) (st
 
     pub review-gives : giveCard xs m o held ≡ search.some (roles f) (λ r. may f m r o && held r)
     review-gives =
-        let few-cards = counts-known f form .cards in
-        gives-by (λ r. may f m r o && held r) (λ r k. rw (table-says f form t xs stands m j o r (omega arith) (role-few f form r k)))
+        gives-by (λ r. may f m r o && held r) (λ r k. rw (table-says f form t xs stands m j o r (card-few f form o i) (role-few f form r k)))
 
   -- ---- what the roles that a user may take at a label give
 

@@ -5,40 +5,40 @@ use mathlib.Core.List.{List}
 use mathlib.Core.Bool.{Bool, _&&_, cond}
 use Rattle.search.specs.Search.{among, some}
 use Rattle.roleset.specs.Row.{member, rowOf}
-use Rattle.policy.specs.Tables.{word, byteOf, marked, clearancesAt, seniorsAt, assignedAt, tableOf}
+use Rattle.policy.specs.Tables.{labelCountAt, roleCountAt, userCountAt, cardCountAt, word, byteOf, marked, clearancesAt, seniorsAt, assignedAt, tableOf}
 use Rattle.monitor.specs.Session.{sound, cleared, entitled, fitting}
 
--- how many things the count at `at` tells of: labels at 0, roles at 2, users at 4, cards at 6
+-- how many things the count at `at` tells of
 abbrev pub knownCount : List ℕ → ℕ → ℕ
 knownCount xs at = cond (sound xs) (word xs at) 0
 
 abbrev pub knownLabels : List ℕ → ℕ
-knownLabels xs = knownCount xs 0
+knownLabels xs = knownCount xs labelCountAt
 
 abbrev pub knownRoles : List ℕ → ℕ
-knownRoles xs = knownCount xs 2
+knownRoles xs = knownCount xs roleCountAt
 
 abbrev pub knownUsers : List ℕ → ℕ
-knownUsers xs = knownCount xs 4
+knownUsers xs = knownCount xs userCountAt
 
 abbrev pub knownCards : List ℕ → ℕ
-knownCards xs = knownCount xs 6
+knownCards xs = knownCount xs cardCountAt
 
 -- x is one of them
 abbrev pub known : List ℕ → ℕ → ℕ → Bool
 known xs at x = among (knownCount xs at) x
 
 abbrev pub isLabel : List ℕ → ℕ → Bool
-isLabel xs l = known xs 0 l
+isLabel xs l = known xs labelCountAt l
 
 abbrev pub isRole : List ℕ → ℕ → Bool
-isRole xs r = known xs 2 r
+isRole xs r = known xs roleCountAt r
 
 abbrev pub isUser : List ℕ → ℕ → Bool
-isUser xs u = known xs 4 u
+isUser xs u = known xs userCountAt u
 
 abbrev pub isCard : List ℕ → ℕ → Bool
-isCard xs o = known xs 6 o
+isCard xs o = known xs cardCountAt o
 
 -- the user's clearance, or 0
 unfoldable pub clearanceOf : List ℕ → ℕ → ℕ

@@ -6,21 +6,21 @@ use lib.Dec.{eqb}
 use lib.ListN.{getD}
 use Rattle.roleset.specs.Row.{rowOf, common}
 use Rattle.rolefile.specs.Form.{withinLimits}
-use Rattle.policy.specs.Tables.{word, byteOf, marked, isState, passesIn, clearancesAt, rLevelsAt, wLevelsAt, seniorsAt, assignedAt}
+use Rattle.policy.specs.Tables.{labelCountAt, roleCountAt, userCountAt, cardCountAt, word, byteOf, marked, isState, passesIn, clearancesAt, rLevelsAt, wLevelsAt, seniorsAt, assignedAt}
 
 -- ---- counts
 
 abbrev pub labelsIn : List ℕ → ℕ
-labelsIn xs = word xs 0
+labelsIn xs = word xs labelCountAt
 
 abbrev pub rolesIn : List ℕ → ℕ
-rolesIn xs = word xs 2
+rolesIn xs = word xs roleCountAt
 
 abbrev pub usersIn : List ℕ → ℕ
-usersIn xs = word xs 4
+usersIn xs = word xs userCountAt
 
 abbrev pub cardsIn : List ℕ → ℕ
-cardsIn xs = word xs 6
+cardsIn xs = word xs cardCountAt
 
 -- what 21 tests: 65,536 bytes, and the counts as in 3
 unfoldable pub sound : List ℕ → Bool

@@ -13,7 +13,7 @@ use Rattle.search.proofs.Found.{wider, some-agree, first-none-of, first-lowest-
 use Rattle.order.specs.Closure.{path, OnCircle}
 use Rattle.order.proofs.Closure.{path-iff, circle-misses, circle-agree}
 use Rattle.rolefile.specs.Form.{header}
-use Rattle.rolefile.specs.Said.{labels, roles, cards}
+use Rattle.rolefile.specs.Said.{labels, roles, users, cards}
 use Rattle.rolefile.specs.WellFormed.{GoodCounts, WellFormed}
 use Rattle.rolefile.proofs.Formed.{header-counts}
 use Rattle.policy.specs.Policy.{dominates, may}
@@ -32,6 +32,12 @@ module _ (f : List ℕ) (form : WellFormed f) where
   pub role-few : (r : ℕ) → Among (roles f) r → Among 128 r
   role-few r w = wider (roles f) 128 (counts-known .roles) w
 
+  pub user-few : (u : ℕ) → Among (users f) u → Among 256 u
+  user-few u w = wider (users f) 256 (counts-known .users) w
+
+  pub card-few : (o : ℕ) → Among (cards f) o → Among 512 o
+  card-few o w = wider (cards f) 512 (counts-known .cards) w
+
   module _ (xs : List ℕ) (tables : Describes f xs) where
     pub marked-file : (a b : ℕ) → Among (labels f) a ⊎ Among (labels f) b → marked xs a b ≡ dominates f a b
     marked-file = marked-is f xs counts-known (over-between f (form .good)) (tables .dominating)
@@ -49,8 +55,7 @@ module _ (f : List ℕ) (form : WellFormed f) where
     flowing-file r q v w = rw cards-file (ap (λ (b : Bool). not (eqb r q) && b)
         (some-agree (flowsByCard xs r q) (λ o. may f 2 r o && may f 1 q o) (cards f)
         (λ o i.
-        let few = counts-known .cards in
-        let j : Among 512 o = omega arith in
+        let j = card-few o i in
         rw (tables .permitting .writers o r j v, tables .permitting .readers o q j w))))
 
     -- as a whole state tells it
@@ -64,7 +69,7 @@ module _ (f : List ℕ) (form : WellFormed f) where
       pub circle-file : circleIn xs ≡ flowCircle f
       unfolding flowCircle
       circle-file = rw (a-state xs long, roles-file) (circle-agree (roles f) 128 (flowing xs (cardsUpTo xs)) (flows f) (counts-known .roles)
-          (λ r q v w. let few = counts-known .roles in flowing-file r q (omega arith) w))
+          (λ r q v w. flowing-file r q (role-few r v) w))
 
 -- ---- the circle as a property: "the lowest role on a circle of two or more roles, or 0"
 

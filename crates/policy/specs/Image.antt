@@ -11,14 +11,14 @@ use Rattle.rolefile.specs.declared.Verdict.{Verdict}
 use Rattle.rolefile.specs.Form.{fine, refusal, unless, _then_}
 use Rattle.rolefile.specs.Said.{labels, roles, users, cards, clearance, cardLabel, assigned}
 use Rattle.policy.specs.Policy.{dominates, senior, may, rLevel, wLevel, levelNumber}
-use Rattle.policy.specs.Tables.{clearancesAt, cardLabelsAt, rLevelsAt, wLevelsAt, seniorsAt, assignedAt, readersAt, writersAt, stateSize, word, byteOf, markAt}
+use Rattle.policy.specs.Tables.{labelCountAt, roleCountAt, userCountAt, cardCountAt, clearancesAt, cardLabelsAt, rLevelsAt, wLevelsAt, seniorsAt, assignedAt, readersAt, writersAt, stateSize, word, byteOf, markAt}
 use Rattle.policy.specs.Verdict.{verdict}
 
 pub record Counts (a b c d : ℕ) (ys : List ℕ) : Type 0 where
-  pub labels : word ys 0 ≡ a
-  pub roles : word ys 2 ≡ b
-  pub users : word ys 4 ≡ c
-  pub cards : word ys 6 ≡ d
+  pub labels : word ys labelCountAt ≡ a
+  pub roles : word ys roleCountAt ≡ b
+  pub users : word ys userCountAt ≡ c
+  pub cards : word ys cardCountAt ≡ d
 
 abbrev pub Counted : List ℕ → List ℕ → Type 0
 Counted f = Counts (labels f) (roles f) (users f) (cards f)

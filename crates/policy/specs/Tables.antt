@@ -13,7 +13,19 @@ use Rattle.rolefile.specs.declared.Verdict.{Verdict}
 use Rattle.rolefile.specs.Form.{fine, refusal, unless}
 use Rattle.rolefile.specs.Section.{one, two, three}
 
--- ---- where the tables start
+-- ---- where the counts and the tables start
+
+abbrev pub labelCountAt : ℕ
+labelCountAt = 0
+
+abbrev pub roleCountAt : ℕ
+roleCountAt = 2
+
+abbrev pub userCountAt : ℕ
+userCountAt = 4
+
+abbrev pub cardCountAt : ℕ
+cardCountAt = 6
 
 abbrev pub dominanceAt : ℕ
 dominanceAt = 16
@@ -154,10 +166,10 @@ withoutLoops t r q = related t 0 r q && not (eqb q r)
 
 -- the counts in a state, none above its limit
 abbrev pub rolesUpTo : List ℕ → ℕ
-rolesUpTo xs = min (word xs 2) 128
+rolesUpTo xs = min (word xs roleCountAt) 128
 
 abbrev pub cardsUpTo : List ℕ → ℕ
-cardsUpTo xs = min (word xs 6) 512
+cardsUpTo xs = min (word xs cardCountAt) 512
 
 -- a whole state
 abbrev pub isState : List ℕ → Bool

@@ -12,7 +12,7 @@ use lib.ListN.{length}
 use Rattle.search.proofs.Truth.{and-iff, untrue, same}
 use Rattle.roleset.proofs.Rows.{zero-rows}
 use Rattle.roleset.specs.Row.{member}
-use Rattle.monitor.specs.Review.{knownCount, mayTake}
+use Rattle.monitor.specs.Review.{knownRoles, mayTake}
 use Rattle.monitor.proofs.Filled.{fill-more}
 use Rattle.monitor.proofs.Known.{few-roles, may-role, may-known}
 use Rattle.monitor.proofs.review.roles_at.Statement.{statement}
@@ -34,8 +34,8 @@ module _ (xs : List ℕ) (u l : ℕ) where
       let least = may-role xs u l r (a .1) in
       absurd (omega arith))
 
-  all : (r : ℕ) → (leb r (knownCount xs 2) && mayTake xs u l r) ≡ mayTake xs u l r
-  all r = same _ _ (λ h. and-iff (leb r (knownCount xs 2)) (mayTake xs u l r) .0 h .1) (λ h. and-iff (leb r (knownCount xs 2)) (mayTake xs u l r) .1 (le-leb r (knownCount xs 2) (may-known xs u l r h), h))
+  all : (r : ℕ) → (leb r (knownRoles xs) && mayTake xs u l r) ≡ mayTake xs u l r
+  all r = same _ _ (λ h. and-iff (leb r (knownRoles xs)) (mayTake xs u l r) .0 h .1) (λ h. and-iff (leb r (knownRoles xs)) (mayTake xs u l r) .1 (le-leb r (knownRoles xs) (may-known xs u l r h), h))
 
 loop-holds : tie.Need-loop-holds Inv-loop μ-loop
 loop-holds c =
@@ -58,7 +58,7 @@ returns : tie.Need-returns Inv-loop μ-loop
 returns c =
     let w = c .before .loop in
     let a = c .before .before .before .before .args in
-    let every : w .i ≡ knownCount (now (a .s)) 2 = omega (arith, c .before .before .roles .ensures) in
+    let every : w .i ≡ knownRoles (now (a .s)) = omega (arith, c .before .before .roles .ensures) in
     λ r. rw every at (w .inv .3 r) ∙ all (now (a .s)) (a .user) (a .label) r
 
 pub roles-at-spec : {M : Type 1} → statement M
