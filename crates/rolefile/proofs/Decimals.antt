@@ -4,12 +4,12 @@ use Prim.Native.Nat.{ℕ, zero, suc, _+_, _*_, _-_, _/_, _%_, _^_, _≤_, _<_}
 use mathlib.Core.Path.{_≡_, refl, sym, ap, _∙_}
 use mathlib.Core.Logic.{_↔_}
 use mathlib.Core.List.{List, [], _∷_, _++_, append-assoc, append-nil}
-use mathlib.Core.Bool.{Bool, true, false, _&&_, cond}
+use mathlib.Core.Bool.{true, _&&_}
 use native.Mathlib.Omega.{arith}
 use native.Mathlib.Decide.{decLt}
 use lib.ListN.{length, replicate, length-append, length-replicate, replicate-append-replicate}
 use borrow.Author.Tests.{lt-ltb, le-ltb, eqb-true, ne-eqb}
-use Rattle.search.specs.Search.{among}
+use Rattle.search.specs.Search.{among, Among}
 use Rattle.search.proofs.Truth.{leb-iff, and-iff, and-both, among-iff, either-by}
 use Rattle.rolefile.specs.declared.Field.{Field}
 use Rattle.rolefile.specs.declared.Field.the-variants.{Blank, Number, Bad}
@@ -17,8 +17,26 @@ use Rattle.rolefile.specs.Field.{isBlank, isDigit, column, columns, five
 use Rattle.rolefile.specs.Section.{figure}
 use Rattle.rolefile.specs.Decimal.{lastDigits, digits, padded, blanks}
 
-pub isDigit-iff : (b : ℕ) → (isDigit b ≡ true) ↔ ((48 ≤ b) × (b ≤ 57))
+abbrev pub IsDigit : ℕ → Type 0
+IsDigit b = (48 ≤ b) × (b ≤ 57)
+
+pub isDigit-iff : (b : ℕ) → (isDigit b ≡ true) ↔ IsDigit b
 isDigit-iff b = and-both (leb-iff 48 b) (leb-iff b 57)
+
+-- ---- what one column more reads as
+
+module _ (P : Field → Type 0) (bad : P Bad) where
+  after-blank : (b : ℕ) → (b ≡ 32 → P Blank) → (IsDigit b → P (Number (b - 48))) → P (column Blank b)
+  unfolding column
+  after-blank b blank digit =
+      either-by P (isBlank b) Blank _ (λ p. blank (eqb-true b 32 p)) (λ p.
+      either-by P (isDigit b) (Number (b - 48)) Bad (λ q. digit (isDigit-iff b .0 q)) (λ q. bad))
+
+  after-number : (n b : ℕ) → (IsDigit b → Among 9999 n → P (Number (10 * n + (b - 48)))) → P (column (Number n) b)
+  unfolding column
+  after-number n b digit =
+      either-by P (isDigit b && among 9999 n) (Number (10 * n + (b - 48))) Bad
+      (λ p. let (d, a) = and-iff (isDigit b) (among 9999 n) .0 p in digit (isDigit-iff b .0 d) (among-iff 9999 n .0 a)) (λ p. bad)
 
 -- ---- the digits of n, by those of n / 10
 
@@ -72,34 +90,23 @@ Shows cs Blank = (k : ℕ) × (cs ≡ replicate k 32)
 Shows cs (Number n) = (k : ℕ) × (n < 100000) × (cs ≡ replicate k 32 ++ digits n)
 Shows cs Bad = Unit {0}
 
-shown-first : (b : ℕ) → isDigit b ≡ true → digits (b - 48) ≡ b ∷ []
+shown-first : (b : ℕ) → IsDigit b → digits (b - 48) ≡ b ∷ []
 shown-first b d =
-    let w = isDigit-iff b .0 d in
     let whole : 48 + (b - 48) ≡ b = omega arith in
     single-digit (b - 48) (omega arith) ∙ rw whole
 
-shown-next : (n b : ℕ) → 1 ≤ n → isDigit b ≡ true → digits (10 * n + (b - 48)) ≡ digits n ++ (b ∷ [])
+shown-next : (n b : ℕ) → 1 ≤ n → IsDigit b → digits (10 * n + (b - 48)) ≡ digits n ++ (b ∷ [])
 shown-next n b l d =
-    let w = isDigit-iff b .0 d in
     let front : (10 * n + (b - 48)) / 10 ≡ n = omega arith in
     let last : 48 + (10 * n + (b - 48)) % 10 ≡ b = omega arith in
     more-digits (10 * n + (b - 48)) (omega arith) ∙ rw (front, last)
 
 shows-more : (cs : List ℕ) (f : Field) (b : ℕ) → Shows cs f → Shows (cs ++ (b ∷ [])) (column f b)
 unfolding column
-shows-more cs Blank b (k, e) = go (isBlank b) (isDigit b) refl refl
-  where
-    go : (t d : Bool) → isBlank b ≡ t → isDigit b ≡ d → Shows (cs ++ (b ∷ [])) (cond t Blank (cond d (Number (b - 48)) Bad))
-    go true d p q = (k + 1, rw (e, eqb-true b 32 p) (replicate-append-replicate k 1 32))
-    go false true p q = (k, omega (arith, isDigit-iff b .0 q), rw (e, shown-first b q))
-    go false false p q = tt
+shows-more cs Blank b (k, e) =
+    after-blank (Shows (cs ++ (b ∷ []))) tt b (λ p. (k + 1, rw (e, p) (replicate-append-replicate k 1 32))) (λ d. (k, omega arith, rw (e, shown-first b d)))
 shows-more cs (Number n) b (k, l, e) =
-    either-by (Shows (cs ++ (b ∷ []))) (isDigit b && among 9999 n) (Number (10 * n + (b - 48))) Bad
-    (λ p.
-    let (d, a) = and-iff (isDigit b) (among 9999 n) .0 p in
-    let w = among-iff 9999 n .0 a in
-    (k, omega (arith, isDigit-iff b .0 d), rw (e, shown-next n b (w .0) d, append-assoc)))
-    (λ p. tt)
+    after-number (Shows (cs ++ (b ∷ []))) tt n b (λ d w. (k, omega arith, rw (e, shown-next n b (w .0) d, append-assoc)))
 shows-more cs Bad b s = tt
 
 shows-all : (done cs : List ℕ) (f : Field) → Shows done f → Shows (done ++ cs) (columns f cs)
@@ -203,15 +210,8 @@ Worth Bad v = Unit {0}
 
 worth-more : (f : Field) (v b : ℕ) → Worth f v → Worth (column f b) (10 * v + b % 16)
 unfolding column
-worth-more Blank v b w = go (isBlank b) (isDigit b) refl refl
-  where
-    go : (t d : Bool) → isBlank b ≡ t → isDigit b ≡ d → Worth (cond t Blank (cond d (Number (b - 48)) Bad)) (10 * v + b % 16)
-    go true d p q = omega (arith, eqb-true b 32 p)
-    go false true p q = omega (arith, isDigit-iff b .0 q)
-    go false false p q = tt
-worth-more (Number n) v b w =
-    either-by (λ f. Worth f (10 * v + b % 16)) (isDigit b && among 9999 n) (Number (10 * n + (b - 48))) Bad
-    (λ p. omega (arith, isDigit-iff b .0 (and-iff (isDigit b) (among 9999 n) .0 p .0))) (λ p. tt)
+worth-more Blank v b w = after-blank (λ f. Worth f (10 * v + b % 16)) tt b (λ p. omega arith) (λ d. omega arith)
+worth-more (Number n) v b w = after-number (λ f. Worth f (10 * v + b % 16)) tt n b (λ d a. omega arith)
 worth-more Bad v b w = tt
 
 -- the figures v and then those of the columns bs
