@@ -18,7 +18,7 @@ use Rattle.rolefile.specs.Said.{labels, roles, users, cards, clearance}
 use Rattle.rolefile.specs.WellFormed.{WellFormed}
 use Rattle.policy.specs.Policy.{dominates, may}
 use Rattle.policy.specs.Accepted.{Accepted}
-use Rattle.policy.specs.Image.{Loaded, Allows}
+use Rattle.policy.specs.Image.{Loaded, Allows, Describes}
 use Rattle.policy.proofs.Meaning.{role-few, card-few}
 use Rattle.policy.specs.Tables.{tableOf}
 use Rattle.policy.proofs.Relating.{by-mode}
@@ -36,6 +36,10 @@ use Rattle.monitor.proofs.Demand2.{Runs, runs-next, runs-number, loaded
 
 -- ---- by the file
 
+-- the table of a mode says who may
+pub table-says : (f xs : List ℕ) → Describes f xs → (m : ℕ) → Among 2 m → Allows f m (tableOf m) xs
+table-says f xs tables = by-mode (λ m. Allows f m (tableOf m) xs) (tables .permitting .readers) (tables .permitting .writers)
+
 module _ (f : List ℕ) (form : WellFormed f) (t : Sessions) (xs : List ℕ) (stands : Stands f t xs) where
   number-by : (u l o m : ℕ) → canNumber xs u l o m ≡ canRule f u l o m
   unfolding canNumber canRule
@@ -48,16 +52,12 @@ module _ (f : List ℕ) (form : WellFormed f) (t : Sessions) (xs : List ℕ) (st
       test-same (cleared xs u l) (dominates f (clearance f u) l) 26
       (cleared-file f form t xs stands u l (among-iff (users f) u .0 user) (among-iff (labels f) l .0 label)) (λ dominated. refl)))))
 
-  -- the table of a mode says who may
-  pub table-says : (m : ℕ) → Among 2 m → Allows f m (tableOf m) xs
-  table-says = by-mode (λ m. Allows f m (tableOf m) xs) (stands .tables .permitting .readers) (stands .tables .permitting .writers)
-
   pub could-by : (u l o m : ℕ) → Among (users f) u → Among (cards f) o → Among 2 m → could xs u l o (tableOf m) ≡ couldByFile f u l o m
   unfolding could couldByFile roleCould
   could-by u l o m user card mode =
       rw (stands .tables .counted .roles)
       (some-agree (λ r. entitled xs u r && (fitting xs l r && member xs (rowOf (tableOf m) o) r)) (λ r. entitledByFile f u r && (fittingByFile f l r && may f m r o)) (roles f)
-      (λ r w. rw (entitled-file f form t xs stands u r user w, fitting-file f form t xs stands l r w, table-says m mode o r (card-few f form o card) (role-few f form r w))))
+      (λ r w. rw (entitled-file f form t xs stands u r user w, fitting-file f form t xs stands l r w, table-says f xs (stands .tables) m mode o r (card-few f form o card) (role-few f form r w))))
 
 -- ---- by the session calls
 

@@ -105,7 +105,7 @@ module _ (f : List ℕ) (form : WellFormed f) (t : Sessions) (xs : List ℕ) (st
 
     pub review-gives : giveCard xs m o held ≡ search.some (roles f) (λ r. may f m r o && held r)
     review-gives =
-        gives-by (λ r. may f m r o && held r) (λ r k. rw (table-says f form t xs stands m j o r (card-few f form o i) (role-few f form r k)))
+        gives-by (λ r. may f m r o && held r) (λ r k. rw (table-says f xs (stands .tables) m j o r (card-few f form o i) (role-few f form r k)))
 
   -- ---- what the roles that a user may take at a label give
 
