@@ -1,10 +1,9 @@
 -- A half's bits are its members, so the first half is searched and, where it has none, the second.
-use Prim.Native.Nat.{ℕ, _+_, _-_, _≤_, _<_}
+use Prim.Native.Nat.{ℕ, _+_, _-_, _≤_}
 use mathlib.Core.Path.{_≡_, sym, _∙_}
 use mathlib.Core.List.{List}
 use native.Mathlib.Omega.{arith}
 use lib.Dec.{leb}
-use lib.ListN.{getD}
 use borrow.Author.Needs.{needs}
 use Rattle.search.specs.Search.{first, Among}
 use Rattle.search.proofs.Truth.{among-iff, leb-same}
