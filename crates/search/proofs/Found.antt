@@ -155,6 +155,10 @@ module _ (p : ℕ → Bool) where
   unfolding some
   some-more i = rw add-one
 
+  -- one thing more is looked at in vain
+  pub some-still : (i : ℕ) → some i p ≡ false → p (i + 1) ≡ false → some (i + 1) p ≡ false
+  some-still i e h = some-more i ∙ rw (e, h)
+
   pub every-more : (i : ℕ) → every (i + 1) p ≡ (every i p && p (i + 1))
   unfolding every
   every-more i = rw add-one

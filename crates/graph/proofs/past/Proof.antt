@@ -1,13 +1,13 @@
 -- A search among the first n things.
 use Prim.Native.Nat.{ℕ, _-_, _≤_}
-use mathlib.Core.Path.{_≡_, sym, _∙_}
+use mathlib.Core.Path.{_≡_, sym}
 use mathlib.Core.Bool.{Bool, false, _&&_}
 use mathlib.Core.List.{List}
 use native.Mathlib.Omega.{arith}
 use borrow.Author.Needs.{needs}
 use denote.Ref.{now}
 use Rattle.search.specs.Search.{some}
-use Rattle.search.proofs.Found.{some-found, some-more, some-yet}
+use Rattle.search.proofs.Found.{some-found, some-still, some-yet}
 use Rattle.order.specs.Table.{related}
 use Rattle.graph.specs.Graph.{past}
 use Rattle.graph.proofs.past.Statement.{statement}
@@ -38,8 +38,8 @@ loop-again c =
     let a = turn .before .before .before .args in
     let w = turn .loop in (
       search needs,
-      some-more (through (now (a .t)) (now (a .u)) (a .a) (a .b)) (w .i)
-          ∙ rw (w .inv .1) (rw (c .before .before .relates .ensures, c .before .relates2 .ensures) at (c .if1 .left)),
+      some-still (through (now (a .t)) (now (a .u)) (a .a) (a .b)) (w .i) (w .inv .1)
+          (rw (c .before .before .relates .ensures, c .before .relates2 .ensures) at (c .if1 .left)),
     )
 
 returns-2 : tie.Need-returns-2 Inv-loop μ-loop

@@ -6,7 +6,7 @@ use native.Mathlib.Omega.{arith}
 use borrow.Author.Needs.{needs}
 use denote.Ref.{now}
 use Rattle.search.specs.Search.{some}
-use Rattle.search.proofs.Found.{some-yet, some-found, some-more}
+use Rattle.search.proofs.Found.{some-yet, some-found, some-still}
 use Rattle.monitor.specs.Session.{rolesIn}
 use Rattle.monitor.specs.Rights.{roleCould, could}
 use Rattle.monitor.proofs.rights.could.Statement.{statement}
@@ -33,7 +33,7 @@ loop-again c =
     let w = c .before .before .before .loop in (
       w .inv .0,
       search needs,
-      some-more (roleCould (now (a .s)) (a .user) (a .label) (a .card) (a .at)) (w .i) ∙ rw (w .inv .2) (sym (c .before .role-could .ensures) ∙ c .if1 .left),
+      some-still (roleCould (now (a .s)) (a .user) (a .label) (a .card) (a .at)) (w .i) (w .inv .2) (sym (c .before .role-could .ensures) ∙ c .if1 .left),
     )
 
 returns-2 : tie.Need-returns-2 Inv-loop μ-loop

@@ -1,6 +1,6 @@
 -- A search among the first cards, for two roles that differ.
 use Prim.Native.Nat.{ℕ, _≤_, _-_}
-use mathlib.Core.Path.{_≡_, sym, _∙_}
+use mathlib.Core.Path.{_≡_, sym}
 use mathlib.Core.Bool.{Bool, false, _&&_}
 use mathlib.Core.List.{List}
 use lib.ListN.{length}
@@ -8,7 +8,7 @@ use native.Mathlib.Omega.{arith}
 use borrow.Author.Needs.{needs}
 use denote.Ref.{now}
 use Rattle.search.specs.Search.{some}
-use Rattle.search.proofs.Found.{some-found, some-more, some-yet}
+use Rattle.search.proofs.Found.{some-found, some-still, some-yet}
 use Rattle.policy.specs.Tables.{cardsUpTo, isState, stateSize, flowsByCard, flowing}
 use Rattle.policy.proofs.Flowing.{no-state, a-state, of-state, flow-self, flow-other}
 use Rattle.policy.proofs.flow.flows.Statement.{statement}
@@ -53,7 +53,7 @@ loop-again c =
     let w = turn .loop in (
       w .inv .0,
       search needs,
-      some-more (flowsByCard (now (a .s)) (a .from) (a .to)) (w .o) ∙ rw (w .inv .2) (rw (c .before .flows-by-card .ensures) at (c .if3 .left)),
+      some-still (flowsByCard (now (a .s)) (a .from) (a .to)) (w .o) (w .inv .2) (rw (c .before .flows-by-card .ensures) at (c .if3 .left)),
     )
 
 returns-4 : tie.Need-returns-4 Inv-loop μ-loop

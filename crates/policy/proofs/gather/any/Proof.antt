@@ -1,13 +1,13 @@
 -- A search among the first n things.
 use Prim.Native.Nat.{_≤_, _-_}
-use mathlib.Core.Path.{_≡_, sym, _∙_}
+use mathlib.Core.Path.{_≡_, sym}
 use mathlib.Core.Bool.{false}
 use native.Mathlib.Nat.{add-sub-cancel}
 use native.Mathlib.Omega.{arith}
 use borrow.Author.Needs.{needs}
 use denote.Ref.{now}
 use Rattle.search.specs.Search.{some}
-use Rattle.search.proofs.Found.{some-found, some-more, some-yet}
+use Rattle.search.proofs.Found.{some-found, some-still, some-yet}
 use Rattle.order.specs.Table.{marks}
 use Rattle.policy.proofs.gather.any.Statement.{statement}
 use Rattle.policy.proofs.gather.any.Tie as tie
@@ -28,7 +28,7 @@ loop-again : tie.Need-loop-again Inv-loop μ-loop
 loop-again c =
     let w = c .before .before .before .loop in
     let s = now (c .before .before .before .before .args .s) in
-    (search needs, some-more (marks s) (w .i) ∙ rw (w .inv .1, add-sub-cancel (w .i) 1) (c .if1 .left))
+    (search needs, some-still (marks s) (w .i) (w .inv .1) (rw (add-sub-cancel (w .i) 1) (c .if1 .left)))
 
 returns-2 : tie.Need-returns-2 Inv-loop μ-loop
 returns-2 c =

@@ -6,7 +6,7 @@ use native.Mathlib.Omega.{arith}
 use borrow.Author.Needs.{needs}
 use denote.Ref.{now}
 use Rattle.search.specs.Search.{some}
-use Rattle.search.proofs.Found.{some-yet, some-found, some-more}
+use Rattle.search.proofs.Found.{some-yet, some-found, some-still}
 use Rattle.roleset.specs.Row.{member}
 use Rattle.report.specs.Lists.{sizeOf, listed}
 use Rattle.report.proofs.list.any.Statement.{statement}
@@ -32,7 +32,7 @@ loop-again c =
     let w = c .before .before .before .loop in (
       w .inv .0,
       search needs,
-      some-more (listed (now (a .s)) (a .list) (a .user) (member (a .roles) 0)) (w .i) ∙ rw (w .inv .2) (sym (c .before .stands .ensures) ∙ c .if1 .left),
+      some-still (listed (now (a .s)) (a .list) (a .user) (member (a .roles) 0)) (w .i) (w .inv .2) (sym (c .before .stands .ensures) ∙ c .if1 .left),
     )
 
 returns-2 : tie.Need-returns-2 Inv-loop μ-loop
