@@ -128,6 +128,10 @@ rows-more {at} {i} {s} {t} {xs} {ys} {zs} fits long p q new = record {
   none = λ l. absurd (omega arith);
 }
 
+-- what stands outside a part is kept by a store in it
+pub kept-more : (a b i v : ℕ) (xs ys : List ℕ) → a ≤ i → i < b → Kept a b xs ys → Kept a b xs (set ys i v)
+kept-more a b i v xs ys l m k j o = getD-set-other ys i j v 0 (λ e. omega (arith, o (omega arith))) ∙ k j o
+
 -- one byte is written, in which the bit of one role becomes b
 module _ (xs : List ℕ) (at role byte : ℕ) (b : Bool) (fits : at + 16 ≤ length xs) (w : Among 128 role)
     (new : (j : ℕ) → bit byte j ≡ cond (eqb j (roleBit role)) b (bit (getD xs (at + roleByte role) 0) j)) where
@@ -150,7 +154,7 @@ module _ (xs : List ℕ) (at role byte : ℕ) (b : Bool) (fits : at + 16 ≤ len
       → Placed at s xs (set xs (at + roleByte role) byte)
   one-written e h = record {
     row = λ l r. elim (ℕ-discrete r role) [ yes i ↦ rw i (here ∙ e) | no i ↦ there r i ∙ h r i ];
-    rest = λ i o. getD-set-other xs (at + roleByte role) i byte 0 (λ j. omega (arith, o (omega arith)));
+    rest = kept-more at (at + 16) (at + roleByte role) byte xs xs (omega arith) (omega arith) (λ i o. refl);
     none = λ l. absurd (omega arith);
   }
 
@@ -175,10 +179,6 @@ module _ (xs : List ℕ) (at r : ℕ) (fits : at + 16 ≤ length xs) (w : Among 
 -- without a role that the row does not hold, the set is as it was
 pub none-less : (xs : List ℕ) (at r : ℕ) → member xs at r ≡ false → (q : ℕ) → member xs at q ≡ removed xs at r q
 none-less xs at r h q = elim (ℕ-discrete q r) [ yes e ↦ rw (e, h) | no n ↦ rw (ne-eqb q r n) (sym (and-true _)) ]
-
--- what stands outside a part is kept by a store in it
-pub kept-more : (a b i v : ℕ) (xs ys : List ℕ) → a ≤ i → i < b → Kept a b xs ys → Kept a b xs (set ys i v)
-kept-more a b i v xs ys l m k j o = getD-set-other ys i j v 0 (λ e. omega (arith, o (omega arith))) ∙ k j o
 
 -- the bytes are written one by one: i of them are done, and are now f's
 pub record Written (at i : ℕ) (f : ℕ → ℕ) (xs ys : List ℕ) : Type 0 where

@@ -1,6 +1,6 @@
 -- Two bytes, the lower first.
 use Prim.Native.Nat.{ℕ, _+_, _/_, _%_, _≤_, _<_}
-use mathlib.Core.Path.{_≡_, _∙_}
+use mathlib.Core.Path.{_≡_, refl}
 use mathlib.Core.List.{List}
 use native.Mathlib.Omega.{arith}
 use borrow.Author.Needs.{needs}
@@ -8,6 +8,7 @@ use denote.Ref.{now}
 use lib.ListN.{length, set, length-set}
 use lib.Seq.{getD-set-same, getD-set-other}
 use Rattle.roleset.specs.Row.{Kept}
+use Rattle.roleset.proofs.Rows.{kept-more}
 use Rattle.policy.specs.Tables.{word}
 use Rattle.policy.proofs.build.put_word.Statement.{statement}
 use Rattle.policy.proofs.build.put_word.Tie as tie
@@ -27,9 +28,9 @@ module _ (xs : List ℕ) (at n : ℕ) (fits : at + 2 ≤ length xs) (small : n <
 
   keeps : Kept at (at + 2) xs ys
   unfolding ys
-  keeps i out =
-      getD-set-other (set xs at (n % 256)) (at + 1) i (n / 256 % 256) 0 (λ e. let far = out (omega arith) in omega arith)
-      ∙ getD-set-other xs at i (n % 256) 0 (λ e. let far = out (omega arith) in omega arith)
+  keeps =
+      kept-more at (at + 2) (at + 1) (n / 256 % 256) xs (set xs at (n % 256)) (omega arith) (omega arith)
+      (kept-more at (at + 2) at (n % 256) xs xs (omega arith) (omega arith) (λ i o. refl))
 
 returns : tie.Need-returns
 unfolding ys
