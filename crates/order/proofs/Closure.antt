@@ -3,15 +3,15 @@
 use Prim.Native.Nat.{ℕ, zero, suc, _+_, _≤_, _<_}
 use mathlib.Core.Path.{_≡_, refl, sym, ap, _∙_}
 use mathlib.Core.Logic.{_↔_, Iff·rfl, _⊎_, inl, inr, ⊎-elim}
-use mathlib.Core.Bool.{Bool, true, false, _||_, and-comm}
+use mathlib.Core.Bool.{true, false, _||_, and-comm}
 use native.Mathlib.Omega.{arith}
 use native.Mathlib.Numerals.{add-one}
 use Rattle.search.specs.Search.{Among}
 use Rattle.search.proofs.Truth.{eqb-iff, and-iff, or-both, untrue, both, false-iff}
-use Rattle.search.proofs.Found.{last-or, among-next, first-none, first-agree}
+use Rattle.search.proofs.Found.{None, last-or, among-next, first-none, first-agree}
 use Rattle.order.specs.Table.{Rows}
 use Rattle.order.specs.Bound.{converse}
-use Rattle.order.specs.Closure.{Relation, via, path, closure, loop, circle, Reach, here, step, HasPath, OnCircle, PartialOrder, Irreflexive, round}
+use Rattle.order.specs.Closure.{Relation, via, path, closure, toItself, loop, circle, Reach, here, step, HasPath, OnCircle, PartialOrder, Irreflexive, round}
 
 -- a path past one thing more: one that was there, or two that meet in it
 pub ways : (e : Relation) (k a b : ℕ)
@@ -102,12 +102,9 @@ module _ (e : Relation) where
 
     -- a partial order is a closure without a circle
     pub circle-none : (circle n e ≡ 0) ↔ (PartialOrder n (closure n e) × Irreflexive n e)
-    circle-none = (λ q. to (first-none around n .0 q), λ (o, i). first-none around n .1 (of o i))
+    circle-none = (λ q. to (first-none (toItself (path n e)) n .0 q), λ (o, i). first-none (toItself (path n e)) n .1 (of o i))
       where
-        around : ℕ → Bool
-        around a = path n e a a
-
-        to : ((a : ℕ) → Among n a → around a ≡ false) → PartialOrder n (closure n e) × Irreflexive n e
+        to : None (toItself (path n e)) n → PartialOrder n (closure n e) × Irreflexive n e
         to none = (
           record {
             reflexive = closure-reflexive;
@@ -120,9 +117,9 @@ module _ (e : Relation) where
           λ a w. untrue (e a a) (λ p. both (single n a a p) (none a w)),
         )
 
-        of : PartialOrder n (closure n e) → Irreflexive n e → (a : ℕ) → Among n a → around a ≡ false
+        of : PartialOrder n (closure n e) → Irreflexive n e → None (toItself (path n e)) n
         of o i a w =
-            untrue (around a) (λ p.
+            untrue (path n e a a) (λ p.
             let (b, v, s, r) = path-iff a a w .0 p in
             let q : a ≡ b = o .antisymmetric a b w v (closure-step a b v s) (closure-iff b a w .1 r) in
             both (rw (← q) at s) (i a w))
@@ -134,6 +131,9 @@ via-converse e zero a b = refl
 via-converse e (suc k) a b =
     rw (via-converse e k a b, via-converse e k a (suc k), via-converse e k (suc k) b)
     (ap (λ t. via e k b a || t) (and-comm (via e k (suc k) a) (via e k b (suc k))))
+
+pub circle-converse : (e : Relation) (n : ℕ) → circle n (converse e) ≡ circle n e
+circle-converse e n = first-agree (toItself (path n (converse e))) (toItself (path n e)) n (λ a w. via-converse e n a a)
 
 -- f and g say the same of the things 1 to n over the things 1 to m
 abbrev pub Agree : ℕ → ℕ → Relation → Relation → Type 0
@@ -148,11 +148,11 @@ module _ (n m : ℕ) (d e : Relation) (l : n ≤ m) (h : Agree n m d e) where
       rw (i a b v w, i a (suc k) v (omega arith), i (suc k) b (omega arith) w)
 
   pub circle-agree : circle n d ≡ circle n e
-  circle-agree = first-agree (λ a. path n d a a) (λ a. path n e a a) n (λ a w. via-agree n (omega arith) a a w (omega arith))
+  circle-agree = first-agree (toItself (path n d)) (toItself (path n e)) n (λ a w. via-agree n (omega arith) a a w (omega arith))
 
 -- the lowest thing on a circle, by a table g of the paths
 pub loop-circle : (e : Relation) {size n : ℕ} {f g : Relation} → n ≤ size → Rows size n (path n e) f g → loop n g ≡ circle n e
-loop-circle e {n = n} {g = g} l rows = first-agree (λ a. g a a) (λ a. path n e a a) n (λ a w. rows .done a a w (omega arith))
+loop-circle e {n = n} {g = g} l rows = first-agree (toItself g) (toItself (path n e)) n (λ a w. rows .done a a w (omega arith))
 
 -- ---- a table that is closed round by round, row by row
 

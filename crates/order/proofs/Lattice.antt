@@ -7,7 +7,7 @@ use mathlib.Core.Bool.{Bool, true, false}
 use native.Mathlib.Omega.{arith}
 use Rattle.search.specs.Search.{Among}
 use Rattle.search.proofs.Truth.{both}
-use Rattle.search.proofs.Found.{among-more, not-last}
+use Rattle.search.proofs.Found.{None, among-more, not-last}
 use Rattle.order.specs.Closure.{Relation, PartialOrder}
 use Rattle.order.specs.Bound.{upper, converse, Upper, Lower, IsLub, IsGlb, AllJoined}
 use Rattle.order.proofs.Bound.{pair-iff, upper-iff}
@@ -21,7 +21,7 @@ module _ (n : ℕ) (ge : Relation) (o : PartialOrder n ge) (joins : AllJoined n 
       least : (d : ℕ) → Among n d → Upper k ge s d → ge d c ≡ true
 
     abbrev SoFar : ℕ → Type 0
-    SoFar k = ((x : ℕ) → Among k x → s x ≡ false) ⊎ ((c : ℕ) × LubTo k c)
+    SoFar k = None s k ⊎ ((c : ℕ) × LubTo k c)
 
     -- one thing more: it is not in s, it is the first of s, or it is joined with the bound of those before
     further : (k : ℕ) → k < n → (t : Bool) → s (suc k) ≡ t → SoFar k → SoFar (suc k)

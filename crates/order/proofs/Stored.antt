@@ -41,7 +41,7 @@ mark-more s i h a l = elim (ℕ-discrete a (i + 1)) [
 
 -- a row stored in a table
 pub set-row : (h : Relation) (t : List (List Bool)) (i : ℕ) (row : List Bool) → i < length t
-    → ((b : ℕ) → Among 32 b → marks row b ≡ h (i + 1) b) → RowSet 32 (i + 1) h (mark t) (mark (set t i row))
+    → Upto 32 (h (i + 1)) row → RowSet 32 (i + 1) h (mark t) (mark (set t i row))
 set-row h t i row l all = record {
   own = λ b w. rw (stored-own [] t i row l) (all b w);
   others = λ a b v ne w. rw (stored-other [] t i row a (v .0) ne);

@@ -32,9 +32,12 @@ path n e = via e n
 abbrev pub closure : ℕ → Relation → Relation
 closure n e = reflexive (path n e)
 
+abbrev pub toItself : Relation → ℕ → Bool
+toItself e a = e a a
+
 -- the lowest thing that e relates to itself, or 0
 abbrev pub loop : ℕ → Relation → ℕ
-loop n e = first n (λ a. e a a)
+loop n e = first n (toItself e)
 
 -- a circle (document 01's word for a cycle): a path of one step or more from a thing to itself, so a pair a a is one
 abbrev pub circle : ℕ → Relation → ℕ

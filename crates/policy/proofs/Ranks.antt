@@ -8,12 +8,11 @@ use lib.Dec.{leb}
 use lib.ListN.{length}
 use borrow.Author.Tests.{ne-eqb, le-leb}
 use Rattle.search.proofs.Truth.{eqb-swap}
-use Rattle.search.proofs.Found.{first-agree}
 use Rattle.roleset.specs.Row.{Kept}
 use Rattle.order.specs.Bound.{converse}
 use Rattle.order.specs.Closure.{path, loop, circle, reflexive}
 use Rattle.order.specs.Table.{related, Rows, Tabled}
-use Rattle.order.proofs.Closure.{Agree, via-converse}
+use Rattle.order.proofs.Closure.{Agree, via-converse, circle-converse, loop-circle}
 use Rattle.rolefile.specs.declared.Line.{Line}
 use Rattle.rolefile.specs.declared.Verdict.{Verdict}
 use Rattle.rolefile.specs.Line.{fields}
@@ -83,8 +82,7 @@ module _ (f : List ℕ) (q : Parts) (h : Line) (ready : Ready f q h) (xs ys zs p
     lowest =
         lowest
         ∙ rw (le-leb (2064 + 2048) (length zs) (omega arith), head-roles f q h ready)
-        (first-agree (λ a. related zs seniorsAt a a) (λ a. path (roles f) (above f) a a) (roles f)
-        (λ a w. paths .done a a w (omega (arith, few)) ∙ via-converse (above f) (roles f) a a));
+        (loop-circle (converse (above f)) few paths ∙ circle-converse (above f) (roles f));
     rest = λ i out. by-roles .rest i (λ l. omega (arith, few, out l)) ∙ filled .rest i out;
   }
 

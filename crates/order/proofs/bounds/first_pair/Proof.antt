@@ -5,10 +5,10 @@ use mathlib.Core.Bool.{Bool}
 use mathlib.Core.List.{List}
 use native.Mathlib.Omega.{arith}
 use borrow.Author.Needs.{needs}
-use Rattle.search.specs.Search.{Among}
 use Rattle.search.proofs.Found.{first-yet}
 use Rattle.order.specs.Bound.{converse, FirstWithoutBound}
 use Rattle.order.specs.Table.{mark}
+use Rattle.order.proofs.Closure.{Agree}
 use Rattle.order.proofs.Bound.{NoneWithout, none-without-more, without-found, none-without, first-without-agree}
 use Rattle.order.proofs.bounds.first_pair.Statement.{statement}
 use Rattle.order.proofs.bounds.first_pair.Tie as tie
@@ -21,7 +21,7 @@ abbrev μ-loop : tie.MeasureT-loop
 
 -- what is found in the order turned twice is so in the order
 settled : (m n a b : ℕ) (t up : List (List Bool)) → m ≡ min n 32
-    → ((a b : ℕ) → Among 32 a → Among 32 b → mark up a b ≡ converse (mark t) a b)
+    → Agree 32 32 (mark up) (converse (mark t))
     → FirstWithoutBound m (converse (mark up)) a b → FirstWithoutBound (min n 32) (mark t) a b
 settled m n a b t up e same h =
     rw (← e) (first-without-agree m (converse (mark up)) (mark t) (λ x y v w. same y x (omega arith) (omega arith)) a b h)

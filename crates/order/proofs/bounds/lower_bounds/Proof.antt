@@ -8,10 +8,11 @@ use native.Mathlib.Nat.{add-sub-cancel}
 use native.Mathlib.Omega.{arith}
 use borrow.Author.Needs.{needs}
 use denote.Ref.{now}
-use Rattle.search.specs.Search.{every, implies, Among}
+use Rattle.search.specs.Search.{every, implies}
 use Rattle.search.proofs.Found.{every-yet, every-more}
 use Rattle.order.specs.Bound.{upper}
 use Rattle.order.specs.Table.{marks, mark}
+use Rattle.order.proofs.Stored.{Upto}
 use Rattle.order.proofs.bounds.lower_bounds.Statement.{statement}
 use Rattle.order.proofs.bounds.lower_bounds.Tie as tie
 
@@ -25,7 +26,7 @@ one-more t s x i one now e =
     rw (e, every-more (under t s x) i, add-sub-cancel i 1) (and-assoc one (every i (under t s x)) (implies (getD s i false) (marks (getD t i []) x)))
 
 abbrev Inv-loop : tie.InvT-loop
-Inv-loop t n all s m r₀ i₀ r i = (m ≤ 32) × (i ≤ m) × ((c : ℕ) → Among 32 c → marks r c ≡ (marks all c && every i (under t s c)))
+Inv-loop t n all s m r₀ i₀ r i = (m ≤ 32) × (i ≤ m) × Upto 32 (λ c. marks all c && every i (under t s c)) r
 
 abbrev μ-loop : tie.MeasureT-loop
 μ-loop t n all s m r₀ i₀ r i = m - i

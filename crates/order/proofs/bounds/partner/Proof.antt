@@ -10,11 +10,12 @@ use borrow.Author.Tests.{eq-eqb, ne-eqb, lt-ltb, le-ltb}
 use denote.Ref.{now}
 use lib.Dec.{leb, eqb}
 use lib.ListN.{getD}
-use Rattle.search.specs.Search.{first, Among}
+use Rattle.search.specs.Search.{first}
 use Rattle.search.proofs.Found.{first-none, first-found, first-more}
 use Rattle.order.specs.Bound.{converse, withoutBound, partnerWithoutBound, lub, least, pair, upper}
 use Rattle.order.specs.Table.{mark, marks}
 use Rattle.order.proofs.Bound.{least-cut, upper-pair}
+use Rattle.order.proofs.Stored.{Upto}
 use Rattle.order.proofs.bounds.partner.Statement.{statement}
 use Rattle.order.proofs.bounds.partner.Tie as tie
 
@@ -28,7 +29,7 @@ module _ (up : List (List Bool)) (m i : ℕ) where
   none-before = first-none lone (i + 1) .1 (λ b w. rw (le-ltb (i + 1) b (w .1)))
 
   -- what the test of a turn tells, with the bounds of thing i + 1
-  tells : (s : List Bool) (j : ℕ) → m ≤ 32 → i < j → j < m → ((a : ℕ) → Among 32 a → marks s a ≡ (leb a m && marks (getD up i []) a))
+  tells : (s : List Bool) (j : ℕ) → m ≤ 32 → i < j → j < m → Upto 32 (λ a. leb a m && marks (getD up i []) a) s
       → eqb (least 32 (converse (mark up)) (λ a. marks s a && mark up (j + 1) a)) 0 ≡ lone (j + 1)
   unfolding withoutBound lub
   tells s j l v w h =

@@ -1,8 +1,6 @@
 -- A search among the first n roles.
-use Prim.Native.Nat.{ℕ, _+_, _≤_, _-_, min}
+use Prim.Native.Nat.{_+_, _≤_, _-_, min}
 use mathlib.Core.Path.{_≡_, sym, _∙_}
-use mathlib.Core.Bool.{Bool}
-use mathlib.Core.List.{List}
 use native.Mathlib.Omega.{arith}
 use borrow.Author.Needs.{needs}
 use borrow.Author.Tests.{le-leb, leb-true}
@@ -10,7 +8,7 @@ use denote.Ref.{now}
 use lib.ListN.{length}
 use Rattle.search.proofs.Truth.{passed, failed, answered}
 use Rattle.search.proofs.Found.{first-yet, first-found, first-more}
-use Rattle.order.specs.Closure.{loop}
+use Rattle.order.specs.Closure.{toItself, loop}
 use Rattle.order.specs.Table.{related}
 use Rattle.order.proofs.Placing.{row-tested}
 use Rattle.order.proofs.rows.lowest_loop.Statement.{statement}
@@ -22,17 +20,13 @@ Inv-loop s at n m i₀ i = (m ≤ 128) × (i ≤ m) × (at + 2048 ≤ length s) 
 abbrev μ-loop : tie.MeasureT-loop
 μ-loop s at n m i₀ i = m - i
 
--- role a is related to itself
-abbrev self : List ℕ → ℕ → ℕ → Bool
-self xs at a = related xs at a a
-
 returns-2 : tie.Need-returns-2 Inv-loop μ-loop
 returns-2 c =
     let turn = c .before .before .before in
     let a = turn .before .before .before .before .before .args in
     let w = turn .loop in
     answered (le-leb _ _ (w .inv .2))
-    (first-found (self (now (a .s)) (a .at)) (min (a .n) 128) (w .i) (search needs) (w .inv .3) (sym (row-tested (now (a .s)) (a .at) (w .i) (w .i + 1) _ (search needs) (c .before .has .ensures)) ∙ c .if2 .taken))
+    (first-found (toItself (related (now (a .s)) (a .at))) (min (a .n) 128) (w .i) (search needs) (w .inv .3) (sym (row-tested (now (a .s)) (a .at) (w .i) (w .i + 1) _ (search needs) (c .before .has .ensures)) ∙ c .if2 .taken))
 
 loop-again : tie.Need-loop-again Inv-loop μ-loop
 loop-again c =
@@ -42,7 +36,7 @@ loop-again c =
       search needs,
       search needs,
       search needs,
-      first-more (self (now (a .s)) (a .at)) (w .i) (w .inv .3) (sym (row-tested (now (a .s)) (a .at) (w .i) (w .i + 1) _ (search needs) (c .before .has .ensures)) ∙ c .if2 .left),
+      first-more (toItself (related (now (a .s)) (a .at))) (w .i) (w .inv .3) (sym (row-tested (now (a .s)) (a .at) (w .i) (w .i + 1) _ (search needs) (c .before .has .ensures)) ∙ c .if2 .left),
     )
 
 returns-3 : tie.Need-returns-3 Inv-loop μ-loop
