@@ -16,7 +16,7 @@ use Rattle.roleset.specs.Row.{whole, member, removed, united, memberAfter, next
 use Rattle.roleset.proofs.Rows.{whole-true}
 use Rattle.order.specs.Closure.{Relation, path, loop, circle}
 use Rattle.order.specs.Table.{related, Tabled}
-use Rattle.order.proofs.Closure.{circle-agree, loop-circle}
+use Rattle.order.proofs.Closure.{Agree, circle-agree, loop-circle}
 use Rattle.order.proofs.Placing.{placing-more, placing-pass, placing-left}
 use Rattle.policy.specs.Tables.{readersAt, writersAt, stateSize, isState, flowsByCard, flowing, pastCard, withoutLoops}
 
@@ -125,16 +125,16 @@ pub loop-removed : (t u : List ℕ) (i q : ℕ) → 2048 ≤ length t → length
 loop-removed t u i q long same l w done = rw (row-left (withoutLoops t) t u i long same l done q w)
 
 -- a table that says which role may write one of the first m cards that which role may read
-module _ (xs t : List ℕ) (m : ℕ) (said : (r q : ℕ) → Among 128 r → Among 128 q → related t 0 r q ≡ some m (flowsByCard xs r q)) where
+module _ (xs t : List ℕ) (m : ℕ) (said : Agree 128 128 (related t 0) (λ r q. some m (flowsByCard xs r q))) where
   -- has the flow among the first m cards, once no role is related to itself
-  pub without-loops-flows : (r q : ℕ) → Among 128 r → Among 128 q → withoutLoops t r q ≡ flowing xs m r q
+  pub without-loops-flows : Agree 128 128 (withoutLoops t) (flowing xs m)
   without-loops-flows r q v w = elim (ℕ-discrete r q) [
     | yes e ↦ rw (eq-eqb q r (sym e)) (and-false (related t 0 r q) ∙ sym (flow-self xs m r q e))
     | no e ↦ rw (ne-eqb q r (λ i. e (sym i))) (and-true (related t 0 r q) ∙ said r q v w ∙ sym (flow-other xs m r q e))
   ]
 
 -- the circles of flow by a table that has it, as the lowest on one is answered for n roles
-pub flow-circles : (xs t v : List ℕ) (m n r : ℕ) → ((r q : ℕ) → Among 128 r → Among 128 q → related t 0 r q ≡ flowing xs m r q)
+pub flow-circles : (xs t v : List ℕ) (m n r : ℕ) → Agree 128 128 (related t 0) (flowing xs m)
     → 2048 ≤ length t → length v ≡ length t → n ≤ 128 → Tabled 0 n (path n (related t 0)) t v
     → r ≡ cond (leb (0 + 2048) (length v)) (loop n (related v 0)) 0 → r ≡ circle n (flowing xs m)
 flow-circles xs t v m n r has long kept l closed e =

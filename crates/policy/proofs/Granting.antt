@@ -12,11 +12,11 @@ use lib.ListN.{getD}
 use borrow.Author.Tests.{eqb-true, eq-eqb, le-leb}
 use Rattle.search.specs.Search.{Among, among, some}
 use Rattle.search.proofs.Truth.{among-iff, untrue, same}
-use Rattle.search.proofs.Found.{some-both, some-none, some-agree}
+use Rattle.search.proofs.Found.{some-both, some-none, some-agree, None}
 use Rattle.roleset.specs.Row.{member, rowOf, Kept}
 use Rattle.order.specs.Closure.{Relation}
 use Rattle.order.specs.Bound.{converse}
-use Rattle.order.specs.Table.{mark}
+use Rattle.order.specs.Table.{mark, related}
 use Rattle.order.proofs.Closure.{Agree}
 use Rattle.rolefile.specs.declared.Line.{Line}
 use Rattle.rolefile.specs.Line.{P}
@@ -27,7 +27,7 @@ use Rattle.rolefile.specs.WellFormed.{GoodCounts, GoodLines}
 use Rattle.rolefile.proofs.Sections.{Section, says-three}
 use Rattle.policy.specs.declared.build.Parts.{Parts}
 use Rattle.policy.specs.Policy.{dominates, senior, may, mayAt, level, rLevel, wLevel, levelNumber}
-use Rattle.policy.specs.Tables.{rLevelsAt, wLevelsAt, seniorsAt, readersAt, writersAt, byteOf, markAt}
+use Rattle.policy.specs.Tables.{rLevelsAt, wLevelsAt, seniorsAt, readersAt, writersAt, byteOf, markAt, Put}
 use Rattle.policy.specs.Tables.{lineGrants, grantedByLines, brings, gathered, Bytes, GrantedRows}
 use Rattle.policy.specs.Image.{Labelled, Seniors, Permitting, Allows}
 use Rattle.policy.specs.Stages.{Ready, Zeros, Closed, Granting}
@@ -102,7 +102,7 @@ may-at-is f xs few labelled d at allows l r w =
 
 -- a number past the roles is no role's, and so may do nothing
 module _ (f : List ℕ) (between : Between (roles f) (above f)) (r : ℕ) (past : roles f < r) where
-  no-junior : (q : ℕ) → Among (roles f) q → senior f r q ≡ false
+  no-junior : None (senior f r) (roles f)
   unfolding senior
   no-junior q w =
       untrue (senior f r q) (λ e. ⊎-elim (λ i. omega arith) (λ v. omega arith) (closure-between (roles f) (above f) between r q e))
@@ -121,7 +121,7 @@ module _ (f : List ℕ) (between : Between (roles f) (above f)) (r : ℕ) (past 
 -- a table of levels: the roles' are stored, and the others stay 0
 module _ (f : List ℕ) (counts : GoodCounts (header f)) (between : Between (roles f) (above f)) (d at : ℕ) (ge le : Relation) (g xs ys : List ℕ) where
   levels-are : Agree (labels f) (labels f) ge le
-      → ((l r : ℕ) → Among 32 l → Among 128 r → member g (rowOf 0 l) r ≡ mayAt f d r l)
+      → Agree 32 128 (related g 0) (λ l r. mayAt f d r l)
       → Bytes at (roles f) (λ r. levelNumber (level (labels f) ge (λ l. member g (rowOf 0 l) r))) xs ys
       → Zeros at (at + 128) xs
       → (r : ℕ) → Among 128 r → byteOf ys at r ≡ levelNumber (level (labels f) le (mayAt f d r))
@@ -139,13 +139,12 @@ module _ (f : List ℕ) (counts : GoodCounts (header f)) (between : Between (rol
 
 module _ (f : List ℕ) (q : Parts) (h : Line) (t up : List (List Bool)) (x₀ x₁ x₂ x₃ x₄ reading writing : List ℕ) (ready : Ready f q h)
     (labelled : Labelled f x₀) (seniors : Seniors f x₀) (closed : Closed f t) (no-level : Zeros 1808 2064 x₀) (no-role : Zeros 12304 28688 x₀)
-    (table : (a b : ℕ) → Among 32 a → Among 32 b → getD x₁ (markAt a b) 0 ≡ cond (mark t a b) 1 0)
-    (kept : Kept 16 1040 x₀ x₁)
+    (put : Put 32 t x₀ x₁)
     (grants : GrantedRows (grantedByLines x₁ (part f (q .p .start)) (q .p .count)) x₁ x₂)
     (turns : Agree 32 32 (mark up) (converse (mark t)))
-    (reads : (l r : ℕ) → Among 32 l → Among 128 r → member reading (rowOf 0 l) r ≡ gathered x₂ readersAt (h .d) l r)
+    (reads : Agree 32 128 (related reading 0) (gathered x₂ readersAt (h .d)))
     (read-levels : Bytes rLevelsAt (h .b) (λ r. levelNumber (level (h .a) (converse (mark up)) (λ l. member reading (rowOf 0 l) r))) x₂ x₃)
-    (writes : (l r : ℕ) → Among 32 l → Among 128 r → member writing (rowOf 0 l) r ≡ gathered x₃ writersAt (h .d) l r)
+    (writes : Agree 32 128 (related writing 0) (gathered x₃ writersAt (h .d)))
     (write-levels : Bytes wLevelsAt (h .b) (λ r. levelNumber (level (h .a) (converse (mark t)) (λ l. member writing (rowOf 0 l) r))) x₃ x₄) where
   good : GoodLines f
   good = good-of f (ready .lines)
@@ -157,6 +156,9 @@ module _ (f : List ℕ) (q : Parts) (h : Line) (t up : List (List Bool)) (x₀ x
   between = above-between f good
 
   -- what each store leaves alone
+  kept : Kept 16 1040 x₀ x₁
+  kept = put .rest
+
   kept₃ : Kept 1808 1936 x₂ x₃
   kept₃ i out = rw (ready .head) at read-levels .rest i (λ m. omega (arith, counts .roles, out m))
 
@@ -213,7 +215,7 @@ module _ (f : List ℕ) (q : Parts) (h : Line) (t up : List (List Bool)) (x₀ x
   granting = record {
     dominating = λ a b v w.
         kept-since₁ (markAt a b) (λ m. omega arith) (λ m. omega arith)
-        ∙ table a b v w
+        ∙ put .rows a b v w
         ∙ ap (λ m. cond m 1 0) (closed a b v w);
     permitting = permitting-stays f x₃ x₄ (λ i l m. kept₄ i (λ n. omega arith)) permitting₃;
     levelled = record { reads = λ r w. kept₄ (rLevelsAt + (r - 1)) (λ m. omega arith) ∙ read₃ r w; writes = written₄ };

@@ -22,7 +22,7 @@ use Rattle.rolefile.proofs.Sections.{Section, count-about, label-section}
 use Rattle.rolefile.specs.WellFormed.{GoodLines}
 use Rattle.rolefile.proofs.Verdicts.{refuses}
 use Rattle.policy.specs.declared.build.Parts.{Parts}
-use Rattle.policy.specs.Tables.{clearancesAt, cardLabelsAt, byteOf, Bytes, noted, notes, unlabelledByte}
+use Rattle.policy.specs.Tables.{clearancesAt, cardLabelsAt, byteOf, Bytes, noted, notes, unlabelledByte, unlabelledIn}
 use Rattle.policy.specs.Stages.{Laid, Zeros, Noting}
 use Rattle.policy.proofs.Readying.{good-of, counts-of, u-lines, o-lines, one-within, two-within, limits-u, limits-o}
 
@@ -73,7 +73,7 @@ module _ (p : List ℕ) (x : ℕ) where
 
 -- the bytes tell the lowest of n things without just one label; where there is none, each byte is the file's label, or 0 past those n
 pub record Table (f : List ℕ) (k n at size : ℕ) (ys : List ℕ) : Type 0 where
-  pub lowest : first n (λ x. unlabelledByte (byteOf ys at x)) ≡ unlabelled f k n
+  pub lowest : first n (unlabelledIn ys at) ≡ unlabelled f k n
   pub all : unlabelled f k n ≡ 0 → (x : ℕ) → Among size x → byteOf ys at x ≡ labelBy f k x
 
 module _ (f : List ℕ) (good : GoodLines f) {k j m : ℕ} (s : Section f k j m) (after : H < k)
@@ -98,7 +98,7 @@ module _ (f : List ℕ) (good : GoodLines f) {k j m : ℕ} (s : Section f k j m)
   unfolding unlabelled
   noted-table at size ys l bytes = record {
     lowest =
-        first-agree (λ x. unlabelledByte (byteOf ys at x)) (λ x. not (eqb (lineCount x) 1)) n
+        first-agree (unlabelledIn ys at) (λ x. not (eqb (lineCount x) 1)) n
         (λ x w. let (e, g) = section-byte x in rw (bytes x (omega arith), e) (unlabelled-byte (lineCount x) (labelBy f k x) g));
     all = λ z x w. bytes x w ∙ section-byte x .0 ∙ rw (le-leb (lineCount x) 1 (few z x w));
   }
@@ -140,7 +140,7 @@ tables-of f q e laid xs ys zs clear u o =
     }
 
 -- what the searches find, and what is answered
-module _ {f xs ys : List ℕ} (t : Tables f xs ys) {u : ℕ} (lowest : u ≡ first (users f) (λ x. unlabelledByte (byteOf ys clearancesAt x))) where
+module _ {f xs ys : List ℕ} (t : Tables f xs ys) {u : ℕ} (lowest : u ≡ first (users f) (unlabelledIn ys clearancesAt)) where
   user-is : u ≡ unlabelled f U (users f)
   user-is = lowest ∙ t .user .lowest
 
@@ -152,7 +152,7 @@ module _ {f xs ys : List ℕ} (t : Tables f xs ys) {u : ℕ} (lowest : u ≡ fir
     rest = t .rest;
   }
 
-  module _ (no-user : u ≡ 0) {o : ℕ} (lowest-card : o ≡ first (cards f) (λ x. unlabelledByte (byteOf ys cardLabelsAt x))) where
+  module _ (no-user : u ≡ 0) {o : ℕ} (lowest-card : o ≡ first (cards f) (unlabelledIn ys cardLabelsAt)) where
     card-is : o ≡ unlabelled f O (cards f)
     card-is = lowest-card ∙ t .card .lowest
 

@@ -12,10 +12,10 @@ use lib.Seq.{getD-set-same, getD-set-other}
 use borrow.Author.Tests.{eq-eqb, ne-eqb}
 use Rattle.search.specs.Search.{Among}
 use Rattle.search.proofs.Found.{among-next}
-use Rattle.roleset.specs.Row.{Kept}
 use Rattle.order.specs.Table.{marks, mark}
+use Rattle.order.proofs.Stored.{Upto}
 use Rattle.rolefile.specs.Section.{one, two}
-use Rattle.policy.specs.Tables.{dominanceAt, markAt, Bytes, Marking, WithPair}
+use Rattle.policy.specs.Tables.{dominanceAt, markAt, Bytes, Marking, WithPair, Put}
 use Rattle.policy.proofs.Relating.{pairs-more, pairs-none}
 
 -- a pair whose first is no label makes no mark
@@ -25,7 +25,7 @@ pair-none a b t h x y w v =
 
 -- row a with a mark at b is stored
 pub pair-one : (a b : ℕ) (t : List (List Bool)) (row : List Bool) → Among 32 a → length t ≡ 32
-    → ((y : ℕ) → Among 32 y → marks row y ≡ (eqb b y || mark t a y)) → WithPair a b t (set t (a - 1) row)
+    → Upto 32 (λ y. eqb b y || mark t a y) row → WithPair a b t (set t (a - 1) row)
 pair-one a b t row w l all x y u v = elim (ℕ-discrete x a) [
   | yes q ↦ rw (q, eq-eqb a a refl, getD-set-same t (a - 1) row [] (omega arith)) (all y v ∙ or-comm (eqb b y) (mark t a y))
   | no q ↦
@@ -40,11 +40,6 @@ marks-none p a b w v =
 pub marks-more : (p : List ℕ) (i : ℕ) (t r : List (List Bool)) → Marking p i t → WithPair (one p (i + 1)) (two p (i + 1)) t r
     → Marking p (i + 1) r
 marks-more p i t r m n a b w v = n a b w v ∙ rw (m a b w v) (pairs-more p i _ _ a b refl refl)
-
--- i rows of the table t stand where dominance does
-pub record Put (i : ℕ) (t : List (List Bool)) (xs ys : List ℕ) : Type 0 where
-  pub rows : (a b : ℕ) → Among i a → Among 32 b → getD ys (markAt a b) 0 ≡ cond (mark t a b) 1 0
-  pub rest : Kept dominanceAt (dominanceAt + 32 * i) xs ys
 
 module _ (t : List (List Bool)) (xs : List ℕ) where
   pub put-none : Put 0 t xs xs

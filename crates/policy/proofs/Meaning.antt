@@ -11,7 +11,7 @@ use borrow.Author.Tests.{eq-eqb}
 use Rattle.search.specs.Search.{Among}
 use Rattle.search.proofs.Found.{wider, some-agree, first-none-of, first-lowest-of}
 use Rattle.order.specs.Closure.{path, OnCircle}
-use Rattle.order.proofs.Closure.{path-iff, circle-misses, circle-agree}
+use Rattle.order.proofs.Closure.{Agree, path-iff, circle-misses, circle-agree}
 use Rattle.rolefile.specs.Form.{header}
 use Rattle.rolefile.specs.Said.{labels, roles, users, cards}
 use Rattle.rolefile.specs.WellFormed.{GoodCounts, WellFormed}
@@ -50,7 +50,7 @@ module _ (f : List ℕ) (form : WellFormed f) where
     cards-file : cardsUpTo xs ≡ cards f
     cards-file = let c = counts-known in let e = tables .counted .cards in omega (arith, c .cards)
 
-    flowing-file : (r q : ℕ) → Among 128 r → Among 128 q → flowing xs (cardsUpTo xs) r q ≡ flows f r q
+    flowing-file : Agree 128 128 (flowing xs (cardsUpTo xs)) (flows f)
     unfolding flowing flows
     flowing-file r q v w = rw cards-file (ap (λ (b : Bool). not (eqb r q) && b)
         (some-agree (flowsByCard xs r q) (λ o. may f 2 r o && may f 1 q o) (cards f)

@@ -10,12 +10,14 @@ use lib.Dec.{eqb}
 use lib.ListN.{length}
 use borrow.Author.Tests.{eq-eqb, ne-eqb, eqb-true}
 use Rattle.search.specs.Search.{among, Among}
-use Rattle.search.proofs.Truth.{and-iff, and-when, among-iff, false-iff, same}
+use Rattle.search.proofs.Truth.{and-iff, and-when, among-iff, false-iff, same, eqb-swap}
 use Rattle.search.proofs.Found.{some-more, some-yet}
 use Rattle.roleset.specs.Row.{member, rowOf, added, joined, Kept, Placed}
 use Rattle.roleset.proofs.Rows.{row-kept, other-kept, whole-true, zero-row}
 use Rattle.order.specs.Closure.{Relation}
 use Rattle.rolefile.specs.Section.{one, two, three}
+use Rattle.order.proofs.Closure.{Agree}
+use Rattle.order.specs.Table.{related}
 use Rattle.policy.specs.Tables.{seniorsAt, readersAt, tableOf, pairs, lineGrants, grantedByLines, Related, GrantedRows, Unites}
 use Rattle.policy.specs.Stages.{Zeros}
 
@@ -36,7 +38,7 @@ module _ (at size x : ℕ) {s : ℕ → Bool} {xs ys : List ℕ} (p : Placed (ro
 
 -- nothing is said, the same is said by another name, and more is said
 module _ (at size : ℕ) (said : Relation) (xs : List ℕ) where
-  unites-none : ((x r : ℕ) → Among size x → Among 128 r → said x r ≡ false) → Unites at size said xs xs
+  unites-none : Agree size 128 said (λ x r. false) → Unites at size said xs xs
   unites-none h x r v w = rw (h x r v w) (sym (or-false (member xs (rowOf at x) r)))
 
   unites-as : (told : Relation) (ys : List ℕ) → ((x r : ℕ) → said x r ≡ told x r) → Unites at size said xs ys → Unites at size told xs ys
@@ -47,11 +49,11 @@ module _ (at size : ℕ) (said : Relation) (xs : List ℕ) where
 
   -- in a table of zeros, just what is said
   pub unites-zeros : (ys : List ℕ) → Unites at size said xs ys → Zeros at (at + 16 * size) xs
-      → (x r : ℕ) → Among size x → Among 128 r → member ys (rowOf at x) r ≡ said x r
+      → Agree size 128 (related ys at) said
   unites-zeros ys t zeros x r v w =
       t x r v w ∙ rw (zero-row xs (rowOf at x) (λ k l. zeros (rowOf at x + k) (omega arith) (omega arith)) r)
 
-pub related-none : (at size : ℕ) (said : Relation) (xs : List ℕ) → ((x r : ℕ) → Among size x → Among 128 r → said x r ≡ false) → Related at size said xs xs
+pub related-none : (at size : ℕ) (said : Relation) (xs : List ℕ) → Agree size 128 said (λ x r. false) → Related at size said xs xs
 related-none at size said xs h = record { rows = unites-none at size said xs h; rest = λ i out. refl }
 
 pub related-as : {at size : ℕ} {said told : Relation} {xs ys : List ℕ} → ((x r : ℕ) → said x r ≡ told x r) → Related at size said xs ys → Related at size told xs ys
@@ -74,11 +76,10 @@ related-one at size x role xs ys fits v p = record {
   where
     its : (r : ℕ) → Among 128 r → (among 128 role && eqb r role) ≡ eqb role r
     its r u =
-        same (among 128 role && eqb r role) (eqb role r)
-        (λ h. eq-eqb role r (sym (eqb-true r role (and-iff (among 128 role) (eqb r role) .0 h .1))))
-        (λ h.
-        let e : role ≡ r = eqb-true role r h in
-        and-iff (among 128 role) (eqb r role) .1 (among-iff 128 role .1 (rw e u), eq-eqb r role (sym e)))
+        rw (eqb-swap r role)
+        (same (among 128 role && eqb role r) (eqb role r)
+        (λ h. and-iff (among 128 role) (eqb role r) .0 h .1)
+        (λ h. and-iff (among 128 role) (eqb role r) .1 (among-iff 128 role .1 (rw (eqb-true role r h) u), h)))
 
 -- one line more of those that say pairs
 pub pairs-more : (p : List ℕ) (i a b x y : ℕ) → a ≡ one p (i + 1) → b ≡ two p (i + 1) → (pairs p i x y || (eqb a x && eqb b y)) ≡ pairs p (i + 1) x y

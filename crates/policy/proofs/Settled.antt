@@ -1,15 +1,17 @@
 -- A load's outcome is one state: every byte below 65,536 is of a count, of a table or unused, and `Image` says each of these. Assumes nothing.
 use Prim.Native.Nat.{ℕ, _+_, _-_, _*_, _/_, _%_, _≤_, _<_}
 use mathlib.Core.Path.{_≡_, sym, ap, _∙_}
-use mathlib.Core.Bool.{Bool}
 use mathlib.Core.List.{List}
 use native.Mathlib.Omega.{arith}
 use native.Mathlib.Decide.{decLt, ℕ-discrete}
 use lib.ListN.{getD}
 use lib.Seq.{ext-getD}
 use Rattle.search.specs.Search.{Among}
-use Rattle.roleset.specs.Row.{AllBytes, member, rowOf}
+use Rattle.roleset.specs.Row.{AllBytes, rowOf}
 use Rattle.roleset.proofs.Rows.{same-row}
+use Rattle.order.specs.Closure.{Relation}
+use Rattle.order.specs.Table.{related}
+use Rattle.order.proofs.Closure.{Agree}
 use Rattle.rolefile.specs.declared.Verdict.{Verdict}
 use Rattle.policy.specs.Tables.{dominanceAt, clearancesAt, cardLabelsAt, rLevelsAt, wLevelsAt, seniorsAt, assignedAt, readersAt, writersAt, markAt}
 use Rattle.policy.specs.Tables.{stateSize, word, byteOf}
@@ -48,8 +50,7 @@ module _ (ys zs : List ℕ) (ys-bytes : AllBytes ys) (zs-bytes : AllBytes zs) wh
         moved i (at + (x - 1)) (omega arith) (p x w ∙ sym (q x w));
   }
 
-  rows-settled : (at size : ℕ) (s : ℕ → ℕ → Bool) → ((x r : ℕ) → Among size x → Among 128 r → member ys (rowOf at x) r ≡ s x r)
-      → ((x r : ℕ) → Among size x → Among 128 r → member zs (rowOf at x) r ≡ s x r) → Settled at (at + 16 * size)
+  rows-settled : (at size : ℕ) (s : Relation) → Agree size 128 (related ys at) s → Agree size 128 (related zs at) s → Settled at (at + 16 * size)
   rows-settled at size s p q = record {
     byte = λ i l m.
         let x = (i - at) / 16 + 1 in

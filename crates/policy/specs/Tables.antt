@@ -103,6 +103,9 @@ afterNote xs at x label y = cond (eqb x y) (noted (byteOf xs at y) label) (byteO
 abbrev pub unlabelledByte : ℕ → Bool
 unlabelledByte v = eqb v 0 || eqb v 255
 
+abbrev pub unlabelledIn : List ℕ → ℕ → ℕ → Bool
+unlabelledIn xs at x = unlabelledByte (byteOf xs at x)
+
 -- a line with these three numbers is of mode d for card o, and the seniors of its role, itself included, hold r
 abbrev pub lineGrants : List ℕ → ℕ → ℕ → ℕ → ℕ → ℕ → ℕ → Bool
 lineGrants xs role card mode d o r = eqb card o && (eqb mode d && (among 128 role && member xs (rowOf seniorsAt role) r))
@@ -146,6 +149,11 @@ Marking p m t = (a b : ℕ) → Among 32 a → Among 32 b → mark t a b ≡ pai
 -- u is t with a mark for a over b
 abbrev pub WithPair : ℕ → ℕ → List (List Bool) → List (List Bool) → Type 0
 WithPair a b t u = (x y : ℕ) → Among 32 x → Among 32 y → mark u x y ≡ (mark t x y || (eqb a x && eqb b y))
+
+-- i rows of the table t stand where dominance does, a byte for each mark
+pub record Put (i : ℕ) (t : List (List Bool)) (xs ys : List ℕ) : Type 0 where
+  pub rows : (a b : ℕ) → Among i a → Among 32 b → getD ys (markAt a b) 0 ≡ cond (mark t a b) 1 0
+  pub rest : Kept dominanceAt (dominanceAt + 32 * i) xs ys
 
 -- ---- role flow by the rows of the first n cards
 

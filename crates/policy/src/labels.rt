@@ -5,7 +5,7 @@ ghost use Prim.Native.Nat.{_+_, _≤_};
 ghost use lib.ListN.{length};
 ghost use Rattle.search.specs.Search.{first};
 ghost use Rattle.rolefile.specs.Line.{lines};
-ghost use Rattle.policy.specs.Tables.{byteOf, Bytes, noted, afterNote, notes, unlabelledByte};
+ghost use Rattle.policy.specs.Tables.{byteOf, Bytes, noted, afterNote, notes, unlabelledIn};
 
 // The byte for a label where `old` was there before: 255 where it is the second.
 fn noted(old: u8, label: usize) -> u8
@@ -46,7 +46,7 @@ pub fn note_lines(s: &mut [u8], at: usize, size: usize, p: &[u8], m: usize)
 // The lowest of n things with no label or several, or 0.
 pub fn lowest_unlabelled(s: &[u8], at: usize, n: usize) -> usize
     requires { ⌜ at + n ≤ length (now s) ⌝ }
-    ensures { λ r. ⌜ r ≡ first n (λ x. unlabelledByte (byteOf (now (s .entry)) at x)) ⌝ }
+    ensures { λ r. ⌜ r ≡ first n (unlabelledIn (now (s .entry)) at) ⌝ }
 {
     let mut i = 0;
     while i < n {

@@ -2,13 +2,11 @@
 use rolefile::read;
 ghost use mathlib.Core.Path.{_≡_};
 ghost use mathlib.Core.Bool.{cond};
-ghost use Prim.Native.Nat.{ℕ, _+_, _≤_};
-ghost use lib.ListN.{length, getD};
-ghost use Rattle.search.specs.Search.{Among};
-ghost use Rattle.roleset.specs.Row.{Kept};
-ghost use Rattle.order.specs.Table.{marks, mark};
+ghost use Prim.Native.Nat.{_+_, _≤_};
+ghost use lib.ListN.{length};
+ghost use Rattle.order.specs.Table.{marks};
 ghost use Rattle.rolefile.specs.Line.{lines};
-ghost use Rattle.policy.specs.Tables.{markAt, Bytes, Marking, WithPair};
+ghost use Rattle.policy.specs.Tables.{Bytes, Marking, WithPair, Put};
 
 // Marks a over b in the table, if both are labels.
 fn add_pair(t: &mut [[bool; 32]; 32], a: usize, b: usize)
@@ -61,7 +59,7 @@ fn put_row(s: &mut [u8], at: usize, row: [bool; 32])
 // Puts the table where dominance stands.
 pub fn put_table(s: &mut [u8], t: [[bool; 32]; 32])
     requires { ⌜ 1040 ≤ length (now s) ⌝ }
-    ensures { λ _. ⌜ (((a b : ℕ) → Among 32 a → Among 32 b → getD (now (s .exit)) (markAt a b) 0 ≡ cond (mark t a b) 1 0) × Kept 16 1040 (now (s .entry)) (now (s .exit))) ⌝ }
+    ensures { λ _. ⌜ Put 32 t (now (s .entry)) (now (s .exit)) ⌝ }
 {
     let mut i = 0;
     while i < 32 {

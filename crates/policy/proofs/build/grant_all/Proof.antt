@@ -75,7 +75,7 @@ returns c =
     granting (now (a .f)) (a .q) (a .h) (a .t5) (turns .converse .result) (now (a .s)) (table .put-table .last .0) (grants .grant-lines .last .0)
     (read-levels .put-levels .last .0) (write-levels .put-levels2 .last .0) (reads .gather .result) (writes .gather2 .result)
     ready labelled seniors closed no-level no-role
-    (table .put-table .ensures .0) (table .put-table .ensures .1)
+    (table .put-table .ensures)
     (rw (part .part .ensures) at (grants .grant-lines .ensures))
     (turns .converse .ensures)
     (reads .gather .ensures)

@@ -5,17 +5,18 @@ use native.Mathlib.Omega.{arith}
 use borrow.Author.Needs.{needs}
 use denote.Ref.{now}
 use lib.ListN.{length, length-replicate}
-use Rattle.search.specs.Search.{some, Among}
+use Rattle.search.specs.Search.{some}
 use Rattle.search.proofs.Found.{some-more, some-yet}
 use Rattle.roleset.proofs.Rows.{zero-rows}
 use Rattle.order.specs.Table.{related}
+use Rattle.order.proofs.Closure.{Agree}
 use Rattle.policy.specs.Tables.{flowsByCard}
 use Rattle.policy.proofs.flow.flow_table.Statement.{statement}
 use Rattle.policy.proofs.flow.flow_table.Tie as tie
 
 abbrev Inv-loop : tie.InvT-loop
 Inv-loop s n t₀ o₀ t o =
-    (o ≤ n) × (length t ≡ 2048) × ((r q : ℕ) → Among 128 r → Among 128 q → related t 0 r q ≡ some o (flowsByCard s r q))
+    (o ≤ n) × (length t ≡ 2048) × Agree 128 128 (related t 0) (λ r q. some o (flowsByCard s r q))
 
 abbrev μ-loop : tie.MeasureT-loop
 μ-loop s n t₀ o₀ t o = n - o

@@ -1,18 +1,19 @@
 -- Each card adds its own.
-use Prim.Native.Nat.{ℕ, _≤_, _-_}
+use Prim.Native.Nat.{_≤_, _-_}
 use mathlib.Core.Path.{_≡_, sym, _∙_}
 use native.Mathlib.Omega.{arith}
 use borrow.Author.Needs.{needs}
-use Rattle.search.specs.Search.{Among}
 use Rattle.roleset.proofs.Rows.{zero-rows}
-use Rattle.roleset.specs.Row.{member, rowOf}
+use Rattle.roleset.specs.Row.{rowOf}
+use Rattle.order.proofs.Closure.{Agree}
+use Rattle.order.specs.Table.{related}
 use Rattle.policy.specs.Tables.{gathered}
 use Rattle.policy.proofs.Gathering.{gathered-more, gathered-yet}
 use Rattle.policy.proofs.gather.gather.Statement.{statement}
 use Rattle.policy.proofs.gather.gather.Tie as tie
 
 abbrev Inv-loop : tie.InvT-loop
-Inv-loop s at n g₀ o₀ g o = (o ≤ n) × ((l r : ℕ) → Among 32 l → Among 128 r → member g (rowOf 0 l) r ≡ gathered s at o l r)
+Inv-loop s at n g₀ o₀ g o = (o ≤ n) × Agree 32 128 (related g 0) (gathered s at o)
 
 abbrev μ-loop : tie.MeasureT-loop
 μ-loop s at n g₀ o₀ g o = n - o

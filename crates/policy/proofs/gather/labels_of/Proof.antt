@@ -1,13 +1,13 @@
 -- Each turn stores one mark more.
 use Prim.Native.Nat.{_*_, _≤_, _-_}
-use mathlib.Core.Path.{_≡_, _∙_}
+use mathlib.Core.Path.{_≡_}
 use native.Mathlib.Omega.{arith}
-use native.Mathlib.Nat.{add-sub-cancel, zero-add}
+use native.Mathlib.Nat.{zero-add}
 use borrow.Author.Needs.{needs}
 use denote.Ref.{now}
 use lib.ListN.{length}
 use Rattle.roleset.specs.Row.{member, rowOf}
-use Rattle.roleset.proofs.Rows.{whole-true}
+use Rattle.order.proofs.Placing.{row-tested}
 use Rattle.order.proofs.Stored.{Upto, upto-more}
 use Rattle.policy.proofs.gather.labels_of.Statement.{statement}
 use Rattle.policy.proofs.gather.labels_of.Tie as tie
@@ -25,7 +25,7 @@ loop-again c =
       search needs,
       search needs,
       upto-more _ (w .r) (w .i) _ (search needs) (w .inv .2)
-          (c .has .ensures ∙ rw (whole-true g (16 * w .i) (search needs), add-sub-cancel (w .i) 1, zero-add (16 * w .i))),
+          (row-tested g 0 (w .i) _ _ (search needs) (rw (zero-add (16 * w .i)) (c .has .ensures))),
     )
 
 pub labels-of-spec : {M : Type 1} → statement M

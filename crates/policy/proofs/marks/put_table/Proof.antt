@@ -4,7 +4,8 @@ use mathlib.Core.Path.{_≡_}
 use native.Mathlib.Omega.{arith}
 use borrow.Author.Needs.{needs}
 use lib.ListN.{length}
-use Rattle.policy.proofs.Marked.{Put, put-none, put-more}
+use Rattle.policy.specs.Tables.{Put}
+use Rattle.policy.proofs.Marked.{put-none, put-more}
 use Rattle.policy.proofs.marks.put_table.Statement.{statement}
 use Rattle.policy.proofs.marks.put_table.Tie as tie
 
@@ -23,8 +24,7 @@ returns : tie.Need-returns Inv-loop μ-loop
 returns c =
     let w = c .before .loop in
     let q : w .i ≡ 32 = omega arith in
-    let p = rw q at (w .inv .2) in
-    (p .rows, p .rest)
+    rw q at (w .inv .2)
 
 pub put-table-spec : {M : Type 1} → statement M
 put-table-spec =
