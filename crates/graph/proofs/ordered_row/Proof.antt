@@ -24,7 +24,7 @@ abbrev μ-loop : tie.MeasureT-loop
 loop-holds : tie.Need-loop-holds Inv-loop μ-loop
 loop-holds c =
     let a = c .before .args in
-    (search needs, search needs, λ b v. zero-rows 16 0 b (omega arith) ∙ fill-none (ordered (now (a .s)) (a .order) (a .a)) b (v .0))
+    (search needs, search needs, λ b v. zero-rows 16 0 b (omega arith) ∙ fill-none (ordered (now (a .s)) (a .order) (a .a)) b (λ h. v .0))
 
 loop-again : tie.Need-loop-again Inv-loop μ-loop
 loop-again c =

@@ -1,19 +1,19 @@
 -- Each turn tests one role more.
 use Prim.Native.Nat.{ℕ, _-_, _≤_}
-use mathlib.Core.Path.{_≡_, sym, _∙_}
+use mathlib.Core.Path.{_≡_, _∙_}
 use mathlib.Core.List.{List}
-use mathlib.Core.Bool.{false, _&&_}
+use mathlib.Core.Bool.{_&&_}
 use native.Mathlib.Omega.{arith}
 use borrow.Author.Needs.{needs}
-use borrow.Author.Tests.{leb-true, le-leb}
+use borrow.Author.Tests.{le-leb}
 use denote.Ref.{now}
 use lib.Dec.{leb}
 use lib.ListN.{length}
-use Rattle.search.proofs.Truth.{and-iff, untrue, same}
+use Rattle.search.proofs.Truth.{and-iff, same}
 use Rattle.roleset.proofs.Rows.{zero-rows}
 use Rattle.roleset.specs.Row.{member}
 use Rattle.monitor.specs.Review.{knownRoles, mayTake}
-use Rattle.monitor.proofs.Filled.{fill-more}
+use Rattle.monitor.proofs.Filled.{fill-none, fill-more}
 use Rattle.monitor.proofs.Known.{few-roles, may-role, may-known}
 use Rattle.monitor.proofs.review.roles_at.Statement.{statement}
 use Rattle.monitor.proofs.review.roles_at.Tie as tie
@@ -27,20 +27,13 @@ abbrev μ-loop : tie.MeasureT-loop
 
 -- ---- the roles up to i that may be taken
 module _ (xs : List ℕ) (u l : ℕ) where
-  unheld : (r : ℕ) → (leb r 0 && mayTake xs u l r) ≡ false
-  unheld r = untrue (leb r 0 && mayTake xs u l r) (λ h.
-      let a = and-iff (leb r 0) (mayTake xs u l r) .0 h in
-      let at-most = leb-true r 0 (a .0) in
-      let least = may-role xs u l r (a .1) in
-      absurd (omega arith))
-
   all : (r : ℕ) → (leb r (knownRoles xs) && mayTake xs u l r) ≡ mayTake xs u l r
   all r = same _ _ (λ h. and-iff (leb r (knownRoles xs)) (mayTake xs u l r) .0 h .1) (λ h. and-iff (leb r (knownRoles xs)) (mayTake xs u l r) .1 (le-leb r (knownRoles xs) (may-known xs u l r h), h))
 
 loop-holds : tie.Need-loop-holds Inv-loop μ-loop
 loop-holds c =
     let a = c .before .before .args in
-    (omega (arith, few-roles (now (a .s)), c .roles .ensures), search needs, search needs, λ r. zero-rows 16 0 r (omega arith) ∙ sym (unheld (now (a .s)) (a .user) (a .label) r))
+    (omega (arith, few-roles (now (a .s)), c .roles .ensures), search needs, search needs, λ r. zero-rows 16 0 r (omega arith) ∙ fill-none (mayTake (now (a .s)) (a .user) (a .label)) r (λ h. may-role (now (a .s)) (a .user) (a .label) r h .0))
 
 loop-again : tie.Need-loop-again Inv-loop μ-loop
 loop-again c =
