@@ -20,7 +20,7 @@ use Rattle.monitor.proofs.Frames.{written-out}
 use Rattle.monitor.proofs.Wrote.{inside}
 use Rattle.monitor.proofs.Orderly.{part-done}
 use Rattle.monitor.proofs.Demand2.{Runs, runs-next, runs-number, loaded-runs}
-use Rattle.isolation.specs.TwoRuns.{answer, Open, noneOpen, track, under, shared, sharedCalls, Shown, shown, SameCards, Alike, SameFor, Isolated}
+use Rattle.isolation.specs.TwoRuns.{answer, Open, noneOpen, track, under, shared, sharedCalls, Shown, shown, SameCards, Alike, Claim, Isolated}
 use Rattle.isolation.proofs.Tracking.{Fits, none-fits, placeOf, next-other, fits-track}
 use Rattle.isolation.proofs.Low.{SameSessions, same-number, next-same, cards-after, bytes-same, read-under, write-over}
 
@@ -144,12 +144,9 @@ module _ (f : List ℕ) (accepted : Accepted f) (L : ℕ) (label : Among (labels
 
   -- ---- a run, and the run of its shared calls
 
-  abbrev Like : Open → Memory → Memory → List Call → List Call → Type 0
-  Like t m₁ m₂ cs ds = SameFor f L (shown f L t m₁ cs) (shown f L t m₂ ds) (run m₁ cs) (run m₂ ds)
-
   turn : (b : Bool) (t : Open) (s₁ s₂ : Sessions) (m₁ m₂ : Memory) (c : Call) (cs : List Call) → shared f L t c ≡ b → Pair t s₁ s₂ m₁ m₂
-      → ((u : Open) (r₁ r₂ : Sessions) (n₁ n₂ : Memory) → Pair u r₁ r₂ n₁ n₂ → Like u n₁ n₂ cs (sharedCalls f L u cs))
-      → Like t m₁ m₂ (c ∷ cs) (sharedCalls f L t (c ∷ cs))
+      → ((u : Open) (r₁ r₂ : Sessions) (n₁ n₂ : Memory) → Pair u r₁ r₂ n₁ n₂ → Claim f L u n₁ n₂ cs (sharedCalls f L u cs))
+      → Claim f L t m₁ m₂ (c ∷ cs) (sharedCalls f L t (c ∷ cs))
   unfolding shown sharedCalls run
   turn true t s₁ s₂ m₁ m₂ c cs h pair rest =
       let next-pair = shared-pair t s₁ s₂ m₁ m₂ pair c h in
@@ -159,7 +156,7 @@ module _ (f : List ℕ) (accepted : Accepted f) (L : ℕ) (label : Among (labels
       let (same, high) = other-call t c h in
       rw (h, same) (rest t (next f s₁ c) s₂ (after m₁ c) m₂ (other-pair t s₁ s₂ m₁ m₂ pair c h))
 
-  like-shared : (cs : List Call) (t : Open) (s₁ s₂ : Sessions) (m₁ m₂ : Memory) → Pair t s₁ s₂ m₁ m₂ → Like t m₁ m₂ cs (sharedCalls f L t cs)
+  like-shared : (cs : List Call) (t : Open) (s₁ s₂ : Sessions) (m₁ m₂ : Memory) → Pair t s₁ s₂ m₁ m₂ → Claim f L t m₁ m₂ cs (sharedCalls f L t cs)
   unfolding shown sharedCalls run
   like-shared [] t s₁ s₂ m₁ m₂ pair = record { answers = tt; cards = pair .cards }
   like-shared (c ∷ cs) t s₁ s₂ m₁ m₂ pair = turn (shared f L t c) t s₁ s₂ m₁ m₂ c cs refl pair (like-shared cs)

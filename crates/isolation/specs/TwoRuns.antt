@@ -11,7 +11,7 @@ use Rattle.rolefile.specs.Said.{labels, users, cards, clearance, cardLabel}
 use Rattle.policy.specs.Policy.{dominates}
 use Rattle.policy.specs.Accepted.{Accepted}
 use Rattle.policy.specs.Image.{Loaded}
-use Rattle.monitor.specs.Places.{Places, isFree, put}
+use Rattle.monitor.specs.Places.{Places, nowhere, isFree, put}
 use Rattle.monitor.specs.Runs.{Call, opens, closes, takes, drops, reads, writes, Memory, number, part, after, run}
 
 -- "A read stands for both its calls, on the same state and store, and answers with its number and the bytes of its part"; the other calls answer with their number
@@ -29,7 +29,7 @@ abbrev pub Open : Type 0
 Open = Places ℕ
 
 abbrev pub noneOpen : Open
-noneOpen p = none
+noneOpen = nowhere
 
 -- "an opening that the rules grant (place 1 to 64 and not open, user and label in range, clearance dominating the label)"
 unfoldable pub grants : List ℕ → Open → ℕ → ℕ → ℕ → Bool
@@ -107,9 +107,9 @@ pub record Start (f : List ℕ) : Type 0 where
 
 -- ---- the claim, "about two whole lists of calls": each shared call gets the same number and bytes, and the cards under L are the same after each shared call and at the end
 
--- of two memories and the calls on them
-abbrev pub Claim : List ℕ → ℕ → Memory → Memory → List Call → List Call → Type 0
-Claim f L m₁ m₂ cs₁ cs₂ = SameFor f L (shown f L noneOpen m₁ cs₁) (shown f L noneOpen m₂ cs₂) (run m₁ cs₁) (run m₂ cs₂)
+-- of two memories and the calls on them, where the places of t are open
+abbrev pub Claim : List ℕ → ℕ → Open → Memory → Memory → List Call → List Call → Type 0
+Claim f L t m₁ m₂ cs₁ cs₂ = SameFor f L (shown f L t m₁ cs₁) (shown f L t m₂ cs₂) (run m₁ cs₁) (run m₂ cs₂)
 
 -- what is claimed of the label, the memories and the calls holds of every two runs of the file that fall under demand 3; each may start from a load of its own
 abbrev pub OfTwoRuns : (f : List ℕ) → (ℕ → Memory → Memory → List Call → List Call → Type 0) → Type 0
@@ -120,4 +120,4 @@ OfTwoRuns f Claimed =
     → Claimed L (record { state = a .state; store = s₁ }) (record { state = b .state; store = s₂ }) cs₁ cs₂
 
 abbrev pub Isolated : List ℕ → Type 0
-Isolated f = OfTwoRuns f (Claim f)
+Isolated f = OfTwoRuns f (λ L. Claim f L noneOpen)
