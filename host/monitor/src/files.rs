@@ -1,6 +1,5 @@
 //! Random files, each loaded by the library and judged by the second checker.
 
-use crate::generate::random_bytes;
 use crate::lent::Lent;
 use crate::library::{self, Verdict};
 use crate::model::STATE_BYTES;
@@ -37,7 +36,7 @@ pub fn compare(seed: u64, index: u64, sample: &Sample, tally: &mut Tally) -> Res
 
 /// Loads the file and compares the verdict, then what the state says of it.
 fn load(file: &[u8], outcome: &Outcome, random: &mut Random) -> Result<(), String> {
-    let before = random_bytes(random, STATE_BYTES);
+    let before = random.bytes(STATE_BYTES);
     let mut state = Lent::new(&before, random);
     let mut lent = Lent::new(file, random);
     let short = random.below(STATE_BYTES);

@@ -87,16 +87,6 @@ fn index(random: &mut Random, count: usize) -> usize {
     }
 }
 
-/// Bytes of this length.
-pub fn random_bytes(random: &mut Random, length: usize) -> Vec<u8> {
-    let mut bytes = Vec::with_capacity(length + 8);
-    while bytes.len() < length {
-        bytes.extend(random.next().to_le_bytes());
-    }
-    bytes.truncate(length);
-    bytes
-}
-
 /// Offset and length within a card.
 pub fn good_span(random: &mut Random) -> (u64, u64) {
     let offset = random.between(0, CARD_BYTES);
@@ -153,7 +143,7 @@ pub fn writing(random: &mut Random, place: u64, card: u64, (offset, length): (u6
         place,
         card,
         offset,
-        bytes: random_bytes(random, length as usize),
+        bytes: random.bytes(length as usize),
     }
 }
 

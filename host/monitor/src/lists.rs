@@ -1,7 +1,7 @@
 //! Random lists of calls, each call made on the model and on the library.
 
 use crate::call::{Answer, Call, Kind};
-use crate::generate::{accepted_file, random_bytes, reading, Caller, Lending, LentState};
+use crate::generate::{accepted_file, reading, Caller, Lending, LentState};
 use crate::lent::Lent;
 use crate::library;
 use crate::model::{Model, CARD_BYTES, PLACES, STATE_BYTES};
@@ -162,7 +162,7 @@ impl List {
         trace(&String::from_utf8_lossy(&file));
         let mut model = Model::default();
         let surplus = random.pick(&[0, 0, 0, 1, 7, 64, 1_000, STATE_BYTES]);
-        let mut state = Lent::new(&random_bytes(random, STATE_BYTES + surplus), random);
+        let mut state = Lent::new(&random.bytes(STATE_BYTES + surplus), random);
         let load = Call::Load { file };
         let expected = load.on_model(&mut model, STATE_BYTES, &mut []);
         let answer = load.on_library(state.bytes_mut(), &mut [], random)?;
@@ -175,7 +175,7 @@ impl List {
             None => return Err("the generator's file was refused".to_string()),
         };
         let surplus = random.pick(&[0, 0, 1, 63, 64, 300]);
-        let cards = random_bytes(random, CARD_BYTES * counts.cards + surplus);
+        let cards = random.bytes(CARD_BYTES * counts.cards + surplus);
         let store = Lent::new(&cards, random);
         Ok(List {
             model,
@@ -243,7 +243,7 @@ impl List {
         let cards = self.model.policy().map_or(0, |policy| policy.counts.cards);
         let short = (CARD_BYTES * cards).saturating_sub(self.cards.len());
         if short > 0 {
-            self.cards.extend(random_bytes(random, short));
+            self.cards.extend(random.bytes(short));
             self.store = Lent::new(&self.cards, random);
         }
     }

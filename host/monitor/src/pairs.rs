@@ -12,7 +12,7 @@ pub mod tally;
 pub mod tracker;
 
 use crate::call::Call;
-use crate::generate::{random_bytes, some_places};
+use crate::generate::some_places;
 use crate::model::{Policy, CARD_BYTES};
 use caller::Caller;
 use second_checker::check::RoleFile;
@@ -183,11 +183,11 @@ fn store_length(random: &mut Random, whole: usize) -> usize {
 
 /// Stores of one length that agree on these bytes; most differ elsewhere.
 fn two_stores(random: &mut Random, length: usize, under: &[Range<usize>]) -> [Vec<u8>; 2] {
-    let first = random_bytes(random, length);
+    let first = random.bytes(length);
     if random.percent(10) {
         return [first.clone(), first];
     }
-    let mut second = random_bytes(random, length);
+    let mut second = random.bytes(length);
     for range in under {
         second[range.clone()].copy_from_slice(&first[range.clone()]);
     }

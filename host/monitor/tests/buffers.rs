@@ -1,7 +1,7 @@
 //! Short, empty and long buffers, and NULL with length 0.
 
 use monitor_tests::call::{Answer, Call, Kind};
-use monitor_tests::generate::{accepted_file, any_call, random_bytes, Caller, LentState};
+use monitor_tests::generate::{accepted_file, any_call, Caller, LentState};
 use monitor_tests::lent::Lent;
 use monitor_tests::library::{self, c, Figure, Verdict};
 use monitor_tests::loaded::Loaded;
@@ -79,7 +79,7 @@ fn short_and_long_stores() {
     let random = &mut Random::new(3);
     let mut state = example_state();
     for length in [0, 1, 63, 64, 127, 128, 129, 191, 192, 1_000] {
-        let before = random_bytes(random, length);
+        let before = random.bytes(length);
         let mut store = Lent::new(&before, random);
         let expected = if length < 128 { 31 } else { 0 };
         // Card 1 lies whole within a store of 64 bytes; that isn't enough.
@@ -160,12 +160,12 @@ fn long_states() {
         .enumerate()
     {
         let random = &mut Random::for_file(4, index as u64);
-        let tail = random_bytes(random, surplus);
-        let mut exact = Lent::new(&random_bytes(random, STATE_BYTES), random);
-        let long = [random_bytes(random, STATE_BYTES), tail.clone()].concat();
+        let tail = random.bytes(surplus);
+        let mut exact = Lent::new(&random.bytes(STATE_BYTES), random);
+        let long = [random.bytes(STATE_BYTES), tail.clone()].concat();
         let mut long = Lent::new(&long, random);
         let mut model = Model::default();
-        let mut stores = vec![random_bytes(random, 32_768); 3];
+        let mut stores = vec![random.bytes(32_768); 3];
         let caller = Caller::new(random);
         let file = accepted_file(random);
         let mut call = Call::Load { file };

@@ -1,6 +1,6 @@
 //! What a load does to the state, refused or done.
 
-use monitor_tests::generate::{accepted_file, random_bytes};
+use monitor_tests::generate::accepted_file;
 use monitor_tests::lent::Lent;
 use monitor_tests::library::{self, Verdict};
 use monitor_tests::lists::first_difference;
@@ -69,10 +69,10 @@ fn state_before(random: &mut Random, busy: &[u8]) -> Vec<u8> {
     let mut state = if random.percent(50) {
         busy.to_vec()
     } else {
-        random_bytes(random, STATE_BYTES)
+        random.bytes(STATE_BYTES)
     };
     let surplus = random.pick(&[0, 0, 1, 100, STATE_BYTES]);
-    state.extend(random_bytes(random, surplus));
+    state.extend(random.bytes(surplus));
     state
 }
 

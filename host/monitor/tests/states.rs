@@ -3,7 +3,7 @@
 //! does the same each time.
 
 use monitor_tests::call::{Answer, Call, Kind};
-use monitor_tests::generate::{any_call, random_bytes, wild_number, Caller};
+use monitor_tests::generate::{any_call, wild_number, Caller};
 use monitor_tests::laws::{self, Change};
 use monitor_tests::lent::Lent;
 use monitor_tests::library;
@@ -99,9 +99,9 @@ fn hostile_state(random: &mut Random, used: &[Used], from: &Used) -> (&'static s
 /// Kinds 0 to 5: nothing of a loaded state.
 fn made_up_state(random: &mut Random, kind: usize) -> (&'static str, Vec<u8>) {
     let (name, mut state) = match kind {
-        0 => return ("random bytes", random_bytes(random, STATE_BYTES)),
+        0 => return ("random bytes", random.bytes(STATE_BYTES)),
         1..=2 => {
-            let bytes = random_bytes(random, STATE_BYTES);
+            let bytes = random.bytes(STATE_BYTES);
             ("counts, then random bytes", bytes)
         }
         3..=4 => {
@@ -158,7 +158,7 @@ fn damaged_state(
         13 => {
             let at = any_byte(random);
             let run = random.between(1, 4_000).min(STATE_BYTES - at);
-            let bytes = random_bytes(random, run);
+            let bytes = random.bytes(run);
             state[at..at + run].copy_from_slice(&bytes);
             "a loaded state with a run of random bytes"
         }
@@ -188,7 +188,7 @@ fn made_on_copies(
     random: &mut Random,
 ) -> (Answer, Vec<u8>, Vec<u8>) {
     let surplus = random.pick(&[0, 0, 1, 9, 500]);
-    let tail = random_bytes(random, surplus);
+    let tail = random.bytes(surplus);
     let state = [state, &tail].concat();
     let mut lent_state = Lent::new(&state, random);
     let mut lent_store = Lent::new(store, random);
@@ -242,7 +242,7 @@ fn hostile_states() {
         let from = &used[random.below(used.len())];
         let (kind_of_state, mut state) = hostile_state(random, &used, from);
         let length = random.pick(&[0, 64, 1_280, 32_767, 32_768, 32_768, 40_000]);
-        let mut store = random_bytes(random, length);
+        let mut store = random.bytes(length);
         let caller = Caller::new(random);
         for _ in 0..CALLS {
             let call = hostile_call(random, &caller, &from.model, length);

@@ -2,13 +2,12 @@
 //! seed and index.
 
 use crate::temporary::Temporary;
-use crate::{expected, graph, run, Printed};
+use crate::{expected, graph, refusal, run, Printed};
 use second_checker::check::{read, Counts, RoleFile, REFUSALS};
 use second_checker::differential::Totals;
 use second_checker::generate::{
     accepted, bent_small, flow_permissions, flow_ring, mixed, sparse_flow, write, Size,
 };
-use second_checker::line::LINE_LENGTH;
 use second_checker::program::first_difference;
 use second_checker::random::Random;
 use second_checker::tally::Tally;
@@ -90,11 +89,7 @@ impl Question {
     /// The bytes of the line that a refusal of the file names, if one does.
     fn line_refused(&self) -> Option<&[u8]> {
         let outcome = check(&self.file);
-        if !(2..=5).contains(&outcome.number()) {
-            return None;
-        }
-        let end = LINE_LENGTH * outcome.place()[0];
-        Some(&self.file[end - LINE_LENGTH..end - 1])
+        refusal::line(&self.file, outcome.number() as u64, outcome.place()[0])
     }
 }
 

@@ -32,19 +32,21 @@ pub fn text(file: &[u8], verdict: &Verdict) -> Vec<u8> {
     let mut text = format!("refused     number     {number}\n");
     text += &format!("            place      {first} {second}\n");
     text += &format!("            reason     {}\n", reason(*number));
-    if (2..=5).contains(number) {
-        let shown = shown(file, *first as usize);
+    if let Some(line) = line(file, *number, *first as usize) {
+        let shown: String = line.iter().map(|&byte| shown_byte(byte)).collect();
         text += &format!("line {first:>5}  text       {shown}\n");
     }
     text.into_bytes()
 }
 
-/// A line of the file without its byte 10, bytes that can't be shown as `?`.
-fn shown(file: &[u8], line: usize) -> String {
-    let bytes = &file[LINE_LENGTH * (line - 1)..LINE_LENGTH * line - 1];
-    bytes.iter().map(|&byte| shown_byte(byte)).collect()
+/// The line that a refusal of the file names, if one does, without its byte 10.
+pub fn line(file: &[u8], number: u64, place: usize) -> Option<&[u8]> {
+    (2..=5)
+        .contains(&number)
+        .then(|| &file[LINE_LENGTH * (place - 1)..LINE_LENGTH * place - 1])
 }
 
+/// A byte that can't be shown as `?`.
 fn shown_byte(byte: u8) -> char {
     match char::from(byte) {
         ' ' => ' ',

@@ -1,7 +1,6 @@
 //! Files with one rule broken or several, on purpose.
 
 use super::form::{bend_lines, split};
-use super::torn::random_bytes;
 use super::{accepted, any_size, arrange, lines_of, small_size, write, Size, LIMITS};
 use crate::check::{check, Meaning, RoleFile, READ, WRITE};
 use crate::line::{LINE_LENGTH, MOST_BYTES, MOST_LINES};
@@ -50,7 +49,7 @@ fn bend_length(random: &mut Random, mut bytes: Vec<u8>) -> Vec<u8> {
     match random.below(4) {
         0 => bytes.clear(),
         1 => bytes.truncate(bytes.len() - some),
-        2 => bytes.extend(random_bytes(random, some)),
+        2 => bytes.extend(random.bytes(some)),
         _ => bytes.resize(MOST_BYTES + LINE_LENGTH * some, b' '),
     }
     bytes

@@ -23,26 +23,22 @@ pub fn torn(random: &mut Random) -> Vec<u8> {
     }
 }
 
-pub(super) fn random_bytes(random: &mut Random, length: usize) -> Vec<u8> {
-    (0..length).map(|_| random.byte()).collect()
-}
-
 /// Bytes that were never a role file.
 fn unrelated(random: &mut Random) -> Vec<u8> {
     match random.below(7) {
         0 => Vec::new(),
         1 => {
             let length = random.below(200);
-            random_bytes(random, length)
+            random.bytes(length)
         }
         2 => {
             let length = LINE_LENGTH * random.between(1, 30);
-            random_bytes(random, length)
+            random.bytes(length)
         }
         // Lengths next to a multiple of 22.
         3 => {
             let length = LINE_LENGTH * random.between(1, 30) + random.between(0, 2) - 1;
-            random_bytes(random, length)
+            random.bytes(length)
         }
         4 => vec![random.pick(b" \x00\n0H\xff"); LINE_LENGTH * random.between(1, 5)],
         // Only bytes that a role file may hold.
@@ -69,7 +65,7 @@ fn around_the_limit(random: &mut Random) -> Vec<u8> {
     ];
     let length = random.pick(&lengths);
     match random.below(4) {
-        0 => random_bytes(random, length),
+        0 => random.bytes(length),
         // A good file and then more of the same line.
         1 => {
             let mut bytes = write(&accepted(random, Size::Small));

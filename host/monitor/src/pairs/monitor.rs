@@ -1,7 +1,6 @@
 //! What the pairs are run on.
 
 use crate::call::Call;
-use crate::generate::random_bytes;
 use crate::lent::Lent;
 use crate::model::{Model, STATE_BYTES};
 use second_checker::random::Random;
@@ -30,7 +29,7 @@ impl Library {
     pub fn new(seed: u64) -> Library {
         let mut random = Random::new(seed);
         let surplus = random.pick(&[0, 0, 1, 100]);
-        let bytes = random_bytes(&mut random, STATE_BYTES + surplus);
+        let bytes = random.bytes(STATE_BYTES + surplus);
         Library {
             state: Lent::new(&bytes, &mut random),
             random,
