@@ -11,7 +11,7 @@ use Rattle.rolefile.specs.Said.{labels, users, cards, clearance, cardLabel}
 use Rattle.policy.specs.Policy.{dominates}
 use Rattle.policy.specs.Accepted.{Accepted}
 use Rattle.policy.specs.Image.{Loaded}
-use Rattle.monitor.specs.Places.{Places, nowhere, isFree, put}
+use Rattle.monitor.specs.Places.{Places, allFree, isFree, put}
 use Rattle.monitor.specs.Runs.{Call, opens, closes, takes, drops, reads, writes, Memory, number, part, after, run}
 
 -- "A read stands for both its calls, on the same state and store, and answers with its number and the bytes of its part"; the other calls answer with their number
@@ -29,7 +29,7 @@ abbrev pub Open : Type 0
 Open = Places ℕ
 
 abbrev pub noneOpen : Open
-noneOpen = nowhere
+noneOpen = allFree
 
 -- "an opening that the rules grant (place 1 to 64 and not open, user and label in range, clearance dominating the label)"
 unfoldable pub grants : List ℕ → Open → ℕ → ℕ → ℕ → Bool
@@ -107,7 +107,7 @@ pub record Start (f : List ℕ) : Type 0 where
 
 -- ---- the claim, "about two whole lists of calls": each shared call gets the same number and bytes, and the cards under L are the same after each shared call and at the end
 
--- of two memories and the calls on them, where the places of t are open
+-- of two memories and the calls on them; t tells which places are open at first, and at which label
 abbrev pub Claim : List ℕ → ℕ → Open → Memory → Memory → List Call → List Call → Type 0
 Claim f L t m₁ m₂ cs₁ cs₂ = SameFor f L (shown f L t m₁ cs₁) (shown f L t m₂ cs₂) (run m₁ cs₁) (run m₂ cs₂)
 

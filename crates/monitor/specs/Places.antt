@@ -8,8 +8,9 @@ use lib.Dec.{eqb}
 abbrev pub Places : Type 0 → Type 0
 Places A = ℕ → Option A
 
-abbrev pub nowhere : {A : Type 0} → Places A
-nowhere p = none
+-- every place is free
+abbrev pub allFree : {A : Type 0} → Places A
+allFree p = none
 
 abbrev pub isFree : {A : Type 0} → Option A → Bool
 isFree none = true

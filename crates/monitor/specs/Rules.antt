@@ -12,7 +12,7 @@ use Rattle.rolefile.specs.Said.{labels, roles, users, cards, clearance, assigne
 use Rattle.policy.specs.Policy.{dominates, senior, may, rLevel, wLevel, passes}
 use Rattle.monitor.specs.Calls.{unless, ifDone}
 use Rattle.monitor.specs.Runs.{Call, opens, closes, takes, drops, reads, writes}
-use Rattle.monitor.specs.Places.{Places, nowhere, isFree, put}
+use Rattle.monitor.specs.Places.{Places, allFree, isFree, put}
 
 -- ---- the session at each place, by the calls so far
 
@@ -27,7 +27,7 @@ abbrev pub Sessions : Type 0
 Sessions = Places Session
 
 abbrev pub noSessions : Sessions
-noSessions = nowhere
+noSessions = allFree
 
 -- 24 where the place has no session; else what the rule says of the session
 abbrev pub sessionRule : Option Session → (Session → ℕ) → ℕ

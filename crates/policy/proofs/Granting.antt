@@ -27,7 +27,7 @@ use Rattle.rolefile.specs.WellFormed.{GoodCounts, GoodLines}
 use Rattle.rolefile.proofs.Sections.{Section, says-three}
 use Rattle.policy.specs.declared.build.Parts.{Parts}
 use Rattle.policy.specs.Policy.{dominates, senior, may, mayAt, level, rLevel, wLevel, levelNumber}
-use Rattle.policy.specs.Tables.{rLevelsAt, wLevelsAt, seniorsAt, readersAt, writersAt, byteOf, markAt, Put}
+use Rattle.policy.specs.Tables.{rLevelsAt, wLevelsAt, seniorsAt, readersAt, writersAt, byteOf, markAt, DominanceRows}
 use Rattle.policy.specs.Tables.{lineGrants, grantedByLines, brings, gathered, Bytes, GrantedRows}
 use Rattle.policy.specs.Image.{Labelled, Seniors, Permitting, Allows}
 use Rattle.policy.specs.Stages.{Ready, Zeros, Closed, Granting}
@@ -139,7 +139,7 @@ module _ (f : List ℕ) (counts : GoodCounts (header f)) (between : Between (rol
 
 module _ (f : List ℕ) (q : Parts) (h : Line) (t up : List (List Bool)) (x₀ x₁ x₂ x₃ x₄ reading writing : List ℕ) (ready : Ready f q h)
     (labelled : Labelled f x₀) (seniors : Seniors f x₀) (closed : Closed f t) (no-level : Zeros 1808 2064 x₀) (no-role : Zeros 12304 28688 x₀)
-    (put : Put 32 t x₀ x₁)
+    (put : DominanceRows 32 t x₀ x₁)
     (grants : GrantedRows (grantedByLines x₁ (part f (q .p .start)) (q .p .count)) x₁ x₂)
     (turns : Agree 32 32 (mark up) (converse (mark t)))
     (reads : Agree 32 128 (related reading 0) (gathered x₂ readersAt (h .d)))

@@ -15,7 +15,7 @@ use Rattle.search.proofs.Found.{among-next}
 use Rattle.order.specs.Table.{marks, mark}
 use Rattle.order.proofs.Stored.{Upto}
 use Rattle.rolefile.specs.Section.{one, two}
-use Rattle.policy.specs.Tables.{dominanceAt, markAt, Bytes, Marking, WithPair, Put}
+use Rattle.policy.specs.Tables.{dominanceAt, markAt, Bytes, Marking, WithPair, DominanceRows}
 use Rattle.policy.proofs.Relating.{pairs-more, pairs-none}
 
 -- a pair whose first is no label makes no mark
@@ -42,11 +42,11 @@ pub marks-more : (p : List ℕ) (i : ℕ) (t r : List (List Bool)) → Marking p
 marks-more p i t r m n a b w v = n a b w v ∙ rw (m a b w v) (pairs-more p i _ _ a b refl refl)
 
 module _ (t : List (List Bool)) (xs : List ℕ) where
-  pub put-none : Put 0 t xs xs
+  pub put-none : DominanceRows 0 t xs xs
   put-none = record { rows = λ a b w. absurd (omega arith); rest = λ k o. refl }
 
-  pub put-more : (i : ℕ) (ys zs : List ℕ) → Put i t xs ys
-      → Bytes (dominanceAt + 32 * i) 32 (λ b. cond (marks (getD t i []) b) 1 0) ys zs → Put (i + 1) t xs zs
+  pub put-more : (i : ℕ) (ys zs : List ℕ) → DominanceRows i t xs ys
+      → Bytes (dominanceAt + 32 * i) 32 (λ b. cond (marks (getD t i []) b) 1 0) ys zs → DominanceRows (i + 1) t xs zs
   put-more i ys zs p row = let kept = row .rest in record {
     rows = λ a b w v.
         let s : dominanceAt + (32 * i + (b - 1)) ≡ dominanceAt + 32 * i + (b - 1) = omega arith in

@@ -1,4 +1,4 @@
--- The tables of a policy in a list of bytes: where each stands, how it is read, and what the lines of a part put into it; and the marks that lines make. Assumes nothing.
+-- The counts and tables of a policy in a list of bytes: where each stands, how it is read, and what the lines of a part put into it; and the marks that lines make. Assumes nothing.
 use Prim.Native.Nat.{ℕ, zero, suc, _+_, _*_, _-_, _%_, min}
 use mathlib.Core.Path.{_≡_}
 use mathlib.Core.List.{List}
@@ -150,8 +150,8 @@ Marking p m t = (a b : ℕ) → Among 32 a → Among 32 b → mark t a b ≡ pai
 abbrev pub WithPair : ℕ → ℕ → List (List Bool) → List (List Bool) → Type 0
 WithPair a b t u = (x y : ℕ) → Among 32 x → Among 32 y → mark u x y ≡ (mark t x y || (eqb a x && eqb b y))
 
--- i rows of the table t stand where dominance does, a byte for each mark
-pub record Put (i : ℕ) (t : List (List Bool)) (xs ys : List ℕ) : Type 0 where
+-- the first i rows of the marks t stand where dominance does, a byte for each mark, and nothing else changed
+pub record DominanceRows (i : ℕ) (t : List (List Bool)) (xs ys : List ℕ) : Type 0 where
   pub rows : (a b : ℕ) → Among i a → Among 32 b → getD ys (markAt a b) 0 ≡ cond (mark t a b) 1 0
   pub rest : Kept dominanceAt (dominanceAt + 32 * i) xs ys
 
@@ -191,7 +191,7 @@ countIn xs at most = cond (isState xs) (min (word xs at) most) 0
 
 -- that of the roles
 abbrev pub roleCount : List ℕ → ℕ
-roleCount xs = countIn xs 2 128
+roleCount xs = countIn xs roleCountAt 128
 
 -- the role's byte of the table of levels at `at`
 abbrev pub levelIn : List ℕ → ℕ → ℕ → ℕ

@@ -6,7 +6,7 @@ ghost use Prim.Native.Nat.{_+_, _≤_};
 ghost use lib.ListN.{length};
 ghost use Rattle.order.specs.Table.{marks};
 ghost use Rattle.rolefile.specs.Line.{lines};
-ghost use Rattle.policy.specs.Tables.{Bytes, Marking, WithPair, Put};
+ghost use Rattle.policy.specs.Tables.{Bytes, Marking, WithPair, DominanceRows};
 
 // Marks a over b in the table, if both are labels.
 fn add_pair(t: &mut [[bool; 32]; 32], a: usize, b: usize)
@@ -59,7 +59,7 @@ fn put_row(s: &mut [u8], at: usize, row: [bool; 32])
 // Puts the table where dominance stands.
 pub fn put_table(s: &mut [u8], t: [[bool; 32]; 32])
     requires { ⌜ 1040 ≤ length (now s) ⌝ }
-    ensures { λ _. ⌜ Put 32 t (now (s .entry)) (now (s .exit)) ⌝ }
+    ensures { λ _. ⌜ DominanceRows 32 t (now (s .entry)) (now (s .exit)) ⌝ }
 {
     let mut i = 0;
     while i < 32 {

@@ -4,13 +4,13 @@ use mathlib.Core.Path.{_≡_}
 use native.Mathlib.Omega.{arith}
 use borrow.Author.Needs.{needs}
 use lib.ListN.{length}
-use Rattle.policy.specs.Tables.{Put}
+use Rattle.policy.specs.Tables.{DominanceRows}
 use Rattle.policy.proofs.Marked.{put-none, put-more}
 use Rattle.policy.proofs.marks.put_table.Statement.{statement}
 use Rattle.policy.proofs.marks.put_table.Tie as tie
 
 abbrev Inv-loop : tie.InvT-loop
-Inv-loop s₀ t i₀ s i = (i ≤ 32) × (length s ≡ length s₀) × Put i t s₀ s
+Inv-loop s₀ t i₀ s i = (i ≤ 32) × (length s ≡ length s₀) × DominanceRows i t s₀ s
 
 abbrev μ-loop : tie.MeasureT-loop
 μ-loop s₀ t i₀ s i = 32 - i
