@@ -20,7 +20,7 @@ use Rattle.policy.specs.Tables.{dominanceAt, clearancesAt, cardLabelsAt, rLevel
 use Rattle.policy.specs.Accepted.{Accepted}
 use Rattle.policy.specs.Image.{Unused, Describes, Image, loadVerdict}
 use Rattle.policy.proofs.Outcomes.{accepted-fine}
-use Rattle.isolation.specs.TwoRuns.{Start}
+use Rattle.monitor.specs.Runs.{Start}
 
 -- ---- a list by its bytes
 

@@ -9,11 +9,10 @@ use lib.ListN.{length, take, drop}
 use Rattle.search.specs.Search.{Among}
 use Rattle.search.proofs.Truth.{both}
 use Rattle.rolefile.specs.Said.{labels}
-use Rattle.rolefile.specs.WellFormed.{WellFormed}
 use Rattle.policy.specs.Accepted.{Accepted}
 use Rattle.policy.specs.Tables.{writersAt}
 use Rattle.monitor.specs.Calls.{written, partAt, readNumber, writeNumber}
-use Rattle.monitor.specs.Runs.{Call, opens, closes, takes, drops, reads, writes, Memory, number, partOf, part, storeOf, storeAfter, after, run}
+use Rattle.monitor.specs.Runs.{Call, opens, closes, takes, drops, reads, writes, Memory, loaded, number, partOf, part, storeOf, storeAfter, after, run}
 use Rattle.monitor.specs.Rules.{Sessions, noSessions, rule, next}
 use Rattle.monitor.proofs.Answers.{both-ways, either-way, part-fits}
 use Rattle.monitor.proofs.Frames.{written-out}
@@ -25,9 +24,6 @@ use Rattle.isolation.proofs.Tracking.{Fits, none-fits, placeOf, next-ot
 use Rattle.isolation.proofs.Low.{SameSessions, same-number, next-same, cards-after, bytes-same, read-under, write-over}
 
 module _ (f : List ℕ) (accepted : Accepted f) (L : ℕ) (label : Among (labels f) L) (size : ℕ) where
-  form : WellFormed f
-  form = accepted .ordered .form
-
   -- two runs at one moment, alike as far as L can tell
   record Pair (t : Open) (s₁ s₂ : Sessions) (m₁ m₂ : Memory) : Type 0 where
     pub runs₁ : Runs f s₁ size m₁
@@ -42,16 +38,16 @@ module _ (f : List ℕ) (accepted : Accepted f) (L : ℕ) (label : Among (labels
   module _ (t : Open) (s₁ s₂ : Sessions) (m₁ m₂ : Memory) (pair : Pair t s₁ s₂ m₁ m₂) (c : Call) (h : shared f L t c ≡ true) where
     numbers : number m₁ c ≡ number m₂ c
     numbers =
-        runs-number f form s₁ size m₁ (pair .runs₁) c
+        runs-number f (accepted .ordered .form) s₁ size m₁ (pair .runs₁) c
         ∙ same-number f L t s₁ s₂ (pair .fits₁) (pair .fits₂) (pair .sessions) size c h
-        ∙ sym (runs-number f form s₂ size m₂ (pair .runs₂) c)
+        ∙ sym (runs-number f (accepted .ordered .form) s₂ size m₂ (pair .runs₂) c)
 
     read-bytes : (p o k n : ℕ) → c ≡ reads p o k n → partOf (number m₂ (reads p o k n)) (m₁ .store) (reads p o k n) ≡ part m₂ (reads p o k n)
     unfolding number partOf rule shared
     read-bytes p o k n e =
         both-ways (λ a b. a ≡ b) (readNumber (m₂ .state) (m₂ .store) p o k n) (take n (drop (partAt o k) (m₁ .store))) [] (take n (drop (partAt o k) (m₂ .store))) []
         (λ z.
-        let y = sym (runs-number f form s₂ size m₂ (pair .runs₂) (reads p o k n)) ∙ z in
+        let y = sym (runs-number f (accepted .ordered .form) s₂ size m₂ (pair .runs₂) (reads p o k n)) ∙ z in
         let u = part-done f 1 s₂ size p o k n y in
         let d = read-under f accepted L label t s₂ (pair .runs₂ .known) (pair .fits₂) size p o k n y (rw e at h) in
         let same₁ = pair .runs₁ .stored in
@@ -81,8 +77,8 @@ module _ (f : List ℕ) (accepted : Accepted f) (L : ℕ) (label : Among (labels
 
     shared-pair : Pair (track f t c) (next f s₁ c) (next f s₂ c) (after m₁ c) (after m₂ c)
     shared-pair = record {
-      runs₁ = runs-next f form s₁ size m₁ (pair .runs₁) c;
-      runs₂ = runs-next f form s₂ size m₂ (pair .runs₂) c;
+      runs₁ = runs-next f (accepted .ordered .form) s₁ size m₁ (pair .runs₁) c;
+      runs₂ = runs-next f (accepted .ordered .form) s₂ size m₂ (pair .runs₂) c;
       fits₁ = fits-track f t s₁ (pair .fits₁) (pair .runs₁ .known) c;
       fits₂ = fits-track f t s₂ (pair .fits₂) (pair .runs₂ .known) c;
       sessions = next-same f L t s₁ s₂ (pair .fits₁) (pair .fits₂) (pair .sessions) c h;
@@ -115,7 +111,7 @@ module _ (f : List ℕ) (accepted : Accepted f) (L : ℕ) (label : Among (labels
     other-cards (writes p o k bytes) h =
         either-way (λ st. SameCards f L st (m .store)) (writeNumber (m .state) (m .store) p o k bytes) (written (m .store) (partAt o k) bytes) (m .store)
         (λ z.
-        let y = sym (runs-number f form s size m runs (writes p o k bytes)) ∙ z in
+        let y = sym (runs-number f (accepted .ordered .form) s size m runs (writes p o k bytes)) ∙ z in
         let high = write-over f accepted L label t s (runs .known) fits size p o k (length bytes) y h in
         let x = part-fits writersAt (m .state) (length (m .store)) p o k (length bytes) z in
         λ d i w low l.
@@ -134,7 +130,7 @@ module _ (f : List ℕ) (accepted : Accepted f) (L : ℕ) (label : Among (labels
   other-pair t s₁ s₂ m₁ m₂ pair c h =
       let (same, high) = other-call t c h in
       record {
-        runs₁ = runs-next f form s₁ size m₁ (pair .runs₁) c;
+        runs₁ = runs-next f (accepted .ordered .form) s₁ size m₁ (pair .runs₁) c;
         runs₂ = pair .runs₂;
         fits₁ = rw same at (fits-track f t s₁ (pair .fits₁) (pair .runs₁ .known) c);
         fits₂ = pair .fits₂;
@@ -175,10 +171,10 @@ alike-both f L (x ∷ xs) (y ∷ ys) (z ∷ zs) (a, c, h) (b, d, k) =
 -- demand 3
 pub isolation : (f : List ℕ) → Isolated f
 isolation f accepted a b L label s₁ s₂ long same cs₁ cs₂ same-shared =
-    let m₁ : Memory = record { state = a .state; store = s₁ } in
-    let m₂ : Memory = record { state = b .state; store = s₂ } in
-    let r₁ = loaded-runs f accepted (a .before) (a .state) (a .verdict) (a .enough) (a .load) s₁ in
-    let r₂ : Runs f noSessions (length s₁) m₂ = rw (← long) at (loaded-runs f accepted (b .before) (b .state) (b .verdict) (b .enough) (b .load) s₂) in
+    let m₁ = loaded a s₁ in
+    let m₂ = loaded b s₂ in
+    let r₁ = loaded-runs accepted a s₁ in
+    let r₂ : Runs f noSessions (length s₁) m₂ = rw (← long) at (loaded-runs accepted b s₂) in
     let begins : (m : Memory) → Runs f noSessions (length s₁) m → SameCards f L (m .store) s₁ → Pair f accepted L label (length s₁) noneOpen noSessions noSessions m m₁ =
     λ m r c. record { runs₁ = r; runs₂ = r₁; fits₁ = none-fits; fits₂ = none-fits; sessions = λ p k. refl; cards = c } in
     let x = like-shared f accepted L label (length s₁) cs₁ noneOpen noSessions noSessions m₁ m₁ (begins m₁ r₁ (λ o i w d l. refl)) in

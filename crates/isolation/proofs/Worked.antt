@@ -20,11 +20,11 @@ use Rattle.policy.specs.Verdict.{orderVerdict, labelVerdict, roleVerdict, assig
 use Rattle.policy.specs.Accepted.{Accepted}
 use Rattle.policy.proofs.Outcomes.{accepted-fine}
 use Rattle.monitor.specs.Calls.{unless, ifDone}
-use Rattle.monitor.specs.Runs.{Call, partOf, storeOf}
+use Rattle.monitor.specs.Runs.{Call, Start, loaded, partOf, storeOf}
 use Rattle.monitor.specs.Rules.{noSessions, entitledByFile, fittingByFile, givesByFile, openRule, closeRule, takeRule, dropRule, partRule, rule, next}
 use Rattle.monitor.specs.Cases.{line, bytes}
 use Rattle.monitor.proofs.Demand2.{loaded-runs}
-use Rattle.isolation.specs.TwoRuns.{Answer, noneOpen, grants, track, shared, sharedCalls, shown, SameCards, Start}
+use Rattle.isolation.specs.TwoRuns.{Answer, noneOpen, grants, track, shared, sharedCalls, shown, SameCards}
 use Rattle.isolation.specs.Worked.{file, firstStore, secondStore, firstRun, secondRun, done, low, highFirst, highSecond}
 use Rattle.isolation.proofs.Begins.{start}
 use Rattle.isolation.proofs.ByFile.{shownBy, shown-by}
@@ -82,13 +82,13 @@ same-cards o i w d l =
 -- ---- what each label is shown, from the state that any load of the file left
 
 abbrev answersOf : Start file → ℕ → List ℕ → List Call → List Answer
-answersOf a L store cs = map (λ x. x .answer) (shown file L noneOpen (record { state = a .state; store = store }) cs)
+answersOf a L store cs = map (λ x. x .answer) (shown file L noneOpen (loaded a store) cs)
 
 shows : (a : Start file) (L : ℕ) (store : List ℕ) (cs : List Call) → length store ≡ 192 → answersOf a L store cs ≡ answersBy L store cs
 shows a L store cs long =
     ap (map (λ x. x .answer))
-    (shown-by file (accepted .ordered .form) 192 L cs noneOpen noSessions (record { state = a .state; store = store })
-    (rw long at (loaded-runs file accepted (a .before) (a .state) (a .verdict) (a .enough) (a .load) store)))
+    (shown-by file (accepted .ordered .form) 192 L cs noneOpen noSessions (loaded a store)
+    (rw long at (loaded-runs accepted a store)))
 
 -- label 2 is shown the same, and not refusals alone; label 4, one step higher, is shown more, and not the same
 pub record Separated (a b : Start file) : Type 0 where

@@ -1,18 +1,16 @@
 -- Demand 3, in the order and words of "Two runs side by side": shared calls, struck calls and cards under L are document 01's terms. Assumes nothing.
-use Prim.Native.Nat.{ℕ, _+_, _*_, _-_, _≤_, _<_}
+use Prim.Native.Nat.{ℕ, _+_, _*_, _-_, _<_}
 use mathlib.Core.Path.{_≡_}
 use mathlib.Core.List.{List, [], _∷_}
 use mathlib.Core.Bool.{Bool, true, false, _&&_, cond}
 use mathlib.Core.Option.{Option, none, some}
 use lib.ListN.{length, getD}
 use Rattle.search.specs.Search.{among, Among}
-use Rattle.rolefile.specs.declared.Verdict.{Verdict}
 use Rattle.rolefile.specs.Said.{labels, users, cards, clearance, cardLabel}
 use Rattle.policy.specs.Policy.{dominates}
 use Rattle.policy.specs.Accepted.{Accepted}
-use Rattle.policy.specs.Image.{Loaded}
 use Rattle.monitor.specs.Places.{Places, allFree, isFree, put}
-use Rattle.monitor.specs.Runs.{Call, opens, closes, takes, drops, reads, writes, Memory, number, part, after, run}
+use Rattle.monitor.specs.Runs.{Call, opens, closes, takes, drops, reads, writes, Memory, Start, loaded, number, part, after, run}
 
 -- "A read stands for both its calls, on the same state and store, and answers with its number and the bytes of its part"; the other calls answer with their number
 pub record Answer : Type 0 where
@@ -97,14 +95,6 @@ pub record SameFor (f : List ℕ) (L : ℕ) (xs₁ xs₂ : List Shown) (e₁ e�
   pub answers : Alike f L xs₁ xs₂
   pub cards : SameCards f L (e₁ .store) (e₂ .store)
 
--- the state that one load of the file left, whatever 65,536 bytes or more were there before
-pub record Start (f : List ℕ) : Type 0 where
-  pub before : List ℕ
-  pub enough : 65536 ≤ length before
-  pub verdict : Verdict
-  pub state : List ℕ
-  pub load : Loaded f verdict before state
-
 -- ---- the claim, "about two whole lists of calls": each shared call gets the same number and bytes, and the cards under L are the same after each shared call and at the end
 
 -- of two memories and the calls on them; t tells which places are open at first, and at which label
@@ -117,7 +107,7 @@ OfTwoRuns f Claimed =
     Accepted f → (a b : Start f) (L : ℕ) → Among (labels f) L
     → (s₁ s₂ : List ℕ) → length s₁ ≡ length s₂ → SameCards f L s₁ s₂
     → (cs₁ cs₂ : List Call) → sharedCalls f L noneOpen cs₁ ≡ sharedCalls f L noneOpen cs₂
-    → Claimed L (record { state = a .state; store = s₁ }) (record { state = b .state; store = s₂ }) cs₁ cs₂
+    → Claimed L (loaded a s₁) (loaded b s₂) cs₁ cs₂
 
 abbrev pub Isolated : List ℕ → Type 0
 Isolated f = OfTwoRuns f (λ L. Claim f L noneOpen)

@@ -13,18 +13,17 @@ use Rattle.search.specs.Search.{among, Among}
 use Rattle.search.proofs.Truth.{or-iff, and-iff, among-iff}
 use Rattle.search.proofs.Found.{some-agree, some-both}
 use Rattle.roleset.specs.Row.{member, rowOf}
-use Rattle.rolefile.specs.declared.Verdict.{Verdict}
 use Rattle.rolefile.specs.Said.{labels, roles, users, cards, clearance}
 use Rattle.rolefile.specs.WellFormed.{WellFormed}
 use Rattle.policy.specs.Policy.{dominates, may}
 use Rattle.policy.specs.Accepted.{Accepted}
-use Rattle.policy.specs.Image.{Loaded, Allows, Describes}
+use Rattle.policy.specs.Image.{Allows, Describes}
 use Rattle.policy.proofs.Meaning.{role-few, card-few}
 use Rattle.policy.specs.Tables.{tableOf}
 use Rattle.policy.proofs.Relating.{by-mode}
 use Rattle.monitor.specs.Session.{labelsIn, usersIn, cardsIn, cleared, entitled, fitting}
 use Rattle.monitor.specs.Calls.{unless, ifDone}
-use Rattle.monitor.specs.Runs.{Call, opens, takes, Memory, after, run}
+use Rattle.monitor.specs.Runs.{Call, opens, takes, Memory, Start, loaded, after, run}
 use Rattle.monitor.specs.Rules.{Session, Sessions, noSessions, entitledByFile, fittingByFile, givesByFile, openRule, takeRule, partRule, rule, sessionOf, holding, next, sessions}
 use Rattle.monitor.specs.Rights.{canNumber, roleCould, could, Cans, canRule, couldByFile, useOf, CouldUse}
 use Rattle.monitor.proofs.Answers.{unless-done, figure-same}
@@ -168,12 +167,9 @@ figure-one zero true = (λ e. (refl, refl), λ e. refl)
 figure-one zero false = (λ e. absurd (omega arith), λ (e, b). absurd (false≢true b))
 figure-one (suc n) b = (λ e. absurd (omega arith), λ (e, b). absurd (omega arith))
 
-module _ (f : List ℕ) (accepted : Accepted f) (xs ys : List ℕ) (v : Verdict) (long : 65536 ≤ length xs) (load : Loaded f v xs ys) (store : List ℕ) where
-  form : WellFormed f
-  form = accepted .ordered .form
-
+module _ {f : List ℕ} (accepted : Accepted f) (a : Start f) (store : List ℕ) where
   abbrev start : Memory
-  start = record { state = ys; store = store }
+  start = loaded a store
 
   -- on every state that a load and calls left: by the file, and never 21
   module _ (cs : List Call) where
@@ -182,32 +178,34 @@ module _ (f : List ℕ) (accepted : Accepted f) (xs ys : List ℕ) (v : Verdict)
 
     pub can-file : (u l o m n figure : ℕ) → Cans end u l o m n figure → (n ≡ canRule f u l o m) × (figure ≡ ifDone n (cond (couldByFile f u l o m) 1 0) 0)
     can-file u l o m n figure h =
+        let form = accepted .ordered .form in
         let e = h .number ∙ number-by f form t end (ran .stands) u l o m in (
           e,
           figure-same n (h .number) (h .answer) (λ z.
-              let a = can-done f u l o m (sym e ∙ z) in could-by f form t end (ran .stands) u l o m (a .user) (a .card) (a .mode)),
+              let w = can-done f u l o m (sym e ∙ z) in could-by f form t end (ran .stands) u l o m (w .user) (w .card) (w .mode)),
         )
       where
         t : Sessions
         t = sessions f noSessions cs
 
         ran : Runs f t (length store) (run start cs)
-        ran = left-runs f accepted xs ys v long load store cs
+        ran = left-runs accepted a store cs
 
   -- from the state that a load left, at any place and with a store that has all cards
   module _ (enough : 64 * cards f ≤ length store) (p : ℕ) (place : Among 64 p) (u l o m : ℕ) (mode : Among 2 m) where
     runs : Runs f noSessions (length store) start
-    runs = loaded-runs f accepted xs ys v long load store
+    runs = loaded-runs accepted a store
 
     runs-one : Runs f (next f noSessions (opens p u l)) (length store) (after start (opens p u l))
-    runs-one = runs-next f form noSessions (length store) start runs (opens p u l)
+    runs-one = runs-next f (accepted .ordered .form) noSessions (length store) start runs (opens p u l)
 
     runs-two : (r : ℕ) → Runs f (next f (next f noSessions (opens p u l)) (takes p r)) (length store) (after (after start (opens p u l)) (takes p r))
-    runs-two r = runs-next f form (next f noSessions (opens p u l)) (length store) (after start (opens p u l)) runs-one (takes p r)
+    runs-two r = runs-next f (accepted .ordered .form) (next f noSessions (opens p u l)) (length store) (after start (opens p u l)) runs-one (takes p r)
 
     granting : (r : ℕ) → Let f (length store) p u l place enough o m r ↔ CouldUse start p u l o m r
     unfolding rule
     granting r =
+        let form = accepted .ordered .form in
         let a = runs-number f form noSessions (length store) start runs (opens p u l) in
         let b = runs-number f form _ (length store) _ runs-one (takes p r) in
         let c = runs-number f form _ (length store) _ (runs-two r) (useOf m p o) ∙ use-rule f (length store) p u l place enough m o _ mode in (
@@ -215,7 +213,7 @@ module _ (f : List ℕ) (accepted : Accepted f) (xs ys : List ℕ) (v : Verdict)
           λ x. record { opened = sym a ∙ x .opened; taken = sym b ∙ x .taken; used = sym c ∙ x .used },
         )
 
-    pub can-iff : (n figure : ℕ) → Cans ys u l o m n figure → (figure ≡ 1) ↔ ((r : ℕ) × CouldUse start p u l o m r)
+    pub can-iff : (n figure : ℕ) → Cans (a .state) u l o m n figure → (figure ≡ 1) ↔ ((r : ℕ) × CouldUse start p u l o m r)
     unfolding run
     can-iff n figure h =
         let (by, told) = can-file [] u l o m n figure h in
@@ -225,6 +223,6 @@ module _ (f : List ℕ) (accepted : Accepted f) (xs ys : List ℕ) (v : Verdict)
               let (r, x) = come f (length store) p u l place enough o m (can-done f u l o m (sym by ∙ z)) held in
               (r, granting r .0 x),
           λ (r, x).
-              let (a, held) = came f (length store) p u l place enough o m r mode (granting r .1 x) in
-              told ∙ one .1 (by ∙ able-done f u l o m a, held),
+              let (able, held) = came f (length store) p u l place enough o m r mode (granting r .1 x) in
+              told ∙ one .1 (by ∙ able-done f u l o m able, held),
         )

@@ -1,6 +1,6 @@
 -- Demand 2's session half: on every state that a load of an accepted file and any calls left, each call is answered as the file and the calls so far say. Each call keeps
 -- the state standing for the sessions, and a load's image stands for none. Assumes nothing.
-use Prim.Native.Nat.{ℕ, _≤_}
+use Prim.Native.Nat.{ℕ}
 use mathlib.Core.Path.{_≡_, refl, sym, ap, _∙_}
 use mathlib.Core.List.{List, _∷_, []}
 use mathlib.Core.Bool.{Bool, true, cond}
@@ -15,14 +15,13 @@ use Rattle.rolefile.specs.WellFormed.{WellFormed}
 use Rattle.policy.specs.Tables.{readersAt, writersAt}
 use Rattle.policy.specs.Accepted.{Accepted}
 use Rattle.policy.specs.Flow.{flows, flowCircle}
-use Rattle.policy.specs.Image.{Loaded}
 use Rattle.policy.proofs.Outcomes.{accepted-iff}
 use Rattle.policy.proofs.Meaning.{role-few, flow-file, circle-file}
 use Rattle.policy.proofs.Loads.{judged}
 use Rattle.monitor.specs.Session.{sound}
 use Rattle.monitor.specs.Calls.{unless, ifDone, written, partAt, opened, closed, taken, dropped, writeNumber}
 use Rattle.monitor.specs.Calls.{flowsNumber, circleNumber, Flows, Circles}
-use Rattle.monitor.specs.Runs.{Call, opens, closes, takes, drops, reads, writes, Memory, number, stateAfter, storeOf, storeAfter, after, run}
+use Rattle.monitor.specs.Runs.{Call, opens, closes, takes, drops, reads, writes, Memory, Start, loaded, number, stateAfter, storeOf, storeAfter, after, run}
 use Rattle.monitor.specs.Places.{put}
 use Rattle.monitor.specs.Rules.{Session, Sessions, noSessions, sessionRule, atSessionByFile, openRule, closeRule, takeRule, dropRule, partRule, rule, sessionOf, holding, without, next, sessions}
 use Rattle.monitor.proofs.Answers.{unless-done, both-ways, either-way, figure-same}
@@ -159,32 +158,29 @@ rule-not-21 f size t (writes p o k bytes) = part-not-21 f 2 size t p o k (length
 
 -- ---- from a load on
 
-module _ (f : List ℕ) (accepted : Accepted f) (xs ys : List ℕ) (v : Verdict) (enough : 65536 ≤ length xs) (load : Loaded f v xs ys) where
-  form : WellFormed f
-  form = accepted .ordered .form
+module _ {f : List ℕ} (accepted : Accepted f) (a : Start f) where
+  load-done : a .verdict .number ≡ 0
+  load-done = ap (λ (w : Verdict). w .number) (judged (a .load) (a .enough)) ∙ accepted-iff f .1 accepted
 
-  load-done : v .number ≡ 0
-  load-done = ap (λ (w : Verdict). w .number) (judged load enough) ∙ accepted-iff f .1 accepted
+  loaded-stands : Stands f noSessions (a .state)
+  loaded-stands = image-stands f (a .state) (rw (a .load .long) (a .enough)) (a .load .done load-done)
 
-  loaded-stands : Stands f noSessions ys
-  loaded-stands = image-stands f ys (rw (load .long) enough) (load .done load-done)
-
-  pub loaded-runs : (store : List ℕ) → Runs f noSessions (length store) (record { state = ys; store = store })
+  pub loaded-runs : (store : List ℕ) → Runs f noSessions (length store) (loaded a store)
   loaded-runs store = record { known = no-sessions-orderly f; stands = loaded-stands; stored = refl }
 
   module _ (store : List ℕ) (cs : List Call) where
     abbrev pub left : Memory
-    left = run (record { state = ys; store = store }) cs
+    left = run (loaded a store) cs
 
     pub left-runs : Runs f (sessions f noSessions cs) (length store) left
-    left-runs = runs-after f form cs noSessions (length store) (record { state = ys; store = store }) (loaded-runs store)
+    left-runs = runs-after f (accepted .ordered .form) cs noSessions (length store) (loaded a store) (loaded-runs store)
 
     left-sound : sound (left .state) ≡ true
-    left-sound = sound-file f form (sessions f noSessions cs) (left .state) (left-runs .stands)
+    left-sound = sound-file f (accepted .ordered .form) (sessions f noSessions cs) (left .state) (left-runs .stands)
 
     -- what each call is answered, whatever store it is lent, by the file and the calls so far
     pub answers : (lent : List ℕ) (c : Call) → number (record { state = left .state; store = lent }) c ≡ rule f (length lent) (sessions f noSessions cs) c
-    answers lent c = let r = left-runs in number-file f form (sessions f noSessions cs) (r .known) (record { state = left .state; store = lent }) (r .stands) c
+    answers lent c = let r = left-runs in number-file f (accepted .ordered .form) (sessions f noSessions cs) (r .known) (record { state = left .state; store = lent }) (r .stands) c
 
     -- "never for a state that a load and calls left"
     pub never-21 : (lent : List ℕ) (c : Call) → number (record { state = left .state; store = lent }) c ≡ 21 → ⊥
@@ -196,6 +192,7 @@ module _ (f : List ℕ) (accepted : Accepted f) (xs ys : List ℕ) (v : Verdict)
     unfolding flowsNumber
     flows-answers q r n figure h =
         let w = left-runs in
+        let form = accepted .ordered .form in
         let tables = w .stands .tables in
         let e : n ≡ unless (among (roles f) q) 25 (unless (among (roles f) r) 25 0) =
         h .number ∙ test-passed 21 left-sound ∙ rw (tables .counted .roles) in (
@@ -212,4 +209,4 @@ module _ (f : List ℕ) (accepted : Accepted f) (xs ys : List ℕ) (v : Verdict)
     circle-answers n figure h =
         let w = left-runs in
         let e : circleNumber (left .state) ≡ 0 = test-passed 21 left-sound in
-        (h .number ∙ e, h .answer ∙ rw e (circle-file f form (left .state) (w .stands .tables) (w .stands .long)))
+        (h .number ∙ e, h .answer ∙ rw e (circle-file f (accepted .ordered .form) (left .state) (w .stands .tables) (w .stands .long)))

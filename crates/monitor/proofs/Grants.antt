@@ -1,5 +1,5 @@
 -- The rules answer 0 exactly where `Granted` holds, and so do the exported functions on every state that a load of the file and calls left. Assumes nothing.
-use Prim.Native.Nat.{ℕ, _+_, _*_, _≤_}
+use Prim.Native.Nat.{ℕ, _+_, _*_}
 use mathlib.Core.Path.{_≡_, refl, sym, _∙_}
 use mathlib.Core.Logic.{_↔_}
 use mathlib.Core.List.{List}
@@ -11,14 +11,12 @@ use Rattle.search.specs.Search.{Among}
 use Rattle.search.proofs.Truth.{and-both, among-iff}
 use Rattle.search.proofs.Found.{some-both}
 use Rattle.order.specs.Closure.{PartialOrder}
-use Rattle.rolefile.specs.declared.Verdict.{Verdict}
 use Rattle.rolefile.specs.Said.{labels, roles, cards, assigned}
 use Rattle.policy.specs.Policy.{dominates, senior, may}
 use Rattle.policy.specs.Accepted.{ReadsUnder, WritesOver, Accepted}
-use Rattle.policy.specs.Image.{Loaded}
 use Rattle.policy.proofs.Levels.{reads-under-iff, writes-over-iff}
 use Rattle.monitor.specs.Calls.{unless}
-use Rattle.monitor.specs.Runs.{Call, opens, closes, takes, drops, reads, writes, number, run}
+use Rattle.monitor.specs.Runs.{Call, opens, closes, takes, drops, reads, writes, Start, loaded, number, run}
 use Rattle.monitor.specs.Places.{isFree}
 use Rattle.monitor.specs.Rules.{Session, Sessions, noSessions, entitledByFile, fittingByFile, givesByFile, openRule, closeRule, takeRule, dropRule, partRule, rule, sessions}
 use Rattle.monitor.specs.Granted.{OpenFor, Holds, MayOpen, OpenPlace, MayTake, MayDrop, MayUse, Granted}
@@ -153,9 +151,9 @@ rule-iff f a size cs (reads p o k n) = part-iff f cs 1 size p o k n
 rule-iff f a size cs (writes p o k bytes) = part-iff f cs 2 size p o k (length bytes)
 
 -- this call may be lent another store than the calls so far
-pub done-iff : (f : List ℕ) → Accepted f → (xs ys : List ℕ) (v : Verdict) → 65536 ≤ length xs → Loaded f v xs ys → (store : List ℕ) (cs : List Call) (lent : List ℕ) (c : Call)
-    → (number (record { state = run (record { state = ys; store = store }) cs .state; store = lent }) c ≡ 0) ↔ Granted f (length lent) cs c
-done-iff f a xs ys v enough load store cs lent c =
-    let e = answers f a xs ys v enough load store cs lent c in
-    let i = rule-iff f a (length lent) cs c in
+pub done-iff : {f : List ℕ} → Accepted f → (a : Start f) (store : List ℕ) (cs : List Call) (lent : List ℕ) (c : Call)
+    → (number (record { state = run (loaded a store) cs .state; store = lent }) c ≡ 0) ↔ Granted f (length lent) cs c
+done-iff {f} accepted a store cs lent c =
+    let e = answers accepted a store cs lent c in
+    let i = rule-iff f accepted (length lent) cs c in
     (λ h. i .0 (sym e ∙ h), λ g. e ∙ i .1 g)

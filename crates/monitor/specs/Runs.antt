@@ -1,6 +1,9 @@
 -- Runs of calls: each call on the state and store that the last one left, with the numbers, bytes and states of `Calls`. Assumes nothing.
-use Prim.Native.Nat.{ℕ}
+use Prim.Native.Nat.{ℕ, _≤_}
 use mathlib.Core.List.{List, [], _∷_}
+use lib.ListN.{length}
+use Rattle.rolefile.specs.declared.Verdict.{Verdict}
+use Rattle.policy.specs.Image.{Loaded}
 use Rattle.monitor.specs.Calls.{openNumber, openState, closeNumber, closeState, takeNumber, takeState, dropNumber, dropState}
 use Rattle.monitor.specs.Calls.{readNumber, partBytes, writeNumber, partStore}
 
@@ -17,6 +20,18 @@ pub data Call : Type 0 where
 pub record Memory : Type 0 where
   pub state : List ℕ
   pub store : List ℕ
+
+-- the state that one load of the file f left, whatever 65,536 bytes or more were there before
+pub record Start (f : List ℕ) : Type 0 where
+  pub before : List ℕ
+  pub enough : 65536 ≤ length before
+  pub verdict : Verdict
+  pub state : List ℕ
+  pub load : Loaded f verdict before state
+
+-- that state, and a store
+abbrev pub loaded : {f : List ℕ} → Start f → List ℕ → Memory
+loaded a store = record { state = a .state; store = store }
 
 unfoldable pub number : Memory → Call → ℕ
 number m (opens p u l) = openNumber (m .state) p u l

@@ -12,8 +12,8 @@ use lib.Dec.{eqb, leb}
 use borrow.Author.Tests.{le-leb}
 use Rattle.search.specs.Search.{Among}
 use Rattle.search.proofs.Truth.{among-iff, both, eqb-swap}
-use Rattle.roleset.specs.Row.{whole, member, added, unitedWhere, Placed, PlacedRows}
-use Rattle.roleset.proofs.Rows.{row-kept, other-kept, whole-true}
+use Rattle.roleset.specs.Row.{whole, member, added, unitedWhere, Copied, Placed, PlacedRows}
+use Rattle.roleset.proofs.Rows.{row-kept, other-kept, kept-both, whole-true}
 use Rattle.order.specs.Closure.{Relation, via, round, reflexive}
 use Rattle.order.specs.Table.{Rows, related, Tabled}
 use Rattle.order.proofs.Closure.{RowSet, rows-none, rows-more, rounds-none, rounds-more}
@@ -57,7 +57,7 @@ module _ (at : ℕ) (h : Relation) (xs : List ℕ) (fits : at + 2048 ≤ length 
       → ((b : ℕ) → Among 128 b → s b ≡ h (i + 1) b) → Tabled at (i + 1) h xs zs
   placing-more i s ys zs l long t p new = record {
     rows = λ m. rows-more 128 h (related xs at) i (related ys at) (related zs at) l (t .rows m) row;
-    rest = λ j o. p .rest j (λ m. let q = o (omega arith) in omega arith) ∙ t .rest j (λ m. let q = o m in omega arith);
+    rest = kept-both xs ys zs (omega arith) (t .rest) (p .rest);
     none = λ m. absurd (omega arith);
   }
     where
@@ -83,7 +83,7 @@ module _ (at : ℕ) (xs : List ℕ) (fits : at + 2048 ≤ length xs) where
       (or-comm (member xs (at + 16 * i) b) (eqb (i + 1) b))
 
   -- what a round of closing makes of the table, given the row `other` of thing k + 1
-  pub round-rows : (n k : ℕ) (ys other : List ℕ) → k < n → n ≤ 128 → ((r : ℕ) → member other 0 r ≡ (whole xs (at + 16 * k) && member xs (at + 16 * k) r))
+  pub round-rows : (n k : ℕ) (ys other : List ℕ) → k < n → n ≤ 128 → Copied xs (at + 16 * k) other
       → PlacedRows at n (λ i. unitedWhere xs (at + 16 * i) (k + 1) other) xs ys → Tabled at n (round e (k + 1)) xs ys
   round-rows n k ys other l m o p = record {
     rows = λ f. record {
@@ -98,6 +98,6 @@ module _ (at : ℕ) (xs : List ℕ) (fits : at + 2048 ≤ length xs) where
       → Tabled at n (via e k) xs ys → Tabled at n (round (related ys at) (k + 1)) ys zs → Tabled at n (via e (k + 1)) xs zs
   closing-more n k ys zs l m long t u = record {
     rows = λ f. rounds-more 128 n e k (related ys at) (related zs at) l m (t .rows f) (u .rows (omega arith));
-    rest = λ i o. u .rest i o ∙ t .rest i o;
+    rest = kept-both xs ys zs (omega arith) (t .rest) (u .rest);
     none = λ f. absurd (omega arith);
   }

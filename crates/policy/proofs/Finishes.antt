@@ -5,7 +5,7 @@ use mathlib.Core.Logic.{inr}
 use mathlib.Core.List.{List}
 use native.Mathlib.Omega.{arith}
 use Rattle.roleset.specs.Row.{rowOf, Kept}
-use Rattle.roleset.proofs.Rows.{row-kept}
+use Rattle.roleset.proofs.Rows.{row-kept, kept-both}
 use Rattle.rolefile.specs.declared.Line.{Line}
 use Rattle.rolefile.specs.Line.{fields}
 use Rattle.rolefile.specs.Section.{part}
@@ -20,16 +20,14 @@ use Rattle.policy.proofs.Builds.{word-stays}
 module _ (h : Line) (v w x y z : List ℕ) (first : (word w 0 ≡ h .a) × Kept 0 2 v w) (second : (word x 2 ≡ h .b) × Kept 2 4 w x)
     (third : (word y 4 ≡ h .c) × Kept 4 6 x y) (fourth : (word z 6 ≡ h .d) × Kept 6 8 y z) where
   pub four-words : Counting h v z
-  four-words = record {
+  four-words = let two : Kept 0 4 v x = kept-both v w x (omega arith) (first .1) (second .1) in let three : Kept 0 6 v y = kept-both v x y (omega arith) two (third .1) in record {
     counts = record {
       labels = word-stays w z 0 (λ i l m. fourth .1 i (λ n. omega arith) ∙ third .1 i (λ n. omega arith) ∙ second .1 i (λ n. omega arith)) ∙ first .0;
       roles = word-stays x z 2 (λ i l m. fourth .1 i (λ n. omega arith) ∙ third .1 i (λ n. omega arith)) ∙ second .0;
       users = word-stays y z 4 (λ i l m. fourth .1 i (λ n. omega arith)) ∙ third .0;
       cards = fourth .0;
     };
-    rest = λ i out.
-        let far = out (omega arith) in
-        fourth .1 i (λ l. far) ∙ third .1 i (λ l. omega arith) ∙ second .1 i (λ l. omega arith) ∙ first .1 i (λ l. omega arith);
+    rest = kept-both v y z (omega arith) three (fourth .1);
   }
 
 module _ (f : List ℕ) (q : Parts) (h : Line) (ready : Ready f q h) (xs ys zs p : List ℕ) (zeros : Zeros 4112 8208 xs)

@@ -1,7 +1,7 @@
 -- What is answered of a state and of a slice too short for one; and role flow, card by card, and as a table of role sets. Assumes nothing.
 use Prim.Native.Nat.{ℕ, _+_, _-_, _*_, _≤_, _<_}
 use mathlib.Core.Path.{_≡_, sym, _∙_}
-use mathlib.Core.Bool.{Bool, true, false, not, _&&_, cond, and-true, and-false, or-false}
+use mathlib.Core.Bool.{Bool, true, false, not, cond, and-true, and-false, or-false}
 use mathlib.Core.List.{List}
 use native.Mathlib.Omega.{arith}
 use native.Mathlib.Nat.{add-sub-cancel, zero-add}
@@ -12,7 +12,7 @@ use borrow.Author.Tests.{le-leb, lt-leb, leb-false, not-true, eq-eqb, ne-eqb}
 use Rattle.search.specs.Search.{Among, Lowest, some, first}
 use Rattle.search.proofs.Truth.{and-iff}
 use Rattle.search.proofs.Found.{first-agree, first-none, first-lowest, first-within}
-use Rattle.roleset.specs.Row.{whole, member, removed, united, memberAfter, nextMember, Placed}
+use Rattle.roleset.specs.Row.{whole, member, removed, united, memberAfter, nextMember, Copied, Placed}
 use Rattle.roleset.proofs.Rows.{whole-true}
 use Rattle.order.specs.Closure.{Relation, path, loop, circle}
 use Rattle.order.specs.Table.{related, Tabled}
@@ -56,7 +56,7 @@ module _ (h : Relation) (t u : List ℕ) (i : ℕ) (long : 2048 ≤ length t) (s
 
 -- the next role of a row that was taken by value
 pub next-taken : (xs row : List ℕ) (at i : ℕ) {w : ℕ} → at + 16 ≤ length xs → 16 ≤ length row
-    → ((r : ℕ) → member row 0 r ≡ (whole xs at && member xs at r)) → w ≡ cond (whole row 0) (nextMember row 0 i) 0 → w ≡ nextMember xs at i
+    → Copied xs at row → w ≡ cond (whole row 0) (nextMember row 0 i) 0 → w ≡ nextMember xs at i
 next-taken xs row at i l m same e =
     e ∙ rw (whole-true row 0 m) (first-agree (memberAfter row 0 i) (memberAfter xs at i) 128 (λ r w. rw (same r, whole-true xs at l)))
 
@@ -103,7 +103,7 @@ module _ {t u xs : List ℕ} {o i w : ℕ} (turn : Turn t u xs o i w) where
     writer-ahead = leb-false w i (not-true (leb w i) (and-iff (not (leb w i)) (Writes w) .0 (lowest .holds) .0))
 
     pub writer-more : {v : List ℕ} (readers : List ℕ) → Placed (16 * (w - 1)) (united u (16 * (w - 1)) readers) u v
-        → ((r : ℕ) → member readers 0 r ≡ (whole xs (readersAt + 16 * o) && member xs (readersAt + 16 * o) r)) → Tabled 0 w Past t v
+        → Copied xs (readersAt + 16 * o) readers → Tabled 0 w Past t v
     writer-more {v} readers placed read =
         let ahead = writer-ahead in
         let within = writer-within in

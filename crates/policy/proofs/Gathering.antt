@@ -1,7 +1,7 @@
 -- The roles that have a card of a label, gathered card by card. Assumes nothing.
 use Prim.Native.Nat.{ℕ, zero, suc, _+_, _*_, _≤_}
 use mathlib.Core.Path.{_≡_, refl, sym}
-use mathlib.Core.Bool.{Bool, true, false, _&&_, _||_, or-false}
+use mathlib.Core.Bool.{Bool, true, false, _||_, or-false}
 use mathlib.Core.List.{List}
 use native.Mathlib.Nat.{add-sub-cancel}
 use native.Mathlib.Omega.{arith}
@@ -9,7 +9,7 @@ use lib.ListN.{length, getD}
 use borrow.Author.Tests.{ne-eqb}
 use Rattle.search.specs.Search.{Among, some}
 use Rattle.search.proofs.Found.{some-more, some-yet, some-agree}
-use Rattle.roleset.specs.Row.{rowOf, whole, member, united, Placed}
+use Rattle.roleset.specs.Row.{rowOf, member, united, Copied, Placed}
 use Rattle.roleset.proofs.Rows.{whole-true}
 use Rattle.order.specs.Closure.{Relation}
 use Rattle.order.specs.Bound.{lub}
@@ -28,7 +28,7 @@ module _ (xs : List ℕ) (at o label : ℕ) (e : label ≡ getD xs (cardLabelsAt
   brings-none g l r ne = rw (byte-is, ne-eqb label l ne) (sym (or-false (member g (rowOf 0 l) r)))
 
   pub brings-row : (g h other : List ℕ) → length g ≡ 512 → Among 32 label → at + 16 * o + 16 ≤ length xs
-      → ((r : ℕ) → member other 0 r ≡ (whole xs (at + 16 * o) && member xs (at + 16 * o) r))
+      → Copied xs (at + 16 * o) other
       → Placed (rowOf 0 label) (united g (rowOf 0 label) other) g h
       → (l r : ℕ) → Among 32 l → member h (rowOf 0 l) r ≡ (member g (rowOf 0 l) r || brings xs at l r (o + 1))
   brings-row g h other long v fits row p l r w =

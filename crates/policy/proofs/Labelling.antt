@@ -12,6 +12,7 @@ use borrow.Author.Tests.{eqb-true, not-false, le-leb, lt-leb, ne-eqb}
 use Rattle.search.specs.Search.{Among, first}
 use Rattle.search.proofs.Found.{first-none, first-agree}
 use Rattle.roleset.specs.Row.{Kept}
+use Rattle.roleset.proofs.Rows.{kept-both}
 use Rattle.rolefile.specs.declared.Verdict.{Verdict}
 use Rattle.rolefile.specs.Line.{H, U, O, lines}
 use Rattle.rolefile.specs.Form.{fine, refusal, header, firstLimit, secondLimit, count, about, unlabelled, linesVerdict, unlabelledVerdict}
@@ -136,7 +137,7 @@ tables-of f q e laid xs ys zs clear u o =
           cardLabelsAt 512 zs (counts .cards)
           (λ x w. o .bytes x w
           ∙ rw (u .rest (cardLabelsAt + (x - 1)) (λ l. omega arith), clear (cardLabelsAt + (x - 1)) (omega arith) (omega arith)));
-      rest = λ i out. o .rest i (λ l. out (omega arith)) ∙ u .rest i (λ l. omega (arith, out l));
+      rest = kept-both xs ys zs (omega arith) (u .rest) (o .rest);
     }
 
 -- what the searches find, and what is answered

@@ -12,6 +12,7 @@ use lib.Seq.{getD-set-same, getD-set-other}
 use borrow.Author.Tests.{eq-eqb, ne-eqb}
 use Rattle.search.specs.Search.{Among}
 use Rattle.search.proofs.Found.{among-next}
+use Rattle.roleset.proofs.Rows.{kept-both}
 use Rattle.order.specs.Table.{marks, mark}
 use Rattle.order.proofs.Stored.{Upto}
 use Rattle.rolefile.specs.Section.{one, two}
@@ -52,5 +53,5 @@ module _ (t : List (List Bool)) (xs : List ℕ) where
         let s : dominanceAt + (32 * i + (b - 1)) ≡ dominanceAt + 32 * i + (b - 1) = omega arith in
         among-next (λ c. getD zs (markAt c b) 0 ≡ cond (mark t c b) 1 0) i
         (λ c u. kept (markAt c b) (λ m. omega arith) ∙ p .rows c b u v) (rw (add-sub-cancel i 1, s) (row .bytes b v)) a w;
-    rest = λ k o. kept k (λ m. omega (arith, o (omega arith))) ∙ p .rest k (λ m. omega (arith, o m));
+    rest = kept-both xs ys zs (omega arith) (p .rest) kept;
   }

@@ -9,7 +9,7 @@ use lib.ListN.{length, set}
 use lib.Seq.{getD-set-same, getD-set-other}
 use borrow.Author.Tests.{eq-eqb, ne-eqb}
 use Rattle.search.specs.Search.{Among}
-use Rattle.roleset.proofs.Rows.{Written, kept-more}
+use Rattle.roleset.proofs.Rows.{Written, kept-both, kept-more}
 use Rattle.rolefile.specs.Section.{one, two}
 use Rattle.policy.specs.Tables.{byteOf, Bytes, noted, afterNote, notes}
 
@@ -52,5 +52,5 @@ module _ (at size : ℕ) (p xs : List ℕ) where
   unfolding notes
   notes-more i ys zs b n = record {
     bytes = λ x w. n .bytes x w ∙ rw (b .bytes x w, add-one);
-    rest = λ k o. n .rest k o ∙ b .rest k o;
+    rest = kept-both xs ys zs (omega arith) (b .rest) (n .rest);
   }

@@ -13,7 +13,7 @@ use Rattle.search.specs.Search.{among, Among}
 use Rattle.search.proofs.Truth.{and-iff, and-when, among-iff, false-iff, same, eqb-swap}
 use Rattle.search.proofs.Found.{some-more, some-yet}
 use Rattle.roleset.specs.Row.{member, rowOf, added, joined, Kept, Placed}
-use Rattle.roleset.proofs.Rows.{row-kept, other-kept, whole-true, zero-row}
+use Rattle.roleset.proofs.Rows.{row-kept, other-kept, kept-both, whole-true, zero-row}
 use Rattle.order.specs.Closure.{Relation}
 use Rattle.rolefile.specs.Section.{one, two, three}
 use Rattle.order.proofs.Closure.{Agree}
@@ -63,7 +63,7 @@ pub related-more : {at size : ℕ} {said more : Relation} {xs ys zs : List ℕ} 
     → Related at size (λ x r. said x r || more x r) xs zs
 related-more {at} {size} {said} {more} {xs} {ys} {zs} t u = record {
   rows = unites-more at size said xs more ys zs (t .rows) (u .rows);
-  rest = λ i out. u .rest i out ∙ t .rest i out;
+  rest = kept-both xs ys zs (omega arith) (t .rest) (u .rest);
 }
 
 -- a role put into the row of thing x
@@ -113,7 +113,7 @@ granted-as {said} {told} {xs} {ys} e t = record {
 pub granted-more : {said more : Said} {xs ys zs : List ℕ} → GrantedRows said xs ys → GrantedRows more ys zs → GrantedRows (λ d o r. said d o r || more d o r) xs zs
 granted-more {said} {more} {xs} {ys} {zs} t u = record {
   rows = λ d m. unites-more (tableOf d) 512 (said d) xs (more d) ys zs (t .rows d m) (u .rows d m);
-  rest = λ i out. u .rest i out ∙ t .rest i out;
+  rest = kept-both xs ys zs (omega arith) (t .rest) (u .rest);
 }
 
 -- a mode is 1 or 2

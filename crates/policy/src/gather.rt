@@ -1,6 +1,5 @@
 // Levels: the labels that a role may read or write are gathered, and bounded.
 ghost use mathlib.Core.Path.{_≡_};
-ghost use mathlib.Core.Bool.{_||_};
 ghost use Prim.Native.Nat.{ℕ, _+_, _≤_, _<_};
 ghost use lib.ListN.{length};
 ghost use Rattle.search.specs.Search.{Among, some};
@@ -8,12 +7,12 @@ ghost use Rattle.roleset.specs.Row.{member, rowOf};
 ghost use Rattle.order.specs.Bound.{converse};
 ghost use Rattle.order.specs.Table.{marks, mark, FirstThings};
 ghost use Rattle.policy.specs.Policy.{level, levelNumber};
-ghost use Rattle.policy.specs.Tables.{brings, gathered, Bytes};
+ghost use Rattle.policy.specs.Tables.{brings, gathered, Unites, Bytes};
 
 // Joins the row of card o + 1, of the table at `at`, into the row of its label.
 fn gather_one(g: &mut [u8; 512], s: &[u8], at: usize, o: usize)
     requires { ⌜ (at + 8192 ≤ length (now s)) × (1808 ≤ length (now s)) × (o < 512) ⌝ }
-    ensures { λ _. ⌜ ((l r : ℕ) → Among 32 l → Among 128 r → member (now (g .exit)) (rowOf 0 l) r ≡ (member (now (g .entry)) (rowOf 0 l) r || brings (now (s .entry)) at l r (o + 1))) ⌝ }
+    ensures { λ _. ⌜ Unites 0 32 (λ l r. brings (now (s .entry)) at l r (o + 1)) (now (g .entry)) (now (g .exit)) ⌝ }
 {
     let label = s[1296 + o] as usize;
     if !search::among(32, label as u64) {

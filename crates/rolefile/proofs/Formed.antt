@@ -142,8 +142,11 @@ module _ (f : List ℕ) (k : ℕ) where
         λ o. eq-eqb (count (lines f) (about f k x)) 1 (t .1 (o .line, (o .inside, o .tells, o .only))),
       )
 
-  unlabelled-decides : (n place : ℕ) → Decides (found (unlabelled f k n) (refusal 6 place (unlabelled f k n)))
-      (OneEach f k n) (λ v. (x : ℕ) × LowestUnlabelled f k n x × (v ≡ refusal 6 place x))
+  -- why a file is refused for a thing that does not have one line
+  abbrev UnlabelledRefusal : ℕ → ℕ → Verdict → Type 0
+  UnlabelledRefusal n place v = (x : ℕ) × LowestUnlabelled f k n x × (v ≡ refusal 6 place x)
+
+  unlabelled-decides : (n place : ℕ) → Decides (found (unlabelled f k n) (refusal 6 place (unlabelled f k n))) (OneEach f k n) (UnlabelledRefusal n place)
   unfolding unlabelled
   unlabelled-decides n place = search-decides n bad (first-none-of bad n hasNot) has hasNot (refusal 6 place) (λ x. omega arith)
     where
@@ -164,8 +167,7 @@ module _ (f : List ℕ) (k : ℕ) where
 abbrev pub FormRefusal : List ℕ → Verdict → Type 0
 FormRefusal f =
     Else (LinesRefusal f) (Sized f × GoodLines f)
-    (Else (λ v. (u : ℕ) × LowestUnlabelled f U (users f) u × (v ≡ refusal 6 1 u)) (OneEach f U (users f))
-    (λ v. (o : ℕ) × LowestUnlabelled f O (cards f) o × (v ≡ refusal 6 2 o)))
+    (Else (UnlabelledRefusal f U (users f) 1) (OneEach f U (users f)) (UnlabelledRefusal f O (cards f) 2))
 
 pub form-decides : (f : List ℕ) → Decides (formVerdict f) (WellFormed f) (FormRefusal f)
 unfolding formVerdict unlabelledVerdict

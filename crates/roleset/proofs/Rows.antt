@@ -108,6 +108,16 @@ no-row e = unwritten (λ l. absurd (both (le-leb _ _ l) e))
 pub placed-as : {at : ℕ} {s t : ℕ → Bool} {xs ys : List ℕ} → ((r : ℕ) → s r ≡ t r) → Placed at s xs ys → Placed at t xs ys
 placed-as e p = record { row = λ l r. p .row l r ∙ e r; rest = p .rest; none = p .none }
 
+-- ---- bytes kept
+
+-- outside a part, by two changes inside it
+pub kept-both : {a b c d e g : ℕ} (xs ys zs : List ℕ) → (a ≤ c) × (d ≤ b) × (a ≤ e) × (g ≤ b) → Kept c d xs ys → Kept e g ys zs → Kept a b xs zs
+kept-both xs ys zs w k h i o = h i (λ n. omega (arith, o (omega arith))) ∙ k i (λ n. omega (arith, o (omega arith)))
+
+-- what stands outside a part is kept by a store in it
+pub kept-more : (a b i v : ℕ) (xs ys : List ℕ) → a ≤ i → i < b → Kept a b xs ys → Kept a b xs (set ys i v)
+kept-more a b i v xs ys l m k j o = getD-set-other ys i j v 0 (λ e. omega (arith, o (omega arith))) ∙ k j o
+
 -- ---- rows one after the other
 
 pub rows-unwritten : {at n : ℕ} {s : ℕ → ℕ → Bool} {xs : List ℕ}
@@ -124,13 +134,9 @@ rows-more {at} {i} {s} {t} {xs} {ys} {zs} fits long p q new = record {
   rows = λ l. below-more (λ k. (r : ℕ) → member zs (at + 16 * k) r ≡ s k r) i
       (λ k m r. row-kept ys zs (q .rest) (at + 16 * k) r (inl (omega arith)) ∙ p .rows (omega arith) k m r)
       (λ r. q .row (omega arith) r ∙ new r);
-  rest = λ j o. q .rest j (λ m. let e = o (omega arith) in omega arith) ∙ p .rest j (λ m. let e = o m in omega arith);
+  rest = kept-both xs ys zs (omega arith) (p .rest) (q .rest);
   none = λ l. absurd (omega arith);
 }
-
--- what stands outside a part is kept by a store in it
-pub kept-more : (a b i v : ℕ) (xs ys : List ℕ) → a ≤ i → i < b → Kept a b xs ys → Kept a b xs (set ys i v)
-kept-more a b i v xs ys l m k j o = getD-set-other ys i j v 0 (λ e. omega (arith, o (omega arith))) ∙ k j o
 
 -- one byte is written, in which the bit of one role becomes b
 module _ (xs : List ℕ) (at role byte : ℕ) (b : Bool) (fits : at + 16 ≤ length xs) (w : Among 128 role)

@@ -159,6 +159,10 @@ module _ (p : ℕ → Bool) where
   pub some-still : (i : ℕ) → some i p ≡ false → p (i + 1) ≡ false → some (i + 1) p ≡ false
   some-still i e h = some-more i ∙ rw (e, h)
 
+  -- all n things have been looked at in vain
+  pub some-vain : {i n : ℕ} → i ≡ n → some i p ≡ false → false ≡ some n p
+  some-vain all e = sym (rw all at e)
+
   pub every-more : (i : ℕ) → every (i + 1) p ≡ (every i p && p (i + 1))
   unfolding every
   every-more i = rw add-one
@@ -186,6 +190,9 @@ module _ (p : ℕ → Bool) where
   pub first-more : (i : ℕ) → first i p ≡ 0 → p (i + 1) ≡ false → first (i + 1) p ≡ 0
   unfolding first
   first-more i e h = rw (add-one, e, rw add-one at h)
+
+  pub first-vain : {i n : ℕ} → i ≡ n → first i p ≡ 0 → 0 ≡ first n p
+  first-vain all e = sym (rw all at e)
 
 -- a search sees only what p says of the things 1 to n
 module _ (p q : ℕ → Bool) where

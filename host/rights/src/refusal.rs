@@ -46,7 +46,7 @@ pub fn line(file: &[u8], number: u64, place: usize) -> Option<&[u8]> {
         .then(|| &file[LINE_LENGTH * (place - 1)..LINE_LENGTH * place - 1])
 }
 
-/// A byte that can't be shown as `?`.
+/// A byte as the reply shows it: itself, or `?` where it is none of the printable ones.
 fn shown_byte(byte: u8) -> char {
     match char::from(byte) {
         ' ' => ' ',

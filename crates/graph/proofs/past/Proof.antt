@@ -1,13 +1,13 @@
 -- A search among the first n things.
 use Prim.Native.Nat.{ℕ, _-_, _≤_}
-use mathlib.Core.Path.{_≡_, sym}
+use mathlib.Core.Path.{_≡_}
 use mathlib.Core.Bool.{Bool, false, _&&_}
 use mathlib.Core.List.{List}
 use native.Mathlib.Omega.{arith}
 use borrow.Author.Needs.{needs}
 use denote.Ref.{now}
 use Rattle.search.specs.Search.{some}
-use Rattle.search.proofs.Found.{some-found, some-still, some-yet}
+use Rattle.search.proofs.Found.{some-found, some-still, some-vain, some-yet}
 use Rattle.order.specs.Table.{related}
 use Rattle.graph.specs.Graph.{past}
 use Rattle.graph.proofs.past.Statement.{statement}
@@ -44,10 +44,7 @@ loop-again c =
 
 returns-2 : tie.Need-returns-2 Inv-loop μ-loop
 unfolding past
-returns-2 c =
-    let w = c .before .loop in
-    let all : w .i ≡ c .before .before .before .before .args .n = omega arith in
-    sym (rw all at (w .inv .1))
+returns-2 c = some-vain _ (omega arith) (c .before .loop .inv .1)
 
 pub past-spec : {M : Type 1} → statement M
 past-spec =

@@ -6,7 +6,7 @@ use native.Mathlib.Omega.{arith}
 use borrow.Author.Needs.{needs}
 use denote.Ref.{now}
 use Rattle.search.specs.Search.{some}
-use Rattle.search.proofs.Found.{some-yet, some-found, some-still}
+use Rattle.search.proofs.Found.{some-yet, some-found, some-still, some-vain}
 use Rattle.monitor.specs.Session.{rolesIn}
 use Rattle.monitor.specs.Rights.{roleCould, could}
 use Rattle.monitor.proofs.rights.could.Statement.{statement}
@@ -39,11 +39,9 @@ loop-again c =
 returns-2 : tie.Need-returns-2 Inv-loop μ-loop
 unfolding could
 returns-2 c =
-    let a = c .before .before .before .before .args in
     let w = c .before .loop in
     let n = w .inv .0 in
-    let all : w .i ≡ rolesIn (now (a .s)) = omega arith in
-    sym (rw all at (w .inv .2))
+    some-vain _ (omega arith) (w .inv .2)
 
 pub could-spec : {M : Type 1} → statement M
 could-spec =

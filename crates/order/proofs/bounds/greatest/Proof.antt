@@ -8,7 +8,7 @@ use native.Mathlib.Omega.{arith}
 use borrow.Author.Needs.{needs}
 use denote.Ref.{now}
 use Rattle.search.specs.Search.{first}
-use Rattle.search.proofs.Found.{first-yet, first-found, first-more}
+use Rattle.search.proofs.Found.{first-yet, first-found, first-more, first-vain}
 use Rattle.order.specs.Bound.{upper, converse, isLeast, least}
 use Rattle.order.specs.Table.{marks, mark}
 use Rattle.order.proofs.bounds.greatest.Statement.{statement}
@@ -39,10 +39,7 @@ loop-again c =
 
 returns-2 : tie.Need-returns-2 Inv-loop μ-loop
 unfolding least
-returns-2 c =
-    let w = c .before .loop in
-    let q : w .i ≡ 32 = omega arith in
-    sym (rw q at (w .inv .1))
+returns-2 c = first-vain _ (omega arith) (c .before .loop .inv .1)
 
 pub greatest-spec : {M : Type 1} → statement M
 greatest-spec =

@@ -11,7 +11,7 @@ use denote.Ref.{now}
 use lib.Dec.{leb, eqb}
 use lib.ListN.{getD}
 use Rattle.search.specs.Search.{first}
-use Rattle.search.proofs.Found.{first-none, first-found, first-more}
+use Rattle.search.proofs.Found.{first-none, first-found, first-more, first-vain}
 use Rattle.order.specs.Bound.{converse, withoutBound, partnerWithoutBound, lub, least, pair, upper}
 use Rattle.order.specs.Table.{mark, marks}
 use Rattle.order.proofs.Bound.{least-cut, upper-pair}
@@ -70,10 +70,7 @@ loop-again c =
 
 returns-2 : tie.Need-returns-2 Inv-loop μ-loop
 unfolding partnerWithoutBound
-returns-2 c =
-    let w = c .before .loop in
-    let q : w .j ≡ c .before .before .before .before .before .args .m = omega arith in
-    sym (rw q at (w .inv .2))
+returns-2 c = first-vain _ (omega arith) (c .before .loop .inv .2)
 
 pub partner-spec : {M : Type 1} → statement M
 partner-spec =

@@ -1,10 +1,10 @@
 -- A search among the first n things.
 use Prim.Native.Nat.{_≤_, _-_, min}
-use mathlib.Core.Path.{_≡_, sym}
+use mathlib.Core.Path.{_≡_}
 use native.Mathlib.Nat.{add-sub-cancel}
 use native.Mathlib.Omega.{arith}
 use borrow.Author.Needs.{needs}
-use Rattle.search.proofs.Found.{first-yet, first-found, first-more}
+use Rattle.search.proofs.Found.{first-yet, first-found, first-more, first-vain}
 use Rattle.order.specs.Table.{mark}
 use Rattle.order.specs.Closure.{toItself, loop}
 use Rattle.order.proofs.marks.lowest_loop.Statement.{statement}
@@ -29,10 +29,7 @@ loop-again c =
     (search needs, search needs, first-more (toItself (mark t)) (w .i) (w .inv .2) (simp (add-sub-cancel (w .i) 1) (c .if1 .left)))
 
 returns-2 : tie.Need-returns-2 Inv-loop μ-loop
-returns-2 c =
-    let w = c .before .loop in
-    let q : w .i ≡ min (c .before .before .before .args .n) 32 = omega arith in
-    sym (rw q at (w .inv .2))
+returns-2 c = first-vain _ (omega arith) (c .before .loop .inv .2)
 
 pub lowest-loop-spec : {M : Type 1} → statement M
 lowest-loop-spec =

@@ -7,7 +7,7 @@ use borrow.Author.Tests.{le-leb, leb-true}
 use denote.Ref.{now}
 use lib.ListN.{length}
 use Rattle.search.proofs.Truth.{passed, failed, answered}
-use Rattle.search.proofs.Found.{first-yet, first-found, first-more}
+use Rattle.search.proofs.Found.{first-yet, first-found, first-more, first-vain}
 use Rattle.order.specs.Closure.{toItself, loop}
 use Rattle.order.specs.Table.{related}
 use Rattle.order.proofs.Placing.{row-tested}
@@ -42,9 +42,7 @@ loop-again c =
 returns-3 : tie.Need-returns-3 Inv-loop μ-loop
 returns-3 c =
     let w = c .before .loop in
-    let a = c .before .before .before .before .before .before .args in
-    let q : w .i ≡ min (a .n) 128 = omega arith in
-    answered (le-leb _ _ (w .inv .2)) (sym (rw q at (w .inv .3)))
+    answered (le-leb _ _ (w .inv .2)) (first-vain _ (omega arith) (w .inv .3))
 
 pub lowest-loop-spec : {M : Type 1} → statement M
 lowest-loop-spec =

@@ -1,6 +1,6 @@
 -- A search among the first cards, for two roles that differ.
 use Prim.Native.Nat.{ℕ, _≤_, _-_}
-use mathlib.Core.Path.{_≡_, sym}
+use mathlib.Core.Path.{_≡_}
 use mathlib.Core.Bool.{Bool, false, _&&_}
 use mathlib.Core.List.{List}
 use lib.ListN.{length}
@@ -8,7 +8,7 @@ use native.Mathlib.Omega.{arith}
 use borrow.Author.Needs.{needs}
 use denote.Ref.{now}
 use Rattle.search.specs.Search.{some}
-use Rattle.search.proofs.Found.{some-found, some-still, some-yet}
+use Rattle.search.proofs.Found.{some-found, some-still, some-vain, some-yet}
 use Rattle.policy.specs.Tables.{cardsUpTo, isState, stateSize, flowsByCard, flowing}
 use Rattle.policy.proofs.Flowing.{no-state, a-state, of-state, flow-self, flow-other}
 use Rattle.policy.proofs.flow.flows.Statement.{statement}
@@ -59,9 +59,7 @@ loop-again c =
 returns-4 : tie.Need-returns-4 Inv-loop μ-loop
 returns-4 c =
     let a = c .before .before .before .before .before .before .args in
-    let w = c .before .loop in
-    let all : w .o ≡ cardsUpTo (now (a .s)) = omega arith in
-    found (now (a .s)) (a .from) (a .to) (search needs) _ (c .before .before .before .if2 .left) (sym (rw all at (w .inv .2)))
+    found (now (a .s)) (a .from) (a .to) (search needs) _ (c .before .before .before .if2 .left) (some-vain _ (omega arith) (c .before .loop .inv .2))
 
 pub flows-spec : {M : Type 1} → statement M
 flows-spec =

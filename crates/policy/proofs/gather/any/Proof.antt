@@ -1,13 +1,13 @@
 -- A search among the first n things.
 use Prim.Native.Nat.{_≤_, _-_}
-use mathlib.Core.Path.{_≡_, sym}
+use mathlib.Core.Path.{_≡_}
 use mathlib.Core.Bool.{false}
 use native.Mathlib.Nat.{add-sub-cancel}
 use native.Mathlib.Omega.{arith}
 use borrow.Author.Needs.{needs}
 use denote.Ref.{now}
 use Rattle.search.specs.Search.{some}
-use Rattle.search.proofs.Found.{some-found, some-still, some-yet}
+use Rattle.search.proofs.Found.{some-found, some-still, some-vain, some-yet}
 use Rattle.order.specs.Table.{marks}
 use Rattle.policy.proofs.gather.any.Statement.{statement}
 use Rattle.policy.proofs.gather.any.Tie as tie
@@ -31,10 +31,7 @@ loop-again c =
     (search needs, some-still (marks s) (w .i) (w .inv .1) (rw (add-sub-cancel (w .i) 1) (c .if1 .left)))
 
 returns-2 : tie.Need-returns-2 Inv-loop μ-loop
-returns-2 c =
-    let w = c .before .loop in
-    let q : w .i ≡ c .before .before .args .n = omega arith in
-    sym (rw q at (w .inv .1))
+returns-2 c = some-vain _ (omega arith) (c .before .loop .inv .1)
 
 pub any-spec : {M : Type 1} → statement M
 any-spec =

@@ -1,11 +1,11 @@
 -- A search among the first n things.
 use Prim.Native.Nat.{_≤_, _-_}
-use mathlib.Core.Path.{_≡_, sym}
+use mathlib.Core.Path.{_≡_}
 use native.Mathlib.Nat.{add-sub-cancel}
 use native.Mathlib.Omega.{arith}
 use borrow.Author.Needs.{needs}
 use Rattle.search.specs.Search.{first}
-use Rattle.search.proofs.Found.{first-yet, first-found, first-more}
+use Rattle.search.proofs.Found.{first-yet, first-found, first-more, first-vain}
 use Rattle.policy.specs.Tables.{unlabelledIn}
 use Rattle.policy.proofs.labels.lowest_unlabelled.Statement.{statement}
 use Rattle.policy.proofs.labels.lowest_unlabelled.Tie as tie
@@ -29,10 +29,7 @@ loop-again c =
     (search needs, first-more (unlabelledIn (a .s .now) (a .at)) (w .i) (w .inv .1) (simp (add-sub-cancel (w .i) 1) (c .if1 .left)))
 
 returns-2 : tie.Need-returns-2 Inv-loop μ-loop
-returns-2 c =
-    let w = c .before .loop in
-    let q : w .i ≡ c .before .before .args .n = omega arith in
-    sym (rw q at (w .inv .1))
+returns-2 c = first-vain _ (omega arith) (c .before .loop .inv .1)
 
 pub lowest-unlabelled-spec : {M : Type 1} → statement M
 lowest-unlabelled-spec =

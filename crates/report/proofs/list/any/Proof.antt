@@ -6,7 +6,7 @@ use native.Mathlib.Omega.{arith}
 use borrow.Author.Needs.{needs}
 use denote.Ref.{now}
 use Rattle.search.specs.Search.{some}
-use Rattle.search.proofs.Found.{some-yet, some-found, some-still}
+use Rattle.search.proofs.Found.{some-yet, some-found, some-still, some-vain}
 use Rattle.roleset.specs.Row.{member}
 use Rattle.report.specs.Lists.{sizeOf, listed}
 use Rattle.report.proofs.list.any.Statement.{statement}
@@ -37,11 +37,9 @@ loop-again c =
 
 returns-2 : tie.Need-returns-2 Inv-loop μ-loop
 returns-2 c =
-    let a = c .before .before .before .before .args in
     let w = c .before .loop in
     let n = w .inv .0 in
-    let all : w .i ≡ sizeOf (now (a .s)) (a .list) = omega arith in
-    sym (rw all at (w .inv .2))
+    some-vain _ (omega arith) (w .inv .2)
 
 pub any-spec : {M : Type 1} → statement M
 any-spec =
