@@ -115,9 +115,8 @@ fn line_start(prefix: &[u8], a: u64, out: &mut [u8], at: usize) -> usize
     requires { ⌜ a < 100000 ⌝ }
     ensures { λ r. ⌜ Puts (graph.lineStart (now (prefix .entry)) a) at (now (out .entry)) r (now (out .exit)) ⌝ }
 {
-    let mut used = text::put(out, at, b"    ");
-    used = text::put(out, used, prefix);
-    text::number(out, used, a)
+    let used = text::put(out, at, b"    ");
+    text::number_after(out, used, prefix, a)
 }
 
 // Puts a line's end, of what is red or of what is not.
@@ -136,8 +135,7 @@ fn node(prefix: &[u8], red: bool, a: u64, out: &mut [u8], at: usize) -> usize
     ensures { λ r. ⌜ Puts (graph.node (now (prefix .entry)) red a) at (now (out .entry)) r (now (out .exit)) ⌝ }
 {
     let mut used = line_start(prefix, a, out, at);
-    used = text::put(out, used, b" [label=\"");
-    used = text::number(out, used, a);
+    used = text::number_after(out, used, b" [label=\"", a);
     ending(red, b"\", color=red];\n", b"\"];\n", out, used)
 }
 
@@ -163,8 +161,7 @@ fn edge(prefix: &[u8], a: u64, b: u64, out: &mut [u8], at: usize) -> usize
 {
     let mut used = line_start(prefix, a, out, at);
     used = text::put(out, used, b" -> ");
-    used = text::put(out, used, prefix);
-    text::number(out, used, b)
+    text::number_after(out, used, prefix, b)
 }
 
 // Puts the edge from a up to b, where there is one.

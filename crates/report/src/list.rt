@@ -1,9 +1,7 @@
-// Numbers after a text, and lists of numbers as ranges.
+// Numbers in columns after a word, and lists of numbers as ranges.
 ghost use mathlib.Core.Path.{_≡_};
 ghost use Prim.Native.Nat.{_≤_, _<_};
-ghost use mathlib.Core.List.{_++_};
 ghost use lib.ListN.{length};
-ghost use Rattle.rolefile.specs.Decimal.{digits};
 ghost use Rattle.search.specs.Search.{some};
 ghost use Rattle.roleset.specs.Row.{member};
 ghost use Rattle.text.specs.Text.{Puts};
@@ -80,15 +78,6 @@ fn any(s: &[u8], list: Listed, user: u64, roles: [u8; 16]) -> bool
     false
 }
 
-// Puts a number after a text.
-pub fn number_after(before: &[u8], k: u64, out: &mut [u8], at: usize) -> usize
-    requires { ⌜ k < 100000 ⌝ }
-    ensures { λ r. ⌜ Puts (now (before .entry) ++ digits k) at (now (out .entry)) r (now (out .exit)) ⌝ }
-{
-    let end = text::put(out, at, before);
-    text::number(out, end, k)
-}
-
 // Puts a number in five columns after a word.
 pub fn head(word: &[u8], n: u64, out: &mut [u8], at: usize) -> usize
     requires { ⌜ n < 100000 ⌝ }
@@ -115,12 +104,12 @@ fn piece(
         return at;
     }
     if !stands(s, list, user, roles, k - 1) {
-        return number_after(b" ", k, out, at);
+        return text::number_after(out, at, b" ", k);
     }
     if stands(s, list, user, roles, k + 1) {
         return at;
     }
-    number_after(b"-", k, out, at)
+    text::number_after(out, at, b"-", k)
 }
 
 // Puts the ranges of what stands on the list.

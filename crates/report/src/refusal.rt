@@ -1,7 +1,6 @@
 // The report on a file that is refused: the number, its place, what it means, and where the place is
 // a line, that line.
 use super::list::head;
-use super::list::number_after;
 ghost use mathlib.Core.Path.{_≡_};
 ghost use mathlib.Core.List.{map};
 ghost use Prim.Native.Nat.{_≤_, _<_};
@@ -139,9 +138,9 @@ fn place_rows(number: u64, first: u64, second: u64, out: &mut [u8]) -> usize
     requires { ⌜ (number < 100000) × (first < 100000) × (second < 100000) ⌝ }
     ensures { λ r. ⌜ Puts (refusal.placeRows number first second) 0 (now (out .entry)) r (now (out .exit)) ⌝ }
 {
-    let mut used = number_after(b"refused     number     ", number, out, 0);
-    used = number_after(b"\n            place      ", first, out, used);
-    used = number_after(b" ", second, out, used);
+    let mut used = text::number_after(out, 0, b"refused     number     ", number);
+    used = text::number_after(out, used, b"\n            place      ", first);
+    used = text::number_after(out, used, b" ", second);
     text::put(out, used, b"\n")
 }
 

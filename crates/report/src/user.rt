@@ -2,7 +2,6 @@
 use super::list::Listed;
 use super::list::head;
 use super::list::list_row;
-use super::list::number_after;
 ghost use mathlib.Core.Path.{_≡_};
 ghost use Prim.Native.Nat.{ℕ, _≤_, _<_};
 ghost use lib.ListN.{length, take};
@@ -19,7 +18,7 @@ fn clearance_line(s: &[u8], user: u64, out: &mut [u8], at: usize) -> usize
 {
     let named = head(b"user ", user, out, at);
     let clearance = monitor::review::clearance(s, user);
-    let told = number_after(b"  clearance  ", clearance, out, named);
+    let told = text::number_after(out, named, b"  clearance  ", clearance);
     text::put(out, told, b"\n")
 }
 

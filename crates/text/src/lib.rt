@@ -3,6 +3,7 @@
 // A buffer that is too short for a text holds as much of its start as there is room for.
 ghost use mathlib.Core.Path.{_≡_};
 ghost use Prim.Native.Nat.{_-_, _≤_, _<_};
+ghost use mathlib.Core.List.{_++_};
 ghost use lib.ListN.{length};
 ghost use Rattle.rolefile.specs.Decimal.{lastDigits, digits, columnsOf};
 ghost use Rattle.text.specs.Text.{Puts, digitOf, lastColumns};
@@ -92,4 +93,12 @@ pub fn number(out: &mut [u8], at: usize, n: u64) -> usize
     let text = columns(true, n);
     let from = blanks(n);
     put(out, at, &text[from..])
+}
+
+// Puts bytes, and a number after them as `number` does.
+pub fn number_after(out: &mut [u8], at: usize, before: &[u8], n: u64) -> usize
+    ensures { λ r. ⌜ (n < 100000 → Puts (now (before .entry) ++ digits n) at (now (out .entry)) r (now (out .exit))) × Puts (now (before .entry) ++ lastDigits 5 n) at (now (out .entry)) r (now (out .exit)) ⌝ }
+{
+    let end = put(out, at, before);
+    number(out, end, n)
 }

@@ -9,10 +9,9 @@ returns : tie.Need-returns
 unfolding edge
 returns c =
     let second = c .before .before in
-    let marked = second .before .before .before .before in
-    let parted = marked .before .before .before .before in
+    let parted = second .before .before .before .before in
     let named = parted .before .before .before .before .before in
-    puts-then (named .line-start .ensures) (puts-then (parted .put .ensures) (puts-then (marked .put2 .ensures) (second .number .ensures .0 (search needs))))
+    puts-then (named .line-start .ensures) (puts-then (parted .put .ensures) (second .number-after .ensures .0 (search needs)))
 
 pub edge-spec : {M : Type 1} → statement M
 edge-spec =
@@ -20,7 +19,6 @@ edge-spec =
     (tie.spec
     (λ c κs. search needs)
     (λ c. search needs)
-    (λ c κs. search needs)
     (λ c κs. search needs)
     (λ c κs. search needs)
     (λ c. search needs)

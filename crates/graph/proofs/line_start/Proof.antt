@@ -7,8 +7,7 @@ use Rattle.graph.proofs.line_start.Tie as tie
 returns : tie.Need-returns
 returns c =
     let numbered = c .before .before in
-    let marked = numbered .before .before .before .before in
-    puts-then (marked .before .before .before .before .put .ensures) (puts-then (marked .put2 .ensures) (numbered .number .ensures .0 (search needs)))
+    puts-then (numbered .before .before .before .before .put .ensures) (numbered .number-after .ensures .0 (search needs))
 
 pub line-start-spec : {M : Type 1} → statement M
-line-start-spec = tie.close (tie.spec (λ c. search needs) (λ c κs. search needs) (λ c κs. search needs) (λ c κs. search needs) (λ c. search needs) returns)
+line-start-spec = tie.close (tie.spec (λ c. search needs) (λ c κs. search needs) (λ c κs. search needs) (λ c. search needs) returns)

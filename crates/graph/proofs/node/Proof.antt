@@ -10,9 +10,8 @@ unfolding node
 returns c =
     let ended = c .before .before in
     let second = ended .before .before .before .before .before .before in
-    let parted = second .before .before .before .before in
-    let named = parted .before .before .before .before .before in
-    puts-then (named .line-start .ensures) (puts-then (parted .put .ensures) (puts-then (second .number .ensures .0 (search needs)) (ended .ending .ensures)))
+    let named = second .before .before .before .before .before in
+    puts-then (named .line-start .ensures) (puts-then (second .number-after .ensures .0 (search needs)) (ended .ending .ensures))
 
 pub node-spec : {M : Type 1} → statement M
 node-spec =
@@ -20,7 +19,6 @@ node-spec =
     (tie.spec
     (λ c κs. search needs)
     (λ c. search needs)
-    (λ c κs. search needs)
     (λ c κs. search needs)
     (λ c. search needs)
     (λ c. search needs)

@@ -16,7 +16,7 @@ unfolding piece
 returns-2 c =
     let two = c .before .before .before .before .before in
     let one = two .before .before in
-    rw (passed (one .before .stands .ensures) (one .if1 .left), failed (two .before .stands2 .ensures) (two .if2 .taken)) (c .before .before .number-after .ensures)
+    rw (passed (one .before .stands .ensures) (one .if1 .left), failed (two .before .stands2 .ensures) (two .if2 .taken)) (c .before .before .number-after .ensures .0 (search needs))
 
 returns-3 : tie.Need-returns-3
 unfolding piece
@@ -33,7 +33,7 @@ returns-4 c =
     let two = three .before .before in
     let one = two .before .before in
     rw (passed (one .before .stands .ensures) (one .if1 .left), passed (two .before .stands2 .ensures) (two .if2 .left), sym (three .before .stands3 .ensures) ∙ three .if3 .left)
-    (c .before .before .number-after2 .ensures)
+    (c .before .before .number-after2 .ensures .0 (search needs))
 
 pub piece-spec : {M : Type 1} → statement M
 piece-spec =

@@ -12,7 +12,7 @@ returns c =
     let third = ended .before .before .before .before .before in
     let second = third .before .before .before .before .before in
     let first = second .before .before .before .before .before in
-    puts-then (first .number-after .ensures) (puts-then (second .number-after2 .ensures) (puts-then (third .number-after3 .ensures) (ended .put .ensures)))
+    puts-then (first .number-after .ensures .0 (search needs)) (puts-then (second .number-after2 .ensures .0 (search needs)) (puts-then (third .number-after3 .ensures .0 (search needs)) (ended .put .ensures)))
 
 pub place-rows-spec : {M : Type 1} → statement M
 place-rows-spec =

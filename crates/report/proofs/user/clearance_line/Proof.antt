@@ -12,7 +12,7 @@ returns c =
     let told = c .before .before .before .before .before .before .before in
     let cleared = told .before .before .before in
     puts-then (cleared .before .before .before .head .ensures)
-    (puts-then (rw (cleared .clearance .ensures .0) at (told .number-after .ensures)) (c .before .before .put .ensures))
+    (puts-then (rw (cleared .clearance .ensures .0) at (told .number-after .ensures .0 (omega (arith, cleared .clearance .ensures .1)))) (c .before .before .put .ensures))
 
 pub clearance-line-spec : {M : Type 1} → statement M
 clearance-line-spec =
@@ -22,7 +22,7 @@ clearance-line-spec =
     (λ c κs. search needs)
     (λ c κs. search needs)
     (λ c. search needs)
-    (λ c κs. omega (arith, c .before .before .clearance .ensures .1))
+    (λ c κs. search needs)
     (λ c. search needs)
     (λ c κs. search needs)
     (λ c. search needs)
