@@ -9,9 +9,8 @@ use Rattle.search.specs.Search.{Among}
 use Rattle.search.proofs.Found.{some-agree}
 use Rattle.roleset.proofs.Rows.{zero-rows}
 use Rattle.roleset.specs.Row.{rowOf, member, united, Placed}
-use Rattle.order.specs.Closure.{Relation, path}
+use Rattle.order.specs.Closure.{Relation, Agree, path}
 use Rattle.order.specs.Table.{related, Tabled}
-use Rattle.order.proofs.Closure.{Agree}
 use Rattle.text.specs.Text.{ascii}
 use Rattle.text.proofs.Each.{each-agree, each-pair-agree}
 use Rattle.policy.proofs.Closing.{paths-to}

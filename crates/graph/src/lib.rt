@@ -9,6 +9,7 @@ ghost use lib.Dec.{leb};
 ghost use lib.ListN.{length, take};
 ghost use Rattle.search.specs.Search.{Among};
 ghost use Rattle.roleset.specs.Row.{member};
+ghost use Rattle.order.specs.Closure.{Agree};
 ghost use Rattle.order.specs.Table.{related};
 ghost use Rattle.text.specs.Text.{Puts, each};
 ghost use Rattle.graph.specs.Graph as graph;
@@ -49,7 +50,7 @@ fn ordered_row(s: &[u8], order: Order, n: usize, a: u64) -> [u8; 16]
 // The relation among the first n things as a table.
 fn ordered_table(s: &[u8], order: Order, n: usize) -> [u8; 2048]
     requires { ⌜ n ≤ 128 ⌝ }
-    ensures { λ t. ⌜ ((a b : ℕ) → Among n a → Among n b → related t 0 a b ≡ graph.ordered (now (s .entry)) order a b) ⌝ }
+    ensures { λ t. ⌜ Agree n n (related t 0) (graph.ordered (now (s .entry)) order) ⌝ }
 {
     let mut t = [0u8; 2048];
     let mut i = 0;

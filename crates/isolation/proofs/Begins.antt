@@ -13,12 +13,14 @@ use Rattle.search.specs.Search.{Among}
 use Rattle.search.proofs.Truth.{among-iff, either, either-by}
 use Rattle.roleset.specs.Row.{rowOf, bit, member, roleByte, roleBit}
 use Rattle.roleset.proofs.Bits.{bit-zero, bit-on}
+use Rattle.order.specs.Closure.{Agree}
+use Rattle.order.specs.Table.{related}
 use Rattle.rolefile.specs.Form.{fine}
 use Rattle.rolefile.specs.Said.{labels, roles, users, cards, clearance, cardLabel, assigned}
 use Rattle.policy.specs.Policy.{dominates, senior, may, rLevel, wLevel, levelNumber}
-use Rattle.policy.specs.Tables.{dominanceAt, clearancesAt, cardLabelsAt, rLevelsAt, wLevelsAt, seniorsAt, assignedAt, readersAt, writersAt, markAt}
+use Rattle.policy.specs.Tables.{word, byteOf, dominanceAt, clearancesAt, cardLabelsAt, rLevelsAt, wLevelsAt, seniorsAt, assignedAt, readersAt, writersAt, markAt}
 use Rattle.policy.specs.Accepted.{Accepted}
-use Rattle.policy.specs.Image.{Unused, Describes, Image, loadVerdict}
+use Rattle.policy.specs.Image.{Dominating, Unused, Describes, Image, loadVerdict}
 use Rattle.policy.proofs.Outcomes.{accepted-fine}
 use Rattle.monitor.specs.Runs.{Start}
 
@@ -197,7 +199,7 @@ module _ (f : List ℕ) where
 
   member-row : (start size : ℕ) (said : ℕ → ℕ → Bool) → start + 16 * size ≤ 65536
       → ((i : ℕ) → start ≤ i → i < start + 16 * size → byte i ≡ rows said (i - start))
-      → (x r : ℕ) → Among size x → Among 128 r → member state (rowOf start x) r ≡ said x r
+      → Agree size 128 (related state start) said
   unfolding member rows
   member-row start size said fits told x r v w =
       let i = rowOf start x + roleByte r in
@@ -206,17 +208,17 @@ module _ (f : List ℕ) where
       rw (among-iff 128 r .1 w, at i (omega arith), told i (omega arith) (omega arith), low-bit (λ j. said ((i - start) / 16 + 1) (8 * ((i - start) % 16) + j + 1)) 8 (omega arith) (roleBit r) (omega arith))
       (ap (λ (y : ℕ). said y (8 * ((i - start) % 16) + roleBit r + 1)) row ∙ ap (said x) role)
 
-  word-of : (i n : ℕ) → i + 1 < 8 → counts i ≡ n % 256 → counts (i + 1) ≡ n / 256 → getD state i 0 + 256 * getD state (i + 1) 0 ≡ n
+  word-of : (i n : ℕ) → i + 1 < 8 → counts i ≡ n % 256 → counts (i + 1) ≡ n / 256 → word state i ≡ n
   word-of i n l low high = rw (count i (omega arith), count (i + 1) l, low, high) (omega arith)
 
   -- a table of bytes
   byte-of : (start size : ℕ) (said : ℕ → ℕ) → start + size ≤ 65536 → ((i : ℕ) → start ≤ i → i < start + size → byte i ≡ said (i - start + 1))
-      → (x : ℕ) → Among size x → getD state (start + (x - 1)) 0 ≡ said x
+      → (x : ℕ) → Among size x → byteOf state start x ≡ said x
   byte-of start size said fits told x w =
       let i = start + (x - 1) in
       at i (omega arith) ∙ told i (omega arith) (omega arith) ∙ ap said (let z : i - start + 1 ≡ x = omega arith in z)
 
-  dominance-byte : (a b : ℕ) → Among 32 a → Among 32 b → getD state (markAt a b) 0 ≡ cond (leb a (labels f) && dominates f a b) 1 0
+  dominance-byte : Dominating f state
   unfolding marks
   dominance-byte a b v w =
       let i = markAt a b in

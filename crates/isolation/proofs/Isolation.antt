@@ -1,5 +1,5 @@
 -- Demand 3: a run is like the run of its own shared calls, by induction along the list; so two runs with the same shared calls are alike. Assumes nothing.
-use Prim.Native.Nat.{ℕ, _+_, _*_, _-_}
+use Prim.Native.Nat.{ℕ, _+_}
 use mathlib.Core.Path.{_≡_, refl, sym, _∙_}
 use mathlib.Core.List.{List, [], _∷_}
 use mathlib.Core.Bool.{Bool, true, false, true≢false}
@@ -56,7 +56,7 @@ module _ (f : List ℕ) (accepted : Accepted f) (L : ℕ) (label : Among (labels
         (omega (arith, u .card, u .inCard, u .inStore)) (omega (arith, u .card, u .inCard, u .inStore))
         (λ i l.
         let w = u .inCard in
-        let j : partAt o k + i ≡ 64 * (o - 1) + (k + i) = omega arith in
+        let j : partAt o k + i ≡ partAt o (k + i) = omega arith in
         rw j (pair .cards o (k + i) (u .card) d (omega arith))))
         refl
 
@@ -115,7 +115,7 @@ module _ (f : List ℕ) (accepted : Accepted f) (L : ℕ) (label : Among (labels
         let high = write-over f accepted L label t s (runs .known) fits size p o k (length bytes) y h in
         let x = part-fits writersAt (m .state) (length (m .store)) p o k (length bytes) z in
         λ d i w low l.
-        written-out (m .store) (partAt o k) bytes (inside (m .state) (m .store) p o k bytes z) (64 * (d - 1) + i)
+        written-out (m .store) (partAt o k) bytes (inside (m .state) (m .store) p o k bytes z) (partAt d i)
         (λ a. elim (decLt d o) [
           | yes j ↦ absurd (omega (arith, x .card))
           | no j ↦ elim (decLt o d) [

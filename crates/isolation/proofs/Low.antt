@@ -1,6 +1,6 @@
 -- What the label L can tell of two runs at one moment: the sessions at places under L, and the cards under L. A shared call leaves that alike and is answered alike; any other
 -- call leaves it as it was. Assumes nothing.
-use Prim.Native.Nat.{ℕ, zero, suc, _+_, _*_, _-_, _≤_, _<_}
+use Prim.Native.Nat.{ℕ, zero, suc, _+_, _-_, _≤_, _<_}
 use mathlib.Core.Path.{_≡_, refl, sym, ap, _∙_}
 use mathlib.Core.List.{List}
 use mathlib.Core.Bool.{true, false, cond, false≢true}
@@ -10,7 +10,7 @@ use native.Mathlib.Decide.{ℕ-discrete, decLt}
 use lib.ListN.{length, getD, take, drop, length-drop}
 use lib.Seq.{length-take-le, getD-take, getD-drop, ext-getD}
 use Rattle.search.specs.Search.{Among}
-use Rattle.search.proofs.Truth.{untrue, both, false-iff}
+use Rattle.search.proofs.Truth.{untrue, both, other-iff}
 use Rattle.rolefile.specs.Said.{labels, cards, cardLabel}
 use Rattle.policy.specs.Policy.{dominates, may}
 use Rattle.policy.specs.Accepted.{Accepted}
@@ -66,7 +66,7 @@ module _ (f : List ℕ) (L : ℕ) (t : Open) (s₁ s₂ : Sessions) (fits₁ : F
       by zero e = put-at s₁ p _ p refl ∙ sym (put-at s₂ p _ p refl)
       by (suc n) e =
           let z = same-number 0 (opens p u l) refl in
-          let refused = false-iff (grants-iff f t s₁ fits₁ p u l) .1 (λ w. omega arith) in
+          let refused = other-iff false (grants-iff f t s₁ fits₁ p u l) .1 (λ w. omega arith) in
           same p (rw refused at k)
   here (closes p) h k = absurd (false≢true (rw (put-at t p none p refl) at k))
   here (takes p r) h k = rw (same-number 0 (takes p r) h) (changed-here p (takeRule f s₂ p r) (holding r) (same p h))
@@ -112,7 +112,7 @@ cards-after f L m₁ m₂ (writes p o k bytes) e h =
     (both-ways (SameCards f L) (writeNumber (m₂ .state) (m₂ .store) p o k bytes) (written (m₁ .store) at bytes) (m₁ .store) (written (m₂ .store) at bytes) (m₂ .store)
     (λ z d i w u l.
     written-same (m₁ .store) (m₂ .store) bytes at (inside (m₁ .state) (m₁ .store) p o k bytes (e ∙ z)) (inside (m₂ .state) (m₂ .store) p o k bytes z)
-    (64 * (d - 1) + i) (h d i w u l))
+    (partAt d i) (h d i w u l))
     h)
 
 -- ---- what a read hands back, and what another call writes

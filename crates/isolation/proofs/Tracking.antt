@@ -3,10 +3,10 @@ use Prim.Native.Nat.{ℕ, zero, suc}
 use mathlib.Core.Path.{_≡_, refl, sym, ap, _∙_}
 use mathlib.Core.Logic.{_↔_, Iff·rfl}
 use mathlib.Core.List.{List}
-use mathlib.Core.Bool.{true, cond}
+use mathlib.Core.Bool.{true, false, cond}
 use mathlib.Core.Option.{Option, none, some, Option·map}
 use native.Mathlib.Omega.{arith}
-use Rattle.search.proofs.Truth.{and-both, among-iff, false-iff, either}
+use Rattle.search.proofs.Truth.{and-both, among-iff, other-iff, either}
 use Rattle.rolefile.specs.Said.{labels, users}
 use Rattle.monitor.specs.Calls.{ifDone}
 use Rattle.monitor.specs.Runs.{Call, opens, closes, takes, drops, reads, writes}
@@ -108,7 +108,7 @@ module _ (f : List ℕ) (t : Open) (s : Sessions) (fits : Fits t s) where
       where
         by : (n : ℕ) → openRule f s p u l ≡ n → Fits (cond (grants f t p u l) (put t p (some l)) t) (ifDone n (put s p (some (sessionOf u l))) s)
         by zero e = rw (grants-iff p u l .1 e) (put-fits p (some (sessionOf u l)))
-        by (suc n) e = rw (false-iff (grants-iff p u l) .1 (λ z. omega arith)) fits
+        by (suc n) e = rw (other-iff false (grants-iff p u l) .1 (λ z. omega arith)) fits
     fits-track (closes p) = by (closeRule s p) refl
       where
         by : (n : ℕ) → closeRule s p ≡ n → Fits (put t p none) (ifDone n (put s p none) s)

@@ -1,5 +1,5 @@
 -- The two runs of `Worked`, computed: they fall under demand 3 for label 2, which is shown the same in both; label 4 is not. Assumes nothing.
-use Prim.Native.Nat.{ℕ, _+_, _*_, _-_}
+use Prim.Native.Nat.{ℕ}
 use mathlib.Core.Path.{_≡_, refl, sym, ap, _∙_}
 use mathlib.Core.List.{List, map}
 use mathlib.Core.Bool.{false}
@@ -19,7 +19,7 @@ use Rattle.policy.specs.Policy.{dominates, senior, may, mayAt, level, rLevel, w
 use Rattle.policy.specs.Verdict.{orderVerdict, labelVerdict, roleVerdict, assignVerdict, assignmentVerdict, policyVerdict, verdict}
 use Rattle.policy.specs.Accepted.{Accepted}
 use Rattle.policy.proofs.Outcomes.{accepted-fine}
-use Rattle.monitor.specs.Calls.{unless, ifDone}
+use Rattle.monitor.specs.Calls.{unless, ifDone, partAt}
 use Rattle.monitor.specs.Runs.{Call, Start, loaded, partOf, storeOf}
 use Rattle.monitor.specs.Rules.{noSessions, entitledByFile, fittingByFile, givesByFile, openRule, closeRule, takeRule, dropRule, partRule, rule, next}
 use Rattle.monitor.specs.Cases.{line, bytes}
@@ -74,9 +74,9 @@ same-cards o i w d l =
     elim (ℕ-discrete o 3) [
       | yes e ↦ absurd (both d (rw e (three-cards .1)))
       | no e ↦
-          getD-replicate 192 (64 * (o - 1) + i) 46 0 (omega arith)
-          ∙ sym (List·getD-append (replicate 128 46) (replicate 64 47) 0 (64 * (o - 1) + i) (rw (length-replicate {A = ℕ} 128 46) (omega arith))
-          ∙ getD-replicate 128 (64 * (o - 1) + i) 46 0 (omega arith))
+          getD-replicate 192 (partAt o i) 46 0 (omega arith)
+          ∙ sym (List·getD-append (replicate 128 46) (replicate 64 47) 0 (partAt o i) (rw (length-replicate {A = ℕ} 128 46) (omega arith))
+          ∙ getD-replicate 128 (partAt o i) 46 0 (omega arith))
     ]
 
 -- ---- what each label is shown, from the state that any load of the file left

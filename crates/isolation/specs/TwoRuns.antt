@@ -1,5 +1,5 @@
 -- Demand 3, in the order and words of "Two runs side by side": shared calls, struck calls and cards under L are document 01's terms. Assumes nothing.
-use Prim.Native.Nat.{ℕ, _+_, _*_, _-_, _<_}
+use Prim.Native.Nat.{ℕ, _<_}
 use mathlib.Core.Path.{_≡_}
 use mathlib.Core.List.{List, [], _∷_}
 use mathlib.Core.Bool.{Bool, true, false, _&&_, cond}
@@ -9,6 +9,7 @@ use Rattle.search.specs.Search.{among, Among}
 use Rattle.rolefile.specs.Said.{labels, users, cards, clearance, cardLabel}
 use Rattle.policy.specs.Policy.{dominates}
 use Rattle.policy.specs.Accepted.{Accepted}
+use Rattle.monitor.specs.Calls.{partAt}
 use Rattle.monitor.specs.Places.{Places, allFree, isFree, put}
 use Rattle.monitor.specs.Runs.{Call, opens, closes, takes, drops, reads, writes, Memory, Start, loaded, number, part, after, run}
 
@@ -81,7 +82,7 @@ shown f L t m (c ∷ cs) = keep (shared f L t c) (record { answer = answer m c; 
 -- "The cards under L are those whose label L dominates; of a store shorter than 64 × cards, the bytes it has of them". Stores of one length, which no call changes
 -- (`store-length` under monitor/proofs): a byte that neither has is 0 in both
 abbrev pub SameCards : List ℕ → ℕ → List ℕ → List ℕ → Type 0
-SameCards f L s t = (o i : ℕ) → Among (cards f) o → dominates f L (cardLabel f o) ≡ true → i < 64 → getD s (64 * (o - 1) + i) 0 ≡ getD t (64 * (o - 1) + i) 0
+SameCards f L s t = (o i : ℕ) → Among (cards f) o → dominates f L (cardLabel f o) ≡ true → i < 64 → getD s (partAt o i) 0 ≡ getD t (partAt o i) 0
 
 -- one by one: the same number and bytes, and the same cards under L
 abbrev pub Alike : List ℕ → ℕ → List Shown → List Shown → Type 0

@@ -31,7 +31,7 @@ use Rattle.monitor.proofs.Orderly.{opening, opening-done, taking, gives
 use Rattle.monitor.proofs.Stands.{Stands}
 use Rattle.monitor.proofs.InFile.{test-same, test-passed, sound-file, cleared-file, entitled-file, fitting-file}
 use Rattle.monitor.proofs.Places.{put-at}
-use Rattle.monitor.proofs.Demand2.{Runs, runs-next, runs-number, loaded-runs, left-runs}
+use Rattle.monitor.proofs.Demand2.{Runs, runs-next, runs-number, loaded-runs, left, left-runs}
 
 -- ---- by the file
 
@@ -174,7 +174,7 @@ module _ {f : List ℕ} (accepted : Accepted f) (a : Start f) (store : List ℕ)
   -- on every state that a load and calls left: by the file, and never 21
   module _ (cs : List Call) where
     abbrev end : List ℕ
-    end = run start cs .state
+    end = left accepted a store cs .state
 
     pub can-file : (u l o m n figure : ℕ) → Cans end u l o m n figure → (n ≡ canRule f u l o m) × (figure ≡ ifDone n (cond (couldByFile f u l o m) 1 0) 0)
     can-file u l o m n figure h =
@@ -188,7 +188,7 @@ module _ {f : List ℕ} (accepted : Accepted f) (a : Start f) (store : List ℕ)
         t : Sessions
         t = sessions f noSessions cs
 
-        ran : Runs f t (length store) (run start cs)
+        ran : Runs f t (length store) (left accepted a store cs)
         ran = left-runs accepted a store cs
 
   -- from the state that a load left, at any place and with a store that has all cards

@@ -6,6 +6,7 @@ use native.Mathlib.Omega.{arith}
 use native.Mathlib.Decide.{decLt}
 use lib.ListN.{length, take, drop, getD, length-append, length-drop, List·getD-append}
 use lib.Seq.{length-take-le, getD-take, getD-drop, getD-append-add}
+use Rattle.roleset.specs.Row.{Kept}
 use Rattle.monitor.specs.Calls.{written}
 
 module _ (xs : List ℕ) (at : ℕ) (bytes : List ℕ) (fits : at + length bytes ≤ length xs) where
@@ -44,5 +45,5 @@ module _ (xs : List ℕ) (at : ℕ) (bytes : List ℕ) (fits : at + length bytes
       ∙ getD-drop (at + length bytes) xs k 0
       ∙ ap (λ (n : ℕ). getD xs n 0) g
 
-  pub written-out : (i : ℕ) → (at ≤ i → at + length bytes ≤ i) → getD (written xs at bytes) i 0 ≡ getD xs i 0
+  pub written-out : Kept at (at + length bytes) xs (written xs at bytes)
   written-out i out = elim (decLt i at) [ yes l ↦ written-before i l | no l ↦ written-after i (out (omega arith)) ]

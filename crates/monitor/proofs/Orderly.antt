@@ -124,7 +124,7 @@ pub record Using (f : List ℕ) (m : ℕ) (t : Sessions) (size p o k n : ℕ) : 
 pub part-done : (f : List ℕ) (m : ℕ) (t : Sessions) (size p o k n : ℕ) → partRule f m t size p o k n ≡ 0 → Using f m t size p o k n
 unfolding partRule
 part-done f m t size p o k n h =
-    let a = session-done t p (λ s. unless (among (cards f) o) 25 (unless (givesByFile f m s o) 29 (unless (leb (k + n) 64) 30 (unless (leb (64 * cards f) size) 31 0)))) h in
+    let a = session-done t p _ h in
     let (i, b) = unless-done (among (cards f) o) 25 _ (omega arith) (a .done) in
     let (j, c) = unless-done (givesByFile f m (a .session) o) 29 _ (omega arith) b in
     let (x, d) = unless-done (leb (k + n) 64) 30 _ (omega arith) c in

@@ -12,7 +12,7 @@ use lib.ListN.{length, getD, replicate, getD-replicate, length-set}
 use Rattle.search.specs.Search.{Among}
 use Rattle.search.proofs.Truth.{among-iff}
 use Rattle.roleset.specs.Row.{member, Kept, Placed, added, removed}
-use Rattle.roleset.proofs.Rows.{zero-row, same-bytes}
+use Rattle.roleset.proofs.Rows.{kept-wider, zero-row, same-bytes}
 use Rattle.policy.specs.Image.{Describes, Image}
 use Rattle.policy.proofs.Builds.{describes-stays}
 use Rattle.monitor.specs.Session.{placeAt, userAt, labelAt, heldAt}
@@ -84,7 +84,7 @@ module _ (xs : List ℕ) (p : ℕ) (long : 65536 ≤ length xs) (w : Among 64 p)
   whole-touched : (bytes : List ℕ) → length bytes ≡ 20 → Touched p xs (written xs (placeAt p) bytes)
   whole-touched bytes n = record {
     same = length-written xs (placeAt p) bytes (omega arith);
-    rest = λ i out. written-out xs (placeAt p) bytes (omega arith) i (λ l. omega (arith, out l));
+    rest = kept-wider xs (written xs (placeAt p) bytes) (omega arith) (written-out xs (placeAt p) bytes (omega arith));
   }
 
   pub opened-touched : (u l : ℕ) → Touched p xs (opened xs p u l)
@@ -123,7 +123,7 @@ module _ (xs : List ℕ) (p : ℕ) (long : 65536 ≤ length xs) (w : Among 64 p)
   -- the row of held roles written
   module _ (held : ℕ → Bool) (ys : List ℕ) (same : length ys ≡ length xs) (placed : Placed (heldAt p) held xs ys) where
     row-touched : Touched p xs ys
-    row-touched = record { same = same; rest = λ i out. placed .rest i (λ l. omega (arith, out (omega arith))) }
+    row-touched = record { same = same; rest = kept-wider xs ys (omega arith) (placed .rest) }
 
     row-place : (s : Session) → SessionAt xs p s → (next : ℕ → Bool) → ((r : ℕ) → held r ≡ next r)
         → SessionAt ys p (record { user = s .user; label = s .label; held = next })

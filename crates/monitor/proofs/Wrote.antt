@@ -4,6 +4,7 @@ use mathlib.Core.Path.{_≡_}
 use mathlib.Core.List.{List}
 use native.Mathlib.Omega.{arith}
 use lib.ListN.{length, getD}
+use Rattle.roleset.specs.Row.{Kept}
 use Rattle.policy.specs.Tables.{writersAt}
 use Rattle.monitor.specs.Calls.{ifDone, partAt, writeNumber, writeStore}
 use Rattle.monitor.proofs.Answers.{part-fits}
@@ -18,6 +19,6 @@ module _ (xs store : List ℕ) (p o k : ℕ) (bytes : List ℕ) (done : writeNum
   unfolding ifDone
   write-in i l = rw done (written-in store (partAt o k) bytes inside i l)
 
-  pub write-out : (i : ℕ) → (partAt o k ≤ i → partAt o k + length bytes ≤ i) → getD (writeStore xs store p o k bytes) i 0 ≡ getD store i 0
+  pub write-out : Kept (partAt o k) (partAt o k + length bytes) store (writeStore xs store p o k bytes)
   unfolding ifDone
   write-out i out = rw done (written-out store (partAt o k) bytes inside i out)

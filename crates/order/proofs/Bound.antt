@@ -9,11 +9,10 @@ use native.Mathlib.Decide.{decLt}
 use lib.Dec.{leb, ltb}
 use borrow.Author.Tests.{ltb-true, lt-ltb, ltb-false, le-ltb}
 use Rattle.search.specs.Search.{every, first, implies, Among, Lowest}
-use Rattle.search.proofs.Truth.{eqb-iff, ltb-iff, and-iff, and-both, or-both, untrue, both, false-iff, same}
+use Rattle.search.proofs.Truth.{eqb-iff, ltb-iff, and-iff, and-both, or-both, untrue, both, other-iff, same}
 use Rattle.search.proofs.Found.{every-agree, every-in, every-cut, first-found, first-more, first-none-of, first-lowest, first-within, first-agree, first-cut}
-use Rattle.order.specs.Closure.{Relation, PartialOrder}
-use Rattle.order.specs.Bound.{upper, isLeast, least, lub, converse, pair, withoutBound, partnerWithoutBound, someWithoutBound, lowestWithoutBound, Upper, IsLub, Joined, AllJoined, FirstPair, FirstWithoutBound}
-use Rattle.order.proofs.Closure.{Agree}
+use Rattle.order.specs.Closure.{Relation, Agree, PartialOrder}
+use Rattle.order.specs.Bound.{upper, isLeast, least, lub, converse, pair, withoutBound, partnerWithoutBound, someWithoutBound, lowestWithoutBound, Upper, Lower, IsLub, Joined, AllJoined, FirstPair, FirstWithoutBound}
 
 module _ (n : ℕ) (ge : Relation) (s : ℕ → Bool) where
   pub upper-iff : (c : ℕ) → (upper n ge s c ≡ true) ↔ Upper n ge s c
@@ -21,7 +20,7 @@ module _ (n : ℕ) (ge : Relation) (s : ℕ → Bool) where
   upper-iff c = every-in n s (ge c)
 
 module _ (n : ℕ) (ge : Relation) (s : ℕ → Bool) where
-  isLeast-iff : (c : ℕ) → (isLeast n ge s c ≡ true) ↔ ((s c ≡ true) × Upper n (converse ge) s c)
+  isLeast-iff : (c : ℕ) → (isLeast n ge s c ≡ true) ↔ ((s c ≡ true) × Lower n ge s c)
   unfolding isLeast
   isLeast-iff c = and-both Iff·rfl (upper-iff n (converse ge) s c)
 
@@ -38,7 +37,7 @@ module _ (n : ℕ) (ge : Relation) (s : ℕ → Bool) where
   pub lub-none : (lub n ge s ≡ 0) ↔ ((c : ℕ) → IsLub n ge s c → ⊥)
   unfolding lub least
   lub-none =
-      Iff·trans (first-none-of (isLeast n ge (upper n ge s)) n (λ c w. false-iff (isLub-iff c w)))
+      Iff·trans (first-none-of (isLeast n ge (upper n ge s)) n (λ c w. other-iff false (isLub-iff c w)))
       (λ none c b. none c (b .inside) b, λ none c w. none c)
 
   -- and else one

@@ -7,11 +7,11 @@ use mathlib.Core.Bool.{true, false, _||_, and-comm}
 use native.Mathlib.Omega.{arith}
 use native.Mathlib.Numerals.{add-one}
 use Rattle.search.specs.Search.{Among}
-use Rattle.search.proofs.Truth.{eqb-iff, and-iff, or-both, untrue, both, false-iff}
+use Rattle.search.proofs.Truth.{eqb-iff, and-iff, or-both, untrue, both, other-iff}
 use Rattle.search.proofs.Found.{None, last-or, among-next, first-none, first-agree}
 use Rattle.order.specs.Table.{Rows}
 use Rattle.order.specs.Bound.{converse}
-use Rattle.order.specs.Closure.{Relation, via, path, closure, toItself, loop, circle, Reach, here, step, HasPath, OnCircle, PartialOrder, Irreflexive, round}
+use Rattle.order.specs.Closure.{Relation, Agree, via, path, closure, toItself, loop, circle, Reach, here, step, HasPath, OnCircle, PartialOrder, Irreflexive, round}
 
 -- a path past one thing more: one that was there, or two that meet in it
 pub ways : (e : Relation) (k a b : ℕ)
@@ -89,7 +89,7 @@ module _ (e : Relation) where
         of (step {a} {b} {c} p v r) = same-or-path a c .1 (inr (complete p v r))
 
     pub circle-misses : (a : ℕ) → Among n a → (path n e a a ≡ false) ↔ (OnCircle n e a → ⊥)
-    circle-misses a w = false-iff (path-iff a a w)
+    circle-misses a w = other-iff false (path-iff a a w)
 
     closure-reflexive : (a : ℕ) → Among n a → closure n e a a ≡ true
     closure-reflexive a w = closure-iff a a w .1 here
@@ -134,10 +134,6 @@ via-converse e (suc k) a b =
 
 pub circle-converse : (e : Relation) (n : ℕ) → circle n (converse e) ≡ circle n e
 circle-converse e n = first-agree (toItself (path n (converse e))) (toItself (path n e)) n (λ a w. via-converse e n a a)
-
--- f and g say the same of the things 1 to n over the things 1 to m
-abbrev pub Agree : ℕ → ℕ → Relation → Relation → Type 0
-Agree n m f g = (a b : ℕ) → Among n a → Among m b → f a b ≡ g a b
 
 module _ (n m : ℕ) (d e : Relation) (l : n ≤ m) (h : Agree n m d e) where
   pub via-agree : (k : ℕ) → k ≤ n → Agree n m (via d k) (via e k)

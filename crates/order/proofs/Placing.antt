@@ -13,7 +13,7 @@ use borrow.Author.Tests.{le-leb}
 use Rattle.search.specs.Search.{Among}
 use Rattle.search.proofs.Truth.{among-iff, both, eqb-swap}
 use Rattle.roleset.specs.Row.{whole, member, added, unitedWhere, Copied, Placed, PlacedRows}
-use Rattle.roleset.proofs.Rows.{row-kept, other-kept, kept-both, whole-true}
+use Rattle.roleset.proofs.Rows.{row-kept, other-kept, kept-wider, kept-both, copied, whole-true}
 use Rattle.order.specs.Closure.{Relation, via, round, reflexive}
 use Rattle.order.specs.Table.{Rows, related, Tabled}
 use Rattle.order.proofs.Closure.{RowSet, rows-none, rows-more, rounds-none, rounds-more}
@@ -47,7 +47,7 @@ placing-pass at h xs i j ys l m t same = record {
     ];
     left = λ a b v u w. t .rows f .left a b (omega arith) u w;
   };
-  rest = λ k o. t .rest k (λ n. let q = o n in omega arith);
+  rest = kept-wider xs ys (omega arith) (t .rest);
   none = t .none;
 }
 
@@ -87,7 +87,7 @@ module _ (at : ℕ) (xs : List ℕ) (fits : at + 2048 ≤ length xs) where
       → PlacedRows at n (λ i. unitedWhere xs (at + 16 * i) (k + 1) other) xs ys → Tabled at n (round e (k + 1)) xs ys
   round-rows n k ys other l m o p = record {
     rows = λ f. record {
-      done = λ a b v w. p .rows (omega arith) (a - 1) (omega arith) b ∙ rw (o b, whole-true xs (at + 16 * k) (omega arith), add-sub-cancel k 1);
+      done = λ a b v w. p .rows (omega arith) (a - 1) (omega arith) b ∙ rw (copied xs other (at + 16 * k) (omega arith) o b, add-sub-cancel k 1);
       left = λ a b v u w. row-kept xs ys (p .rest) (at + 16 * (a - 1)) b (inr (omega arith));
     };
     rest = p .rest;

@@ -10,10 +10,9 @@ use lib.Dec.{eqb}
 use borrow.Author.Tests.{eq-eqb, ne-eqb}
 use lib.ListN.{length, getD, set}
 use lib.Seq.{getD-set-same, getD-set-other}
-use Rattle.search.specs.Search.{Among}
 use Rattle.search.proofs.Found.{among-next}
 use Rattle.order.specs.Closure.{Relation}
-use Rattle.order.specs.Table.{marks, mark}
+use Rattle.order.specs.Table.{marks, mark, Upto}
 use Rattle.order.proofs.Closure.{RowSet}
 
 -- what stands at thing a when v is stored at i
@@ -23,10 +22,6 @@ module _ {A : Type 0} (d : A) (l : List A) (i : ℕ) (v : A) where
 
   stored-other : (a : ℕ) → 1 ≤ a → (a ≡ i + 1 → ⊥) → getD (set l i v) (a - 1) d ≡ getD l (a - 1) d
   stored-other a h ne = getD-set-other l i (a - 1) v d (λ e. ne (omega arith))
-
--- s has the marks of f up to thing i
-abbrev pub Upto : ℕ → (ℕ → Bool) → List Bool → Type 0
-Upto i f s = (a : ℕ) → Among i a → marks s a ≡ f a
 
 pub upto-more : (f : ℕ → Bool) (s : List Bool) (i : ℕ) (v : Bool) → i < length s → Upto i f s → v ≡ f (i + 1) → Upto (i + 1) f (set s i v)
 upto-more f s i v h all new =

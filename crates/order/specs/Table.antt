@@ -1,6 +1,7 @@
 -- Tables of marks and what the functions over them say.
 --     marks s a          s has a mark at a: a set of the things 1 to 32
 --     mark t a b         t has a mark in row a and column b: a relation among them
+--     Upto i f s         of the things 1 to i, s has just those of f
 --     FirstThings n s    s is the set of the first n things
 --     Rows size n h e f  f is h in its rows 1 to n, and e in the rows after, up to `size`
 --     related xs at a b  the table of role sets at `at` relates a to b
@@ -13,7 +14,7 @@ use lib.Dec.{leb}
 use lib.ListN.{length, getD}
 use Rattle.search.specs.Search.{Among}
 use Rattle.roleset.specs.Row.{member, rowOf, Kept}
-use Rattle.order.specs.Closure.{Relation}
+use Rattle.order.specs.Closure.{Relation, Agree}
 
 abbrev pub marks : List Bool → ℕ → Bool
 marks s a = getD s (a - 1) false
@@ -21,12 +22,16 @@ marks s a = getD s (a - 1) false
 abbrev pub mark : List (List Bool) → Relation
 mark t a b = marks (getD t (a - 1) []) b
 
+-- s has the marks of f up to thing i
+abbrev pub Upto : ℕ → (ℕ → Bool) → List Bool → Type 0
+Upto i f s = (a : ℕ) → Among i a → marks s a ≡ f a
+
 -- s is the set of the first n things
 abbrev pub FirstThings : ℕ → List Bool → Type 0
-FirstThings n s = (a : ℕ) → Among 32 a → marks s a ≡ leb a n
+FirstThings n = Upto 32 (λ a. leb a n)
 
 pub record Rows (size n : ℕ) (h e f : Relation) : Type 0 where
-  pub done : (a b : ℕ) → Among n a → Among size b → f a b ≡ h a b
+  pub done : Agree n size f h
   pub left : (a b : ℕ) → n < a → a ≤ size → Among size b → f a b ≡ e a b
 
 -- ---- the same for up to 128 things, each row a set of roles: the row of thing a starts 16 × (a - 1) bytes after `at`

@@ -4,10 +4,11 @@
 // upper bounds are lower bounds in the order turned round: who asks for many turns the order once.
 ghost use mathlib.Core.Path.{_≡_};
 ghost use mathlib.Core.Bool.{_&&_};
-ghost use Prim.Native.Nat.{ℕ, _+_, _≤_, _<_, min};
-ghost use Rattle.search.specs.Search.{Among, among, every, implies};
+ghost use Prim.Native.Nat.{_+_, _≤_, _<_, min};
+ghost use Rattle.search.specs.Search.{among, every, implies};
+ghost use Rattle.order.specs.Closure.{Agree};
 ghost use Rattle.order.specs.Bound.{upper, least, converse, partnerWithoutBound, FirstWithoutBound};
-ghost use Rattle.order.specs.Table.{marks, mark, FirstThings};
+ghost use Rattle.order.specs.Table.{marks, mark, Upto, FirstThings};
 
 // The set of the first n things.
 pub fn first_things(n: usize) -> [bool; 32]
@@ -24,7 +25,7 @@ pub fn first_things(n: usize) -> [bool; 32]
 
 // What two sets have in common.
 fn common(s: [bool; 32], t: [bool; 32]) -> [bool; 32]
-    ensures { λ r. ⌜ ((a : ℕ) → Among 32 a → marks r a ≡ (marks s a && marks t a)) ⌝ }
+    ensures { λ r. ⌜ Upto 32 (λ a. marks s a && marks t a) r ⌝ }
 {
     let mut r = [false; 32];
     let mut i = 0;
@@ -76,7 +77,7 @@ fn greatest(t: &[[bool; 32]; 32], s: &[bool; 32]) -> usize
 
 // The set cut down to what is under a thing, where `on`.
 fn narrowed(s: [bool; 32], under: [bool; 32], on: bool) -> [bool; 32]
-    ensures { λ r. ⌜ ((a : ℕ) → Among 32 a → marks r a ≡ (marks s a && implies on (marks under a))) ⌝ }
+    ensures { λ r. ⌜ Upto 32 (λ a. marks s a && implies on (marks under a)) r ⌝ }
 {
     if on {
         return common(s, under);
@@ -86,7 +87,7 @@ fn narrowed(s: [bool; 32], under: [bool; 32], on: bool) -> [bool; 32]
 
 // The things of `all` that are under each of s, of which the first n count.
 fn lower_bounds(t: &[[bool; 32]; 32], n: usize, all: &[bool; 32], s: [bool; 32]) -> [bool; 32]
-    ensures { λ r. ⌜ ((c : ℕ) → Among 32 c → marks r c ≡ (marks (now (all .entry)) c && upper (min n 32) (converse (mark (now (t .entry)))) (marks s) c)) ⌝ }
+    ensures { λ r. ⌜ Upto 32 (λ c. marks (now (all .entry)) c && upper (min n 32) (converse (mark (now (t .entry)))) (marks s) c) r ⌝ }
 {
     let m = super::marks::lesser(n, 32);
     let mut r = *all;
@@ -112,7 +113,7 @@ pub fn greatest_lower(t: &[[bool; 32]; 32], n: usize, all: &[bool; 32], s: [bool
 // The column of thing j + 1.
 fn column(t: &[[bool; 32]; 32], j: usize) -> [bool; 32]
     requires { ⌜ j < 32 ⌝ }
-    ensures { λ r. ⌜ ((a : ℕ) → Among 32 a → marks r a ≡ mark (now (t .entry)) a (j + 1)) ⌝ }
+    ensures { λ r. ⌜ Upto 32 (λ a. mark (now (t .entry)) a (j + 1)) r ⌝ }
 {
     let mut r = [false; 32];
     let mut i = 0;
@@ -125,7 +126,7 @@ fn column(t: &[[bool; 32]; 32], j: usize) -> [bool; 32]
 
 // The order turned round.
 pub fn converse(t: [[bool; 32]; 32]) -> [[bool; 32]; 32]
-    ensures { λ r. ⌜ ((a b : ℕ) → Among 32 a → Among 32 b → mark r a b ≡ converse (mark t) a b) ⌝ }
+    ensures { λ r. ⌜ Agree 32 32 (mark r) (converse (mark t)) ⌝ }
 {
     let mut r = t;
     let mut j = 0;

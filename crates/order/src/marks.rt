@@ -1,12 +1,11 @@
 // A relation among up to 32 things as 32 rows by 32 marks, and sets of such things as 32 marks.
 ghost use mathlib.Core.Path.{_≡_};
 ghost use mathlib.Core.Bool.{_&&_, _||_};
-ghost use Prim.Native.Nat.{ℕ, _+_, _≤_, _<_, min};
+ghost use Prim.Native.Nat.{_+_, _≤_, _<_, min};
 ghost use lib.Dec.{eqb};
 ghost use lib.ListN.{length};
-ghost use Rattle.search.specs.Search.{Among};
 ghost use Rattle.order.specs.Closure.{path, loop, round, reflexive};
-ghost use Rattle.order.specs.Table.{marks, mark, Rows};
+ghost use Rattle.order.specs.Table.{marks, mark, Upto, Rows};
 
 // The lesser of the two.
 pub fn lesser(n: usize, most: usize) -> usize
@@ -17,7 +16,7 @@ pub fn lesser(n: usize, most: usize) -> usize
 
 // The row with the marks of `other` too, where `on`.
 fn stepped(row: [bool; 32], other: [bool; 32], on: bool) -> [bool; 32]
-    ensures { λ r. ⌜ ((b : ℕ) → Among 32 b → marks r b ≡ (marks row b || (on && marks other b))) ⌝ }
+    ensures { λ r. ⌜ Upto 32 (λ b. marks row b || (on && marks other b)) r ⌝ }
 {
     let mut r = [false; 32];
     let mut j = 0;
@@ -59,7 +58,7 @@ pub fn paths(t: [[bool; 32]; 32], n: usize) -> [[bool; 32]; 32]
 
 // The row with a mark at thing b too, if it is one of the 32.
 pub fn with_mark(row: [bool; 32], b: usize) -> [bool; 32]
-    ensures { λ r. ⌜ ((y : ℕ) → Among 32 y → marks r y ≡ (eqb b y || marks row y)) ⌝ }
+    ensures { λ r. ⌜ Upto 32 (λ y. eqb b y || marks row y) r ⌝ }
 {
     if !search::among(32, b as u64) {
         return row;

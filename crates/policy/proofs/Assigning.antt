@@ -35,8 +35,8 @@ pub tables-clean : (xs : List ℕ) (u r : ℕ) → Clean (assignByTables xs u r)
 unfolding assignByTables
 tables-clean xs u r =
     unless-clean (not (eqb (byteOf xs wLevelsAt r) 99)) (refusal 14 u r) (λ e. omega arith)
-    (unless-clean (eqb (byteOf xs rLevelsAt r) 0 || marked xs (byteOf xs clearancesAt u) (byteOf xs rLevelsAt r)) (refusal 15 u r) (λ e. omega arith)
-    (unless-clean (eqb (byteOf xs wLevelsAt r) 0 || marked xs (byteOf xs wLevelsAt r) (byteOf xs clearancesAt u)) (refusal 16 u r) (λ e. omega arith)
+    (unless-clean (passesIn xs (byteOf xs rLevelsAt r) (byteOf xs clearancesAt u) (byteOf xs rLevelsAt r)) (refusal 15 u r) (λ e. omega arith)
+    (unless-clean (passesIn xs (byteOf xs wLevelsAt r) (byteOf xs wLevelsAt r) (byteOf xs clearancesAt u)) (refusal 16 u r) (λ e. omega arith)
     (λ e. refl)))
 
 -- ---- a level as it is kept: no label is 0 or 99

@@ -8,7 +8,7 @@ use mathlib.Core.Bool.{Bool}
 use native.Mathlib.Omega.{arith}
 use lib.Dec.{eqb}
 use Rattle.search.proofs.Truth.{eqb-iff, either}
-use Rattle.order.specs.Closure.{Relation, path, closure, circle, PartialOrder}
+use Rattle.order.specs.Closure.{Relation, path, closure, circle, PartialOrder, toItself}
 use Rattle.order.specs.Bound.{converse, lowestWithoutBound, partnerWithoutBound, AllJoined, FirstPair}
 use Rattle.order.proofs.Closure.{path-iff, circle-misses, circle-none}
 use Rattle.order.proofs.Bound.{lowest-without-none, lowest-without-first}
@@ -20,7 +20,7 @@ use Rattle.rolefile.proofs.Verdicts.{Clean, unless-clean}
 use Rattle.rolefile.proofs.Decides.{Decides, Else, Fails, decides-as}
 use Rattle.rolefile.proofs.Decides.{cond-decides, fine-decides, test-decides, unless-decides, found-decides, search-decides}
 use Rattle.policy.specs.Policy.{dominates, mayAt, rLevel, wLevel, passes, isDefined}
-use Rattle.policy.specs.Verdict.{assignVerdict, assignmentVerdict}
+use Rattle.policy.specs.Verdict.{assignVerdict, assignmentVerdict, pairVerdict}
 use Rattle.policy.specs.Accepted.{ReadsUnder, WritesOver, NoWriteLevel, WithinLevels, GoodOrder, GoodAssignment, LowestOnCircle, AssignRefused, noLevel, readsMore, writesLess}
 use Rattle.policy.proofs.Levels.{defined-iff, without-bound, passing-bounded, reads-under-iff, writes-over-iff}
 
@@ -32,7 +32,7 @@ CircleRefusal n e number v = (a : ℕ) × LowestOnCircle n e a × (v ≡ refusal
 pub circle-decides : (n : ℕ) (e : Relation) (number : ℕ)
     → Decides (found (circle n e) (refusal (suc number) (circle n e) 0)) (GoodOrder n e (closure n e)) (CircleRefusal n e (suc number))
 circle-decides n e number =
-    search-decides n (λ a. path n e a a) (
+    search-decides n (toItself (path n e)) (
       λ z. let (o, i) = circle-none e n .0 z in record { order = o; strict = i },
       λ g. circle-none e n .1 (g .order, g .strict),
     )
@@ -63,7 +63,7 @@ module _ (n : ℕ) (ge : Relation) where
   PairRefusal v = (a : ℕ) × (b : ℕ) × FirstPair n ge a b × (v ≡ refusal 12 a b)
 
   pub pair-decides : PartialOrder n ge
-      → Decides (found (lowestWithoutBound n ge) (refusal 12 (lowestWithoutBound n ge) (partnerWithoutBound n ge (lowestWithoutBound n ge)))) (AllJoined n ge) PairRefusal
+      → Decides (pairVerdict n ge) (AllJoined n ge) PairRefusal
   pair-decides o =
       decides-as (found-decides low (refusal 12 low high) (omega arith)) (lowest-without-none n ge o)
       (λ v. (

@@ -9,9 +9,9 @@ use borrow.Author.Tests.{le-leb, lt-leb}
 use Rattle.search.specs.Search.{Among}
 use Rattle.search.proofs.Truth.{untrue}
 use Rattle.search.proofs.Found.{wider}
-use Rattle.order.specs.Closure.{Relation, path, reflexive, closure}
+use Rattle.order.specs.Closure.{Relation, Agree, path, reflexive, closure}
 use Rattle.order.specs.Table.{Rows}
-use Rattle.order.proofs.Closure.{Agree, via-agree}
+use Rattle.order.proofs.Closure.{via-agree}
 use Rattle.policy.proofs.Inside.{Between}
 
 module _ (size n : ℕ) (e t u : Relation) where

@@ -6,24 +6,23 @@ use mathlib.Core.Bool.{Bool, cond}
 use native.Mathlib.Omega.{arith}
 use lib.Dec.{ltb}
 use borrow.Author.Tests.{le-leb, lt-ltb}
-use Rattle.order.specs.Closure.{Relation, path, reflexive}
+use Rattle.order.specs.Closure.{Relation, Agree, path, reflexive}
 use Rattle.order.specs.Bound.{partnerWithoutBound, lowestWithoutBound, FirstWithoutBound}
 use Rattle.order.specs.Table.{mark, Rows}
-use Rattle.order.proofs.Closure.{Agree, loop-circle}
+use Rattle.order.proofs.Closure.{loop-circle}
 use Rattle.order.proofs.Bound.{first-without-agree}
 use Rattle.rolefile.specs.Line.{D, fields}
 use Rattle.rolefile.specs.Form.{refusal, found}
 use Rattle.rolefile.specs.Said.{labels, over}
 use Rattle.rolefile.specs.Section.{part}
-use Rattle.rolefile.proofs.Sections.{Section}
+use Rattle.rolefile.proofs.Sections.{Section, says-two}
 use Rattle.rolefile.specs.WellFormed.{GoodLines}
 use Rattle.policy.specs.Policy.{dominates}
 use Rattle.policy.specs.Tables.{Marking}
-use Rattle.policy.specs.Verdict.{orderVerdict, labelVerdict}
+use Rattle.policy.specs.Verdict.{orderVerdict, labelVerdict, pairVerdict}
 use Rattle.policy.specs.Stages.{Paths, Closed}
 use Rattle.policy.proofs.Inside.{over-between}
 use Rattle.policy.proofs.Closing.{paths-table, closed-table}
-use Rattle.policy.proofs.Ranks.{pairs-say}
 
 -- ---- the tables
 
@@ -32,7 +31,7 @@ module _ (f : List ℕ) (good : GoodLines f) (few : labels f ≤ 32) {j m : ℕ}
   pub paths-of : (t u : List (List Bool)) → Marking (part f j) m t → Rows 32 (labels f) (path (labels f) (mark t)) (mark t) (mark u) → Paths f u
   unfolding fields
   paths-of t u said =
-      paths-table 32 (labels f) (over f) (mark t) (mark u) few (over-between f good) (λ a b v w. said a b v w ∙ pairs-say f good s refl a b)
+      paths-table 32 (labels f) (over f) (mark t) (mark u) few (over-between f good) (λ a b v w. said a b v w ∙ says-two f good s refl a b)
 
 pub closed-of : (f : List ℕ) (t c : List (List Bool)) → Paths f t
     → Rows 32 (labels f) (reflexive (mark t)) (mark t) (mark c) → Closed f c
@@ -47,7 +46,7 @@ closed-agree f t few closed a b v w = closed a b (omega arith) (omega arith) ∙
 
 -- the first pair that was found is refused
 pub pair-verdict : (n : ℕ) (ge : Relation) (a b : ℕ) → FirstWithoutBound n ge a b
-    → found (lowestWithoutBound n ge) (refusal 12 (lowestWithoutBound n ge) (partnerWithoutBound n ge (lowestWithoutBound n ge))) ≡ found a (refusal 12 a b)
+    → pairVerdict n ge ≡ found a (refusal 12 a b)
 pair-verdict n ge a b h = rw (← (h .lower)) (go a (h .higher))
   where
     go : (a : ℕ) → b ≡ cond (ltb 0 a) (partnerWithoutBound n ge a) 0 → found a (refusal 12 a (partnerWithoutBound n ge a)) ≡ found a (refusal 12 a b)

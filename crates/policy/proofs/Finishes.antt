@@ -8,13 +8,13 @@ use Rattle.roleset.specs.Row.{rowOf, Kept}
 use Rattle.roleset.proofs.Rows.{row-kept, kept-both}
 use Rattle.rolefile.specs.declared.Line.{Line}
 use Rattle.rolefile.specs.Line.{fields}
-use Rattle.rolefile.specs.Section.{part}
+use Rattle.rolefile.specs.Section.{part, pairs}
+use Rattle.rolefile.proofs.Sections.{says-two}
 use Rattle.policy.specs.declared.build.Parts.{Parts}
-use Rattle.policy.specs.Tables.{word, assignedAt, pairs, Related}
+use Rattle.policy.specs.Tables.{word, assignedAt, Related}
 use Rattle.policy.specs.Stages.{Ready, Zeros, Counting, Finishing}
 use Rattle.policy.proofs.Readying.{good-of, a-lines}
 use Rattle.policy.proofs.Relating.{unites-zeros}
-use Rattle.policy.proofs.Ranks.{pairs-say}
 use Rattle.policy.proofs.Builds.{word-stays}
 
 module _ (h : Line) (v w x y z : List ℕ) (first : (word w 0 ≡ h .a) × Kept 0 2 v w) (second : (word x 2 ≡ h .b) × Kept 2 4 w x)
@@ -38,7 +38,7 @@ module _ (f : List ℕ) (q : Parts) (h : Line) (ready : Ready f q h) (xs ys zs p
     assigning = λ u r v w.
         row-kept ys zs (counted .rest) (rowOf assignedAt u) r (inr (omega arith))
         ∙ unites-zeros assignedAt 256 _ xs ys (filled .rows) zeros u r v w
-        ∙ rw its (pairs-say f (good-of f (ready .lines)) (a-lines f q (ready .lines) (ready .laid)) refl u r);
+        ∙ rw its (says-two f (good-of f (ready .lines)) (a-lines f q (ready .lines) (ready .laid)) refl u r);
     counted = rw (ready .head) at (counted .counts);
     rest = λ i l out. counted .rest i (λ m. l) ∙ filled .rest i (λ m. let far = out m in omega arith);
   }

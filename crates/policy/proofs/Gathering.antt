@@ -10,10 +10,9 @@ use borrow.Author.Tests.{ne-eqb}
 use Rattle.search.specs.Search.{Among, some}
 use Rattle.search.proofs.Found.{some-more, some-yet, some-agree}
 use Rattle.roleset.specs.Row.{rowOf, member, united, Copied, Placed}
-use Rattle.roleset.proofs.Rows.{whole-true}
-use Rattle.order.specs.Closure.{Relation}
+use Rattle.roleset.proofs.Rows.{copied}
+use Rattle.order.specs.Closure.{Relation, Agree}
 use Rattle.order.specs.Bound.{lub}
-use Rattle.order.proofs.Closure.{Agree}
 use Rattle.order.proofs.Bound.{lub-agree}
 use Rattle.policy.specs.Policy.{levelAt, level, levelNumber}
 use Rattle.policy.specs.Tables.{byteOf, cardLabelsAt, brings, gathered}
@@ -33,7 +32,7 @@ module _ (xs : List ℕ) (at o label : ℕ) (e : label ≡ getD xs (cardLabelsAt
       → (l r : ℕ) → Among 32 l → member h (rowOf 0 l) r ≡ (member g (rowOf 0 l) r || brings xs at l r (o + 1))
   brings-row g h other long v fits row p l r w =
       rw (byte-is, add-sub-cancel o 1)
-      (row-united 0 32 label p v (member xs (at + 16 * o)) (omega arith) l r w (rw (row r, whole-true xs (at + 16 * o) fits)))
+      (row-united 0 32 label p v (member xs (at + 16 * o)) (omega arith) l r w (rw (copied xs other (at + 16 * o) fits row r)))
 
 pub gathered-more : (xs : List ℕ) (at o l r : ℕ) → (gathered xs at o l r || brings xs at l r (o + 1)) ≡ gathered xs at (o + 1) l r
 unfolding gathered

@@ -14,10 +14,10 @@ use Rattle.search.specs.Search.{Among, among, some}
 use Rattle.search.proofs.Truth.{among-iff, untrue, same}
 use Rattle.search.proofs.Found.{some-both, some-none, some-agree, None}
 use Rattle.roleset.specs.Row.{member, rowOf, Kept}
-use Rattle.order.specs.Closure.{Relation}
+use Rattle.roleset.proofs.Rows.{kept-wider}
+use Rattle.order.specs.Closure.{Relation, Agree}
 use Rattle.order.specs.Bound.{converse}
 use Rattle.order.specs.Table.{mark, related}
-use Rattle.order.proofs.Closure.{Agree}
 use Rattle.rolefile.specs.declared.Line.{Line}
 use Rattle.rolefile.specs.Line.{P}
 use Rattle.rolefile.specs.Form.{header}
@@ -146,29 +146,26 @@ module _ (f : List ℕ) (q : Parts) (h : Line) (t up : List (List Bool)) (x₀ x
     (read-levels : Bytes rLevelsAt (h .b) (λ r. levelNumber (level (h .a) (converse (mark up)) (λ l. member reading (rowOf 0 l) r))) x₂ x₃)
     (writes : Agree 32 128 (related writing 0) (gathered x₃ writersAt (h .d)))
     (write-levels : Bytes wLevelsAt (h .b) (λ r. levelNumber (level (h .a) (converse (mark t)) (λ l. member writing (rowOf 0 l) r))) x₃ x₄) where
-  good : GoodLines f
-  good = good-of f (ready .lines)
-
   counts : GoodCounts (header f)
   counts = counts-of f (ready .lines)
 
   between : Between (roles f) (above f)
-  between = above-between f good
+  between = above-between f (good-of f (ready .lines))
 
   -- what each store leaves alone
   kept : Kept 16 1040 x₀ x₁
   kept = put .rest
 
   kept₃ : Kept 1808 1936 x₂ x₃
-  kept₃ i out = rw (ready .head) at read-levels .rest i (λ m. omega (arith, counts .roles, out m))
+  kept₃ = kept-wider x₂ x₃ (rw (ready .head) (omega (arith, counts .roles))) (read-levels .rest)
 
   kept₄ : Kept 1936 2064 x₃ x₄
-  kept₄ i out = rw (ready .head) at write-levels .rest i (λ m. omega (arith, counts .roles, out m))
+  kept₄ = kept-wider x₃ x₄ (rw (ready .head) (omega (arith, counts .roles))) (write-levels .rest)
 
   -- what stands in each state
   permitting₂ : Permitting f x₂
   permitting₂ =
-      permitted f x₁ good (counts .roles)
+      permitted f x₁ (good-of f (ready .lines)) (counts .roles)
       (seniors-stay f x₀ x₁ (λ i l m. kept i (λ n. omega arith)) seniors)
       (p-lines f q (ready .lines) (ready .laid) .0) x₂ grants
       (λ i l m. kept i (λ n. omega arith) ∙ no-role i l m)

@@ -14,8 +14,8 @@ use Rattle.search.proofs.Found.{first-none, first-agree}
 use Rattle.roleset.specs.Row.{Kept}
 use Rattle.roleset.proofs.Rows.{kept-both}
 use Rattle.rolefile.specs.declared.Verdict.{Verdict}
-use Rattle.rolefile.specs.Line.{H, U, O, lines}
-use Rattle.rolefile.specs.Form.{fine, refusal, header, firstLimit, secondLimit, count, about, unlabelled, linesVerdict, unlabelledVerdict}
+use Rattle.rolefile.specs.Line.{H, U, O}
+use Rattle.rolefile.specs.Form.{fine, refusal, header, firstLimit, secondLimit, lineCount, notOne, unlabelled, linesVerdict, unlabelledVerdict, count}
 use Rattle.rolefile.specs.Said.{users, cards, last, labelBy}
 use Rattle.rolefile.specs.Section.{part, one, two}
 use Rattle.rolefile.proofs.Counts.{count-none}
@@ -23,7 +23,7 @@ use Rattle.rolefile.proofs.Sections.{Section, count-about, label-section}
 use Rattle.rolefile.specs.WellFormed.{GoodLines}
 use Rattle.rolefile.proofs.Verdicts.{refuses}
 use Rattle.policy.specs.declared.build.Parts.{Parts}
-use Rattle.policy.specs.Tables.{clearancesAt, cardLabelsAt, byteOf, Bytes, noted, notes, unlabelledByte, unlabelledIn}
+use Rattle.policy.specs.Tables.{clearancesAt, cardLabelsAt, byteOf, noted, notes, NotedBytes, unlabelledByte, unlabelledIn}
 use Rattle.policy.specs.Stages.{Laid, Zeros, Noting}
 use Rattle.policy.proofs.Readying.{good-of, counts-of, u-lines, o-lines, one-within, two-within, limits-u, limits-o}
 
@@ -80,16 +80,13 @@ pub record Table (f : List ℕ) (k n at size : ℕ) (ys : List ℕ) : Type 0 whe
 module _ (f : List ℕ) (good : GoodLines f) {k j m : ℕ} (s : Section f k j m) (after : H < k)
     (n : ℕ) (most : firstLimit (header f) k ≡ n) (small : secondLimit (header f) k ≤ 32) where
   module _ (x : ℕ) where
-    abbrev lineCount : ℕ
-    lineCount = count (lines f) (about f k x)
-
-    section-byte : Byte (part f j) x (notes (part f j) m x 0) lineCount (labelBy f k x)
+    section-byte : Byte (part f j) x (notes (part f j) m x 0) (lineCount f k x) (labelBy f k x)
     section-byte =
         rw (count-about f good s x, label-section f good s x)
         (notes-byte (part f j) x m (λ i w. let t = two-within f good s after i w in omega arith))
 
     -- a number past the file's count has no line
-    none-past : n < x → lineCount ≡ 0
+    none-past : n < x → lineCount f k x ≡ 0
     none-past l =
         count-about f good s x
         ∙ count-none (names (part f j) x) m .1 (λ i w. ne-eqb (one (part f j) i) x (λ e. omega (arith, one-within f good s after i w)))
@@ -99,17 +96,17 @@ module _ (f : List ℕ) (good : GoodLines f) {k j m : ℕ} (s : Section f k j m)
   unfolding unlabelled
   noted-table at size ys l bytes = record {
     lowest =
-        first-agree (unlabelledIn ys at) (λ x. not (eqb (lineCount x) 1)) n
-        (λ x w. let (e, g) = section-byte x in rw (bytes x (omega arith), e) (unlabelled-byte (lineCount x) (labelBy f k x) g));
-    all = λ z x w. bytes x w ∙ section-byte x .0 ∙ rw (le-leb (lineCount x) 1 (few z x w));
+        first-agree (unlabelledIn ys at) (notOne f k) n
+        (λ x w. let (e, g) = section-byte x in rw (bytes x (omega arith), e) (unlabelled-byte (lineCount f k x) (labelBy f k x) g));
+    all = λ z x w. bytes x w ∙ section-byte x .0 ∙ rw (le-leb (lineCount f k x) 1 (few z x w));
   }
     where
-      few : unlabelled f k n ≡ 0 → (x : ℕ) → Among size x → lineCount x ≤ 1
+      few : unlabelled f k n ≡ 0 → (x : ℕ) → Among size x → lineCount f k x ≤ 1
       few z x w = elim (decLt n x) [
         | yes past ↦ omega (arith, none-past x past)
         | no past ↦
-            let single = first-none (λ x. not (eqb (lineCount x) 1)) n .0 z x (omega arith) in
-            omega (arith, eqb-true (lineCount x) 1 (not-false (eqb (lineCount x) 1) single))
+            let single = first-none (notOne f k) n .0 z x (omega arith) in
+            omega (arith, eqb-true (lineCount f k x) 1 (not-false (eqb (lineCount f k x) 1) single))
       ]
 
 -- ---- 6: clearances are noted, and then the labels of cards
@@ -120,8 +117,8 @@ pub record Tables (f xs ys : List ℕ) : Type 0 where
   pub rest : Kept clearancesAt 1808 xs ys
 
 pub tables-of : (f : List ℕ) (q : Parts) → linesVerdict f .number ≡ 0 → Laid f q → (xs ys zs : List ℕ) → Zeros clearancesAt 1808 xs
-    → Bytes clearancesAt 256 (λ x. notes (part f (q .u .start)) (q .u .count) x (byteOf xs clearancesAt x)) xs ys
-    → Bytes cardLabelsAt 512 (λ x. notes (part f (q .o .start)) (q .o .count) x (byteOf ys cardLabelsAt x)) ys zs
+    → NotedBytes clearancesAt 256 (part f (q .u .start)) (q .u .count) xs ys
+    → NotedBytes cardLabelsAt 512 (part f (q .o .start)) (q .o .count) ys zs
     → Tables f xs zs
 tables-of f q e laid xs ys zs clear u o =
     let h = header f in

@@ -2,12 +2,12 @@
 -- Assumes nothing.
 use Prim.Native.Nat.{ℕ, zero, suc, _≤_}
 use mathlib.Core.Path.{_≡_, refl}
-use mathlib.Core.Logic.{_↔_, Iff·symm, Iff·trans, Iff·not, inl, inr, ⊎-elim}
+use mathlib.Core.Logic.{_↔_, inl, inr, ⊎-elim}
 use mathlib.Core.List.{List}
-use mathlib.Core.Bool.{Bool, true, false, cond, false≢true, true≢false, not-eq-not}
+use mathlib.Core.Bool.{Bool, true, false, cond, false≢true, true≢false}
 use native.Mathlib.Omega.{arith}
 use Rattle.search.specs.Search.{some}
-use Rattle.search.proofs.Truth.{false-iff}
+use Rattle.search.proofs.Truth.{other-iff}
 use Rattle.search.proofs.Found.{some-iff}
 use Rattle.order.specs.Closure.{Relation, PartialOrder}
 use Rattle.order.specs.Bound.{lub, converse, IsLub}
@@ -36,13 +36,13 @@ module _ (n : ℕ) (ge : Relation) (s : ℕ → Bool) where
   level-tells = go (some n s) refl (lub n ge s) refl
     where
       go : (b : Bool) → some n s ≡ b → (c : ℕ) → lub n ge s ≡ c → Tells (cond b (levelAt c) Free)
-      go false e c q = false-iff (some-iff s n) .0 e
+      go false e c q = other-iff false (some-iff s n) .0 e
       go true e zero q = (some-iff s n .0 e, lub-none n ge s .0 q)
       go true e (suc c) q = (some-iff s n .0 e, lub-is n ge s (suc c) (omega arith) q)
 
   pub level-free : (level n ge s ≡ Free) ↔ (Some n s → ⊥)
   unfolding level
-  level-free = (λ e. rw e at level-tells, λ none. rw (false-iff (some-iff s n) .1 none))
+  level-free = (λ e. rw e at level-tells, λ none. rw (other-iff false (some-iff s n) .1 none))
 
   pub level-undefined : (level n ge s ≡ Undefined) ↔ UndefinedLevel n ge s
   unfolding level
@@ -57,11 +57,11 @@ module _ (n : ℕ) (ge : Relation) (s : ℕ → Bool) where
       go Undefined t e = t
 
   pub defined-iff : (isDefined (level n ge s) ≡ true) ↔ (UndefinedLevel n ge s → ⊥)
-  defined-iff = Iff·trans (Iff·symm not-eq-not) (Iff·not undefined-iff)
+  defined-iff = other-iff true undefined-iff
 
   -- it can be told whether a set is boundless
   pub without-bound : ((UndefinedLevel n ge s → ⊥) → ⊥) → UndefinedLevel n ge s
-  without-bound h = undefined-iff .0 (false-iff defined-iff .1 h)
+  without-bound h = undefined-iff .0 (other-iff false defined-iff .1 h)
 
   pub passing-bounded : (p : ℕ → Bool) → Passing n ge s p → UndefinedLevel n ge s → ⊥
   passing-bounded p h (some, none) = ⊎-elim (λ empty. empty some) (λ (c, i, b, e). none c b) h

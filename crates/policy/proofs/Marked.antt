@@ -13,8 +13,7 @@ use borrow.Author.Tests.{eq-eqb, ne-eqb}
 use Rattle.search.specs.Search.{Among}
 use Rattle.search.proofs.Found.{among-next}
 use Rattle.roleset.proofs.Rows.{kept-both}
-use Rattle.order.specs.Table.{marks, mark}
-use Rattle.order.proofs.Stored.{Upto}
+use Rattle.order.specs.Table.{marks, mark, Upto}
 use Rattle.rolefile.specs.Section.{one, two}
 use Rattle.policy.specs.Tables.{dominanceAt, markAt, Bytes, Marking, WithPair, DominanceRows}
 use Rattle.policy.proofs.Relating.{pairs-more, pairs-none}

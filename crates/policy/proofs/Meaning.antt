@@ -10,8 +10,8 @@ use lib.ListN.{length}
 use borrow.Author.Tests.{eq-eqb}
 use Rattle.search.specs.Search.{Among}
 use Rattle.search.proofs.Found.{wider, some-agree, first-none-of, first-lowest-of}
-use Rattle.order.specs.Closure.{path, OnCircle}
-use Rattle.order.proofs.Closure.{Agree, path-iff, circle-misses, circle-agree}
+use Rattle.order.specs.Closure.{Agree, path, OnCircle, toItself}
+use Rattle.order.proofs.Closure.{path-iff, circle-misses, circle-agree}
 use Rattle.rolefile.specs.Form.{header}
 use Rattle.rolefile.specs.Said.{labels, roles, users, cards}
 use Rattle.rolefile.specs.WellFormed.{GoodCounts, WellFormed}
@@ -63,7 +63,7 @@ module _ (f : List ℕ) (form : WellFormed f) where
       pub role-count-file : roleCount xs ≡ roles f
       role-count-file = rw (a-state xs long) roles-file
 
-      pub flow-file : (r q : ℕ) → Among 128 r → Among 128 q → flowsIn xs r q ≡ flows f r q
+      pub flow-file : Agree 128 128 (flowsIn xs) (flows f)
       flow-file r q v w = rw (a-state xs long) (flowing-file r q v w)
 
       pub circle-file : circleIn xs ≡ flowCircle f
@@ -82,8 +82,8 @@ module _ (f : List ℕ) where
   pub flow-circle-iff : (a : ℕ) → 1 ≤ a → (flowCircle f ≡ a) ↔ LowestOnCircle (roles f) (flows f) a
   unfolding flowCircle
   flow-circle-iff =
-      first-lowest-of (λ a. path (roles f) (flows f) a a) (roles f) (λ a. path-iff (flows f) (roles f) a a) (circle-misses (flows f) (roles f))
+      first-lowest-of (toItself (path (roles f) (flows f))) (roles f) (λ a. path-iff (flows f) (roles f) a a) (circle-misses (flows f) (roles f))
 
   pub no-circle-iff : (flowCircle f ≡ 0) ↔ ((a : ℕ) → Among (roles f) a → OnCircle (roles f) (flows f) a → ⊥)
   unfolding flowCircle
-  no-circle-iff = first-none-of (λ a. path (roles f) (flows f) a a) (roles f) (circle-misses (flows f) (roles f))
+  no-circle-iff = first-none-of (toItself (path (roles f) (flows f))) (roles f) (circle-misses (flows f) (roles f))

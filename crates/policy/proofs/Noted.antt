@@ -9,15 +9,15 @@ use lib.ListN.{length, set}
 use lib.Seq.{getD-set-same, getD-set-other}
 use borrow.Author.Tests.{eq-eqb, ne-eqb}
 use Rattle.search.specs.Search.{Among}
-use Rattle.roleset.proofs.Rows.{Written, kept-both, kept-more}
+use Rattle.roleset.proofs.Rows.{Written, kept-wider, kept-both, kept-more}
 use Rattle.rolefile.specs.Section.{one, two}
-use Rattle.policy.specs.Tables.{byteOf, Bytes, noted, afterNote, notes}
+use Rattle.policy.specs.Tables.{byteOf, Bytes, noted, afterNote, notes, NotedBytes}
 
 -- a table's bytes, all written one by one
 pub all-stored : {at i size : ℕ} (v : ℕ → ℕ) {xs ys : List ℕ} → Written at i (λ k. v (k + 1)) xs ys → i ≡ size → Bytes at size v xs ys
-all-stored v w e = record {
+all-stored v {xs} {ys} w e = record {
   bytes = λ x l. let s : x - 1 + 1 ≡ x = omega arith in rw s at (w .done (x - 1) (omega arith));
-  rest = λ k o. w .rest k (λ m. omega (arith, o m));
+  rest = kept-wider xs ys (omega arith) (w .rest);
 }
 
 module _ (at size x label : ℕ) (xs : List ℕ) where
@@ -38,17 +38,14 @@ module _ (at size x label : ℕ) (xs : List ℕ) where
     rest = kept-more at (at + size) (at + (x - 1)) byte xs xs (omega arith) (omega arith) (λ i o. refl);
   }
 
--- the bytes of a table when i lines of the part p have been noted, and then one more
+-- no line noted yet, and one more
 module _ (at size : ℕ) (p xs : List ℕ) where
-  abbrev pub Noting : ℕ → List ℕ → Type 0
-  Noting i ys = Bytes at size (λ x. notes p i x (byteOf xs at x)) xs ys
-
-  pub notes-none : Noting 0 xs
+  pub notes-none : NotedBytes at size p 0 xs xs
   unfolding notes
   notes-none = record { bytes = λ x w. refl; rest = λ i o. refl }
 
-  pub notes-more : (i : ℕ) (ys zs : List ℕ) → Noting i ys
-      → Bytes at size (afterNote ys at (one p (i + 1)) (two p (i + 1))) ys zs → Noting (i + 1) zs
+  pub notes-more : (i : ℕ) (ys zs : List ℕ) → NotedBytes at size p i xs ys
+      → Bytes at size (afterNote ys at (one p (i + 1)) (two p (i + 1))) ys zs → NotedBytes at size p (i + 1) xs zs
   unfolding notes
   notes-more i ys zs b n = record {
     bytes = λ x w. n .bytes x w ∙ rw (b .bytes x w, add-one);

@@ -5,7 +5,7 @@ use mathlib.Core.Logic.{_↔_, _⊎_, inl, inr, ⊎-elim}
 use mathlib.Core.List.{List}
 use native.Mathlib.Omega.{arith}
 use Rattle.order.specs.Closure.{circle}
-use Rattle.order.specs.Bound.{lowestWithoutBound, partnerWithoutBound, AllJoined}
+use Rattle.order.specs.Bound.{AllJoined}
 use Rattle.rolefile.specs.declared.Verdict.{Verdict}
 use Rattle.rolefile.specs.Line.{lines}
 use Rattle.rolefile.specs.Form.{fine, refusal, _then_, scan, found}
@@ -15,7 +15,7 @@ use Rattle.rolefile.proofs.Verdicts.{then-joined}
 use Rattle.rolefile.proofs.Decides.{Decides, Else, Earliest, decides-zero, decides-fine, decides-when, then-decides, scan-decides}
 use Rattle.rolefile.proofs.Formed.{FormRefusal, form-decides}
 use Rattle.policy.specs.Policy.{dominates, senior}
-use Rattle.policy.specs.Verdict.{orderVerdict, labelVerdict, roleVerdict, assignmentVerdict, policyVerdict, verdict}
+use Rattle.policy.specs.Verdict.{orderVerdict, labelVerdict, roleVerdict, assignmentVerdict, policyVerdict, verdict, pairVerdict}
 use Rattle.policy.specs.Accepted.{GoodOrder, LabelOrder, GoodAssignment, Accepted, AssignRefused, Outcome}
 use Rattle.policy.specs.Accepted.{noLevel, readsMore, writesLess}
 use Rattle.policy.specs.Accepted.{accepted, badSize, badLine, badUser, badCard, labelCircle, noBound, roleCircle, badAssignment}
@@ -37,8 +37,7 @@ verdict-decides : (f : List ℕ) → Decides (verdict f) (Accepted f) (Refusal f
 unfolding verdict policyVerdict labelVerdict orderVerdict roleVerdict dominates senior
 verdict-decides f =
     let a = circle (labels f) (over f) in
-    let b = lowestWithoutBound (labels f) (dominates f) in
-    rw (then-joined (found a (refusal 11 a 0)) (found b (refusal 12 b (partnerWithoutBound (labels f) (dominates f) b)))
+    rw (then-joined (found a (refusal 11 a 0)) (pairVerdict (labels f) (dominates f))
     (roleVerdict f then scan (lines f) (assignmentVerdict f)))
     (decides-when
     (then-decides (form-decides f) (λ w.

@@ -1,6 +1,6 @@
 -- Seniority from the S lines: the rows that the lines fill are closed, and hold each role's seniors. Assumes nothing.
 use Prim.Native.Nat.{ℕ, _+_, _≤_, min}
-use mathlib.Core.Path.{_≡_, refl, sym, _∙_}
+use mathlib.Core.Path.{_≡_, refl, _∙_}
 use mathlib.Core.List.{List}
 use mathlib.Core.Bool.{false, cond}
 use native.Mathlib.Omega.{arith}
@@ -9,21 +9,21 @@ use lib.ListN.{length}
 use borrow.Author.Tests.{ne-eqb, le-leb}
 use Rattle.search.proofs.Truth.{eqb-swap}
 use Rattle.roleset.specs.Row.{Kept}
+use Rattle.roleset.proofs.Rows.{kept-both}
 use Rattle.order.specs.Bound.{converse}
-use Rattle.order.specs.Closure.{path, loop, circle, reflexive}
+use Rattle.order.specs.Closure.{Agree, path, loop, circle, reflexive}
 use Rattle.order.specs.Table.{related, Rows, Tabled}
-use Rattle.order.proofs.Closure.{Agree, via-converse, circle-converse, loop-circle}
+use Rattle.order.proofs.Closure.{via-converse, circle-converse, loop-circle}
 use Rattle.rolefile.specs.declared.Line.{Line}
 use Rattle.rolefile.specs.declared.Verdict.{Verdict}
 use Rattle.rolefile.specs.Line.{fields}
 use Rattle.rolefile.specs.Form.{fine, refusal}
-use Rattle.rolefile.specs.Said.{roles, above, says}
-use Rattle.rolefile.specs.Section.{part}
-use Rattle.rolefile.proofs.Sections.{Section, says-two}
-use Rattle.rolefile.specs.WellFormed.{GoodLines}
+use Rattle.rolefile.specs.Said.{roles, above}
+use Rattle.rolefile.specs.Section.{part, pairs}
+use Rattle.rolefile.proofs.Sections.{says-two}
 use Rattle.rolefile.proofs.Verdicts.{refuses}
 use Rattle.policy.specs.Policy.{senior}
-use Rattle.policy.specs.Tables.{seniorsAt, pairs, Related}
+use Rattle.policy.specs.Tables.{seniorsAt, Related}
 use Rattle.policy.specs.Verdict.{roleVerdict}
 use Rattle.policy.specs.Stages.{Ready, Zeros, Ranking}
 use Rattle.policy.specs.declared.build.Parts.{Parts}
@@ -31,11 +31,6 @@ use Rattle.policy.proofs.Readying.{good-of, counts-of, head-roles, s-li
 use Rattle.policy.proofs.Inside.{above-between}
 use Rattle.policy.proofs.Closing.{paths-table, closed-table}
 use Rattle.policy.proofs.Relating.{unites-zeros}
-
--- what two fields of a letter's section say
-pub pairs-say : (f : List ℕ) → GoodLines f → {k j m : ℕ} → Section f k j m → fields k ≡ 2 → (x y : ℕ) → pairs (part f j) m x y ≡ says f k x y 0
-unfolding pairs
-pairs-say f good s two-fields x y = sym (says-two f good s two-fields x y)
 
 -- the rows that the lines fill, once they have their paths, and the lowest role r with one to itself
 pub record Pathed (f : List ℕ) (h : Line) (xs zs : List ℕ) (r : ℕ) : Type 0 where
@@ -54,15 +49,12 @@ module _ (f : List ℕ) (q : Parts) (h : Line) (ready : Ready f q h) (xs ys zs p
   few : roles f ≤ 128
   few = counts-of f (ready .lines) .roles
 
-  good : GoodLines f
-  good = good-of f (ready .lines)
-
   -- the lines' rows
   direct : Agree 128 128 (related ys seniorsAt) (converse (above f))
   unfolding fields
   direct a b v w =
       unites-zeros seniorsAt 128 _ xs ys (filled .rows) zeros a b v w
-      ∙ rw its (pairs-say f good (s-lines f q (ready .lines) (ready .laid) .0) refl b a)
+      ∙ rw its (says-two f (good-of f (ready .lines)) (s-lines f q (ready .lines) (ready .laid) .0) refl b a)
 
   -- and the paths
   by-roles : Tabled seniorsAt (roles f) (path (roles f) (related ys seniorsAt)) ys zs
@@ -71,7 +63,7 @@ module _ (f : List ℕ) (q : Parts) (h : Line) (ready : Ready f q h) (xs ys zs p
   paths : Rows 128 (roles f) (path (roles f) (converse (above f))) (λ a b. false) (related zs seniorsAt)
   paths =
       paths-table 128 (roles f) (converse (above f)) (related ys seniorsAt) (related zs seniorsAt) few
-      (λ a b e. let (v, w) = above-between f good b a e in (w, v)) direct (by-roles .rows (omega arith))
+      (λ a b e. let (v, w) = above-between f (good-of f (ready .lines)) b a e in (w, v)) direct (by-roles .rows (omega arith))
 
   pub pathed-of : Pathed f h xs zs r
   pathed-of = record {
@@ -83,7 +75,7 @@ module _ (f : List ℕ) (q : Parts) (h : Line) (ready : Ready f q h) (xs ys zs p
         lowest
         ∙ rw (le-leb (2064 + 2048) (length zs) (omega arith), head-roles f q h ready)
         (loop-circle (converse (above f)) few paths ∙ circle-converse (above f) (roles f));
-    rest = λ i out. by-roles .rest i (λ l. omega (arith, few, out l)) ∙ filled .rest i out;
+    rest = kept-both xs ys zs (omega (arith, few)) (filled .rest) (by-roles .rest);
   }
 
 -- ---- 13
@@ -106,5 +98,5 @@ module _ {f : List ℕ} {h : Line} {xs zs : List ℕ} {r : ℕ} (p : Pathed f h 
         done = λ n a b v w.
             closed-table 128 (roles f) (converse (above f)) (related zs seniorsAt) (related ws seniorsAt) (p .rows) (c .rows (p .long)) a b v w
             ∙ rw (eqb-swap a b, via-converse (above f) (roles f) a b);
-        rest = λ i out. c .rest i (λ l. omega (arith, p .few, out l)) ∙ p .rest i out;
+        rest = kept-both xs zs ws (omega (arith, p .few)) (p .rest) (c .rest);
       }

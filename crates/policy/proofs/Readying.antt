@@ -30,7 +30,7 @@ module _ (f : List ℕ) (e : linesVerdict f .number ≡ 0) where
   some-line : 1 ≤ lines f
   some-line = let s = sized-of in omega (arith, s .some, s .whole)
 
-  pub counts-of : GoodCounts (lineAt f 1)
+  pub counts-of : GoodCounts (header f)
   counts-of = header-counts f sized-of good-of
 
 -- the sections, one after the other: each letter's lines, and where the next letter begins

@@ -10,21 +10,20 @@ use lib.Dec.{eqb}
 use lib.ListN.{length}
 use borrow.Author.Tests.{eq-eqb, ne-eqb, eqb-true}
 use Rattle.search.specs.Search.{among, Among}
-use Rattle.search.proofs.Truth.{and-iff, and-when, among-iff, false-iff, same, eqb-swap}
+use Rattle.search.proofs.Truth.{and-iff, and-when, among-iff, other-iff, same, eqb-swap}
 use Rattle.search.proofs.Found.{some-more, some-yet}
 use Rattle.roleset.specs.Row.{member, rowOf, added, joined, Kept, Placed}
-use Rattle.roleset.proofs.Rows.{row-kept, other-kept, kept-both, whole-true, zero-row}
-use Rattle.order.specs.Closure.{Relation}
-use Rattle.rolefile.specs.Section.{one, two, three}
-use Rattle.order.proofs.Closure.{Agree}
+use Rattle.roleset.proofs.Rows.{row-kept, other-kept, kept-wider, kept-both, whole-true, zero-row}
+use Rattle.order.specs.Closure.{Relation, Agree}
+use Rattle.rolefile.specs.Section.{one, two, three, pairs}
 use Rattle.order.specs.Table.{related}
-use Rattle.policy.specs.Tables.{seniorsAt, readersAt, tableOf, pairs, lineGrants, grantedByLines, Related, GrantedRows, Unites}
+use Rattle.policy.specs.Tables.{seniorsAt, readersAt, tableOf, lineGrants, grantedByLines, Related, GrantedRows, Unites}
 use Rattle.policy.specs.Stages.{Zeros}
 
 -- where one row of a table is placed, what stands outside the table stays
 module _ (at size x : ℕ) {s : ℕ → Bool} {xs ys : List ℕ} (p : Placed (rowOf at x) s xs ys) (w : Among size x) where
   rest-stays : Kept at (at + 16 * size) xs ys
-  rest-stays i out = p .rest i (λ l. let far = out (omega arith) in omega arith)
+  rest-stays = kept-wider xs ys (omega arith) (p .rest)
 
   -- where it gets the roles of `new`, each row has what it had, and row x these too
   pub row-united : (new : ℕ → Bool) → at + 16 * size ≤ length xs → (y r : ℕ) → Among size y → s r ≡ (member xs (rowOf at x) r || new r)
@@ -148,13 +147,13 @@ module _ (role card mode : ℕ) (xs ys : List ℕ) (fits : 28688 ≤ length xs) 
   pub granted : GrantedRows (lineGrants xs role card mode) xs ys
   granted = record {
     rows = mode-rows;
-    rest = λ i out. p .rest i (λ k. let far = out (omega (arith, stands-at mode m)) in omega (arith, stands-at mode m));
+    rest = kept-wider xs ys (omega (arith, stands-at mode m)) (p .rest);
   }
 
 -- numbers that are no role's, no card's or no mode's grant nothing
 module _ (role card mode : ℕ) (xs : List ℕ) where
   pub no-role : (Among 128 role → ⊥) → GrantedRows (lineGrants xs role card mode) xs xs
-  no-role h = granted-none _ xs (λ d o r u t. rw (false-iff (among-iff 128 role) .1 h, and-false (eqb mode d), and-false (eqb card o)))
+  no-role h = granted-none _ xs (λ d o r u t. rw (other-iff false (among-iff 128 role) .1 h, and-false (eqb mode d), and-false (eqb card o)))
 
   pub no-card : (Among 512 card → ⊥) → GrantedRows (lineGrants xs role card mode) xs xs
   no-card h = granted-none _ xs (λ d o r u t. rw (ne-eqb card o (λ e. h (rw e t))))

@@ -9,9 +9,8 @@ use lib.Seq.{ext-getD}
 use Rattle.search.specs.Search.{Among}
 use Rattle.roleset.specs.Row.{AllBytes, rowOf}
 use Rattle.roleset.proofs.Rows.{same-row}
-use Rattle.order.specs.Closure.{Relation}
+use Rattle.order.specs.Closure.{Relation, Agree}
 use Rattle.order.specs.Table.{related}
-use Rattle.order.proofs.Closure.{Agree}
 use Rattle.rolefile.specs.declared.Verdict.{Verdict}
 use Rattle.policy.specs.Tables.{dominanceAt, clearancesAt, cardLabelsAt, rLevelsAt, wLevelsAt, seniorsAt, assignedAt, readersAt, writersAt, markAt}
 use Rattle.policy.specs.Tables.{stateSize, word, byteOf}

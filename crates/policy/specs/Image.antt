@@ -6,7 +6,8 @@ use mathlib.Core.Bool.{_&&_, cond}
 use lib.Dec.{leb}
 use lib.ListN.{length, getD}
 use Rattle.search.specs.Search.{Among}
-use Rattle.roleset.specs.Row.{member, rowOf}
+use Rattle.order.specs.Closure.{Agree}
+use Rattle.order.specs.Table.{related}
 use Rattle.rolefile.specs.declared.Verdict.{Verdict}
 use Rattle.rolefile.specs.Form.{fine, refusal, unless, _then_}
 use Rattle.rolefile.specs.Said.{labels, roles, users, cards, clearance, cardLabel, assigned}
@@ -34,11 +35,11 @@ Dominating f ys = (a b : ℕ) → Among 32 a → Among 32 b
 
 -- the row of a role holds its seniors, itself included
 abbrev pub Seniors : List ℕ → List ℕ → Type 0
-Seniors f ys = (q r : ℕ) → Among 128 q → Among 128 r → member ys (rowOf seniorsAt q) r ≡ (leb q (roles f) && senior f r q)
+Seniors f ys = Agree 128 128 (related ys seniorsAt) (λ q r. leb q (roles f) && senior f r q)
 
 -- the row of a card, in the table at `at`, holds the roles that may read it (d = 1) or write it (d = 2)
 abbrev pub Allows : List ℕ → ℕ → ℕ → List ℕ → Type 0
-Allows f d at ys = (o r : ℕ) → Among 512 o → Among 128 r → member ys (rowOf at o) r ≡ may f d r o
+Allows f d at ys = Agree 512 128 (related ys at) (λ o r. may f d r o)
 
 pub record Permitting (f ys : List ℕ) : Type 0 where
   pub readers : Allows f 1 readersAt ys
@@ -51,7 +52,7 @@ pub record Levelled (f ys : List ℕ) : Type 0 where
 
 -- the row of a user holds the roles that the user is assigned to
 abbrev pub Assigning : List ℕ → List ℕ → Type 0
-Assigning f ys = (u r : ℕ) → Among 256 u → Among 128 r → member ys (rowOf assignedAt u) r ≡ assigned f u r
+Assigning f ys = Agree 256 128 (related ys assignedAt) (assigned f)
 
 -- byte i belongs to no table: those after the counts, those kept for later tables, and those after the last one, among them the places: "closes all sessions"
 abbrev pub Unused : ℕ → Type 0

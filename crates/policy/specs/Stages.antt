@@ -5,14 +5,12 @@ use mathlib.Core.List.{List}
 use mathlib.Core.Bool.{Bool, false, _&&_}
 use lib.Dec.{leb}
 use lib.ListN.{getD}
-use Rattle.search.specs.Search.{Among}
 use Rattle.roleset.specs.Row.{Kept}
-use Rattle.order.specs.Closure.{path}
+use Rattle.order.specs.Closure.{Agree, path}
 use Rattle.order.specs.Table.{mark, Rows}
 use Rattle.rolefile.specs.declared.Line.{Line}
 use Rattle.rolefile.specs.declared.Verdict.{Verdict}
-use Rattle.rolefile.specs.Line.{lineAt}
-use Rattle.rolefile.specs.Form.{linesVerdict, unlabelledVerdict}
+use Rattle.rolefile.specs.Form.{header, linesVerdict, unlabelledVerdict}
 use Rattle.rolefile.specs.Said.{labels, over}
 use Rattle.rolefile.specs.Section.{part, Leads}
 use Rattle.policy.specs.declared.build.Parts.{Parts}
@@ -39,7 +37,7 @@ pub record Laid (f : List ℕ) (q : Parts) : Type 0 where
 pub record Ready (f : List ℕ) (q : Parts) (h : Line) : Type 0 where
   pub lines : linesVerdict f .number ≡ 0
   pub laid : Laid f q
-  pub head : h ≡ lineAt f 1
+  pub head : h ≡ header f
 
 -- the bytes from a up to b are 0
 abbrev pub Zeros : ℕ → ℕ → List ℕ → Type 0
@@ -56,7 +54,7 @@ abbrev pub Paths : List ℕ → List (List Bool) → Type 0
 Paths f t = Rows 32 (labels f) (path (labels f) (over f)) (λ a b. false) (mark t)
 
 abbrev pub Closed : List ℕ → List (List Bool) → Type 0
-Closed f t = (a b : ℕ) → Among 32 a → Among 32 b → mark t a b ≡ (leb a (labels f) && dominates f a b)
+Closed f t = Agree 32 32 (mark t) (λ a b. leb a (labels f) && dominates f a b)
 
 -- 13
 pub record Ranking (f : List ℕ) (v : Verdict) (xs ys : List ℕ) : Type 0 where

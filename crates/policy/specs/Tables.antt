@@ -7,11 +7,11 @@ use lib.Dec.{leb, eqb}
 use lib.ListN.{length, getD}
 use Rattle.search.specs.Search.{among, some, Among}
 use Rattle.roleset.specs.Row.{member, rowOf, Kept}
-use Rattle.order.specs.Closure.{Relation, circle}
+use Rattle.order.specs.Closure.{Relation, Agree, circle}
 use Rattle.order.specs.Table.{mark, related}
 use Rattle.rolefile.specs.declared.Verdict.{Verdict}
 use Rattle.rolefile.specs.Form.{fine, refusal, unless}
-use Rattle.rolefile.specs.Section.{one, two, three}
+use Rattle.rolefile.specs.Section.{one, two, three, pairs}
 
 -- ---- where the counts and the tables start
 
@@ -82,10 +82,6 @@ marked xs a b = among 32 a && (among 32 b && eqb (getD xs (markAt a b) 0) 1)
 
 -- ---- what the first m lines of a part put into them
 
--- a line has the numbers x and y
-unfoldable pub pairs : List ℕ → ℕ → ℕ → ℕ → Bool
-pairs p m x y = some m (λ i. eqb (one p i) x && eqb (two p i) y)
-
 -- a byte for thing x, 0 before: the label of its line, or 255 where it has several
 unfoldable pub noted : ℕ → ℕ → ℕ
 noted old l = cond (eqb old 0) (l % 256) 255
@@ -125,7 +121,7 @@ gathered xs at n l r = some n (brings xs at l r)
 
 -- the rows of a table of role sets: each row x holds what it held, and the roles r for which `said x r`
 abbrev pub Unites : ℕ → ℕ → Relation → List ℕ → List ℕ → Type 0
-Unites at size said xs ys = (x r : ℕ) → Among size x → Among 128 r → member ys (rowOf at x) r ≡ (member xs (rowOf at x) r || said x r)
+Unites at size said xs ys = Agree size 128 (related ys at) (λ x r. related xs at x r || said x r)
 
 -- the rows of the table at `at` are united so, and every other byte is as it was
 pub record Related (at size : ℕ) (said : Relation) (xs ys : List ℕ) : Type 0 where
@@ -137,6 +133,10 @@ pub record Bytes (at size : ℕ) (v : ℕ → ℕ) (xs ys : List ℕ) : Type 0 w
   pub bytes : (x : ℕ) → Among size x → byteOf ys at x ≡ v x
   pub rest : Kept at (at + size) xs ys
 
+-- the bytes of a table when i lines of the part p have been noted
+abbrev pub NotedBytes : ℕ → ℕ → List ℕ → ℕ → List ℕ → List ℕ → Type 0
+NotedBytes at size p i xs ys = Bytes at size (λ x. notes p i x (byteOf xs at x)) xs ys
+
 -- the readers' and the writers' rows, each with what `said` gives for its mode
 pub record GrantedRows (said : ℕ → ℕ → ℕ → Bool) (xs ys : List ℕ) : Type 0 where
   pub rows : (d : ℕ) → Among 2 d → Unites (tableOf d) 512 (said d) xs ys
@@ -144,11 +144,11 @@ pub record GrantedRows (said : ℕ → ℕ → ℕ → Bool) (xs ys : List ℕ) 
 
 -- tables of marks: t has those of the first m lines of the part p
 abbrev pub Marking : List ℕ → ℕ → List (List Bool) → Type 0
-Marking p m t = (a b : ℕ) → Among 32 a → Among 32 b → mark t a b ≡ pairs p m a b
+Marking p m t = Agree 32 32 (mark t) (pairs p m)
 
 -- u is t with a mark for a over b
 abbrev pub WithPair : ℕ → ℕ → List (List Bool) → List (List Bool) → Type 0
-WithPair a b t u = (x y : ℕ) → Among 32 x → Among 32 y → mark u x y ≡ (mark t x y || (eqb a x && eqb b y))
+WithPair a b t u = Agree 32 32 (mark u) (λ x y. mark t x y || (eqb a x && eqb b y))
 
 -- the first i rows of the marks t stand where dominance does, a byte for each mark, and nothing else changed
 pub record DominanceRows (i : ℕ) (t : List (List Bool)) (xs ys : List ℕ) : Type 0 where

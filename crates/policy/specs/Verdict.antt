@@ -11,12 +11,13 @@ use Rattle.rolefile.specs.Form.{fine, refusal, unless, _then_, scan, found, for
 use Rattle.rolefile.specs.Said.{labels, roles, over, above, clearance}
 use Rattle.policy.specs.Policy.{dominates, rLevel, wLevel, passes, isDefined}
 
+-- 12
+abbrev pub pairVerdict : ℕ → Relation → Verdict
+pairVerdict n ge = let a = lowestWithoutBound n ge in found a (refusal 12 a (partnerWithoutBound n ge a))
+
 -- 11 and 12, of the paths over a relation and of the order that they close it to
 unfoldable pub orderVerdict : ℕ → Relation → Relation → Verdict
-orderVerdict n paths ge =
-    let a = loop n paths in
-    let b = lowestWithoutBound n ge in
-    found a (refusal 11 a 0) then found b (refusal 12 b (partnerWithoutBound n ge b))
+orderVerdict n paths ge = let a = loop n paths in found a (refusal 11 a 0) then pairVerdict n ge
 
 unfoldable pub labelVerdict : List ℕ → Verdict
 labelVerdict f = orderVerdict (labels f) (path (labels f) (over f)) (dominates f)

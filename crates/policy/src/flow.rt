@@ -3,9 +3,10 @@
 // Every public function takes any slice. One that is too short to be a state has no roles.
 use super::tables;
 ghost use mathlib.Core.Path.{_≡_};
-ghost use Prim.Native.Nat.{ℕ, _+_, _≤_, _<_};
+ghost use Prim.Native.Nat.{_+_, _≤_, _<_};
 ghost use lib.ListN.{length};
-ghost use Rattle.search.specs.Search.{some, Among};
+ghost use Rattle.search.specs.Search.{some};
+ghost use Rattle.order.specs.Closure.{Agree};
 ghost use Rattle.order.specs.Table.{related, Tabled};
 ghost use Rattle.policy.specs.Tables.{rLevelsAt, wLevelsAt, flowsByCard, pastCard, withoutLoops, countIn, roleCount, levelIn, flowsIn, circleIn};
 
@@ -104,7 +105,7 @@ fn flow_past(t: &mut [u8], s: &[u8], o: usize)
 // Relates each role that may write one of the first n cards to each role that may read that card.
 fn flow_table(s: &[u8], n: usize) -> [u8; 2048]
     requires { ⌜ (28688 ≤ length (now s)) × (n ≤ 512) ⌝ }
-    ensures { λ t. ⌜ ((r q : ℕ) → Among 128 r → Among 128 q → related t 0 r q ≡ some n (flowsByCard (now (s .entry)) r q)) ⌝ }
+    ensures { λ t. ⌜ Agree 128 128 (related t 0) (λ r q. some n (flowsByCard (now (s .entry)) r q)) ⌝ }
 {
     let mut t = [0u8; 2048];
     let mut o = 0;
@@ -129,7 +130,7 @@ fn remove_itself(t: &mut [u8])
 
 // Role flow as a table of role sets: row r has the roles that r flows to.
 pub fn table(s: &[u8]) -> [u8; 2048]
-    ensures { λ t. ⌜ ((r q : ℕ) → Among 128 r → Among 128 q → related t 0 r q ≡ flowsIn (now (s .entry)) r q) ⌝ }
+    ensures { λ t. ⌜ Agree 128 128 (related t 0) (flowsIn (now (s .entry))) ⌝ }
 {
     if s.len() < 65536 {
         return [0u8; 2048];

@@ -1,11 +1,12 @@
 // Levels: the labels that a role may read or write are gathered, and bounded.
 ghost use mathlib.Core.Path.{_≡_};
-ghost use Prim.Native.Nat.{ℕ, _+_, _≤_, _<_};
+ghost use Prim.Native.Nat.{_+_, _≤_, _<_};
 ghost use lib.ListN.{length};
-ghost use Rattle.search.specs.Search.{Among, some};
+ghost use Rattle.search.specs.Search.{some};
 ghost use Rattle.roleset.specs.Row.{member, rowOf};
+ghost use Rattle.order.specs.Closure.{Agree};
 ghost use Rattle.order.specs.Bound.{converse};
-ghost use Rattle.order.specs.Table.{marks, mark, FirstThings};
+ghost use Rattle.order.specs.Table.{marks, mark, Upto, FirstThings, related};
 ghost use Rattle.policy.specs.Policy.{level, levelNumber};
 ghost use Rattle.policy.specs.Tables.{brings, gathered, Unites, Bytes};
 
@@ -25,7 +26,7 @@ fn gather_one(g: &mut [u8; 512], s: &[u8], at: usize, o: usize)
 // For each label, the roles that the table at `at` has for one of the first n cards of that label.
 pub fn gather(s: &[u8], at: usize, n: usize) -> [u8; 512]
     requires { ⌜ (at + 8192 ≤ length (now s)) × (1808 ≤ length (now s)) × (n ≤ 512) ⌝ }
-    ensures { λ g. ⌜ ((l r : ℕ) → Among 32 l → Among 128 r → member g (rowOf 0 l) r ≡ gathered (now (s .entry)) at n l r) ⌝ }
+    ensures { λ g. ⌜ Agree 32 128 (related g 0) (gathered (now (s .entry)) at n) ⌝ }
 {
     let mut g = [0u8; 512];
     let mut o = 0;
@@ -38,7 +39,7 @@ pub fn gather(s: &[u8], at: usize, n: usize) -> [u8; 512]
 
 // The labels whose row of `g` has the role.
 fn labels_of(g: &[u8; 512], role: usize) -> [bool; 32]
-    ensures { λ r. ⌜ ((l : ℕ) → Among 32 l → marks r l ≡ member (now (g .entry)) (rowOf 0 l) role) ⌝ }
+    ensures { λ r. ⌜ Upto 32 (λ l. related (now (g .entry)) 0 l role) r ⌝ }
 {
     let mut r = [false; 32];
     let mut i = 0;

@@ -5,7 +5,7 @@ ghost use Prim.Native.Nat.{_+_, _≤_};
 ghost use lib.ListN.{length};
 ghost use Rattle.search.specs.Search.{first};
 ghost use Rattle.rolefile.specs.Line.{lines};
-ghost use Rattle.policy.specs.Tables.{byteOf, Bytes, noted, afterNote, notes, unlabelledIn};
+ghost use Rattle.policy.specs.Tables.{Bytes, noted, afterNote, NotedBytes, unlabelledIn};
 
 // The byte for a label where `old` was there before: 255 where it is the second.
 fn noted(old: u8, label: usize) -> u8
@@ -32,7 +32,7 @@ fn note(s: &mut [u8], at: usize, size: usize, x: usize, label: usize)
 // Notes the labels that the first m lines of a part give.
 pub fn note_lines(s: &mut [u8], at: usize, size: usize, p: &[u8], m: usize)
     requires { ⌜ (at + size ≤ length (now s)) × (size ≤ 512) × (m ≤ lines (now p)) ⌝ }
-    ensures { λ _. ⌜ Bytes at size (λ x. notes (now (p .entry)) m x (byteOf (now (s .entry)) at x)) (now (s .entry)) (now (s .exit)) ⌝ }
+    ensures { λ _. ⌜ NotedBytes at size (now (p .entry)) m (now (s .entry)) (now (s .exit)) ⌝ }
 {
     let mut i = 0;
     while i < m {

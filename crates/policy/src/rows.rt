@@ -5,7 +5,8 @@ ghost use Prim.Native.Nat.{_+_, _*_, _≤_};
 ghost use lib.Dec.{eqb};
 ghost use lib.ListN.{length};
 ghost use Rattle.rolefile.specs.Line.{lines};
-ghost use Rattle.policy.specs.Tables.{pairs, lineGrants, grantedByLines, Related, GrantedRows};
+ghost use Rattle.rolefile.specs.Section.{pairs};
+ghost use Rattle.policy.specs.Tables.{lineGrants, grantedByLines, Related, GrantedRows};
 
 // Puts a role into the row of thing x, if it is one of the table's.
 fn relate(s: &mut [u8], at: usize, size: usize, x: usize, role: usize)

@@ -11,6 +11,7 @@ use Rattle.rolefile.specs.declared.Line.{Line}
 use Rattle.rolefile.specs.declared.Verdict.{Verdict}
 use Rattle.rolefile.specs.Field.{fieldAt}
 use Rattle.rolefile.specs.Line.{value, formed, lineOf, start, lineAt, noLine}
+use Rattle.rolefile.specs.Form.{header}
 use Rattle.rolefile.proofs.Decimals.{field-number}
 use Rattle.policy.specs.Verdict.{verdict}
 use Rattle.policy.specs.Accepted.{Outcome, accepted, badSize, badLine, badUser, badCard, labelCircle, noBound, roleCircle, badAssignment}
@@ -56,7 +57,7 @@ verdict-written f =
     let (a, b) = places (outcome f) in
     record { number = ⊎-elim (λ l. omega arith) (λ l. omega arith) (verdict-numbers f); first = a; second = b }
   where
-    few : Few (lineAt f 1)
+    few : Few (header f)
     few = line-few f 1
 
     places : {v : Verdict} → Outcome f v → (v .first < 100000) × (v .second < 100000)

@@ -4,18 +4,18 @@ use Prim.Native.Nat.{ℕ, _-_, _%_, _≤_, _<_}
 use mathlib.Core.Path.{_≡_, refl}
 use mathlib.Core.Logic.{_↔_, _⊎_, inl, inr}
 use mathlib.Core.List.{List}
-use mathlib.Core.Bool.{Bool, true, false, not}
+use mathlib.Core.Bool.{Bool, true, false}
 use native.Mathlib.Omega.{arith}
 use lib.Dec.{eqb}
 use lib.ListN.{length}
 use borrow.Author.Tests.{eqb-true, eq-eqb, not-true, not-false}
 use Rattle.search.specs.Search.{Among}
-use Rattle.search.proofs.Truth.{eqb-iff, leb-iff, ltb-iff, and-both, or-both, implies-both, among-iff, false-iff}
+use Rattle.search.proofs.Truth.{eqb-iff, leb-iff, ltb-iff, and-both, or-both, implies-both, among-iff, other-iff}
 use Rattle.search.proofs.Found.{first-none-of}
 use Rattle.rolefile.specs.declared.Line.{Line}
 use Rattle.rolefile.specs.declared.Verdict.{Verdict}
 use Rattle.rolefile.specs.Line.{H, U, O, P, lineAt, lines}
-use Rattle.rolefile.specs.Form.{refusal, sized, header, goodCounts, firstLimit, secondLimit, ranged, before, rises, headVerdict, bodyVerdict, lineVerdict, count, about, unlabelled, found, unlabelledVerdict, linesVerdict, formVerdict, withinLimits}
+use Rattle.rolefile.specs.Form.{refusal, sized, header, goodCounts, firstLimit, secondLimit, ranged, before, rises, headVerdict, bodyVerdict, lineVerdict, about, unlabelled, found, unlabelledVerdict, linesVerdict, formVerdict, withinLimits, lineCount, notOne}
 use Rattle.rolefile.specs.Said.{users, cards}
 use Rattle.rolefile.specs.WellFormed.{Sized, GoodCounts, GoodNumbers, Before, Rises, GoodHead, GoodBody, GoodLine, GoodLines, LineRefused, noHeader, badCounts, malformed, badNumbers, unordered, One, OneEach, LowestUnlabelled, WellFormed}
 use Rattle.rolefile.proofs.Decides.{Decides, Fails, Else, Earliest, decides-as, decides-when}
@@ -95,7 +95,7 @@ LineRefusal f k x = (n : ℕ) × LineRefused f k n × (x ≡ refusal n k 0)
 module _ (f : List ℕ) (k : ℕ) where
   abbrev Either : Verdict → Type 0
   Either x =
-      ((k ≡ 1) × HeadRefusal (lineAt f 1) x)
+      ((k ≡ 1) × HeadRefusal (header f) x)
       ⊎ ((k ≡ 1 → ⊥) × BodyRefusal (header f) (lineAt f (k - 1)) k (lineAt f k) x)
 
   refused : (x : Verdict) → Either x → LineRefusal f k x
@@ -116,7 +116,7 @@ module _ (f : List ℕ) (k : ℕ) where
   unfolding lineVerdict
   line-decides =
       decides-as
-      (cond-decides (head-decides (lineAt f 1)) (eqb-iff k 1) (body-decides (header f) (lineAt f (k - 1)) k (lineAt f k)))
+      (cond-decides (head-decides (header f)) (eqb-iff k 1) (body-decides (header f) (lineAt f (k - 1)) k (lineAt f k)))
       (λ (h, b). record { head = h; body = b }, λ g. (g .head, g .body))
       (λ x. (refused x, λ (n, l, e). rw e (refusing l)))
 
@@ -135,11 +135,11 @@ lines-decides f = then-decides (test-decides (sized-iff f) (refusal 1 0 0) (omeg
 -- ---- 6
 
 module _ (f : List ℕ) (k : ℕ) where
-  one-iff : (x : ℕ) → (eqb (count (lines f) (about f k x)) 1 ≡ true) ↔ One f k x
+  one-iff : (x : ℕ) → (eqb (lineCount f k x) 1 ≡ true) ↔ One f k x
   one-iff x =
       let t = count-one (about f k x) (lines f) in (
-        λ e. let (i, (w, h, o)) = t .0 (eqb-true (count (lines f) (about f k x)) 1 e) in record { line = i; inside = w; tells = h; only = o },
-        λ o. eq-eqb (count (lines f) (about f k x)) 1 (t .1 (o .line, (o .inside, o .tells, o .only))),
+        λ e. let (i, (w, h, o)) = t .0 (eqb-true (lineCount f k x) 1 e) in record { line = i; inside = w; tells = h; only = o },
+        λ o. eq-eqb (lineCount f k x) 1 (t .1 (o .line, (o .inside, o .tells, o .only))),
       )
 
   -- why a file is refused for a thing that does not have one line
@@ -148,18 +148,15 @@ module _ (f : List ℕ) (k : ℕ) where
 
   unlabelled-decides : (n place : ℕ) → Decides (found (unlabelled f k n) (refusal 6 place (unlabelled f k n))) (OneEach f k n) (UnlabelledRefusal n place)
   unfolding unlabelled
-  unlabelled-decides n place = search-decides n bad (first-none-of bad n hasNot) has hasNot (refusal 6 place) (λ x. omega arith)
+  unlabelled-decides n place = search-decides n (notOne f k) (first-none-of (notOne f k) n hasNot) has hasNot (refusal 6 place) (λ x. omega arith)
     where
-      bad : ℕ → Bool
-      bad x = not (eqb (count (lines f) (about f k x)) 1)
-
-      has : (x : ℕ) → Among n x → (bad x ≡ true) ↔ (One f k x → ⊥)
+      has : (x : ℕ) → Among n x → (notOne f k x ≡ true) ↔ (One f k x → ⊥)
       has x w =
-          let none = false-iff (one-iff x) in
-          (λ e. none .0 (not-true (eqb (count (lines f) (about f k x)) 1) e), λ h. rw (none .1 h))
+          let none = other-iff false (one-iff x) in
+          (λ e. none .0 (not-true (eqb (lineCount f k x) 1) e), λ h. rw (none .1 h))
 
-      hasNot : (x : ℕ) → Among n x → (bad x ≡ false) ↔ One f k x
-      hasNot x w = (λ e. one-iff x .0 (not-false (eqb (count (lines f) (about f k x)) 1) e), λ o. rw (one-iff x .1 o))
+      hasNot : (x : ℕ) → Among n x → (notOne f k x ≡ false) ↔ One f k x
+      hasNot x w = (λ e. one-iff x .0 (not-false (eqb (lineCount f k x) 1) e), λ o. rw (one-iff x .1 o))
 
 -- ---- the whole form
 

@@ -7,7 +7,7 @@ use native.Mathlib.Nat.{add-sub-cancel}
 use native.Mathlib.Omega.{arith}
 use lib.Dec.{eqb, leb}
 use borrow.Author.Tests.{eqb-true, eqb-false, ne-eqb, leb-false}
-use Rattle.search.proofs.Truth.{and-iff, false-iff}
+use Rattle.search.proofs.Truth.{and-iff, other-iff}
 use Rattle.rolefile.specs.declared.Line.{Line}
 use Rattle.rolefile.specs.declared.Verdict.{Verdict}
 use Rattle.rolefile.specs.declared.check.Seen.{Seen}
@@ -24,7 +24,7 @@ unfolding lineVerdict
 later-line f k l = rw (ne-eqb k 1 (λ e. omega arith))
 
 -- what a scan has at hand once line 1 has been looked at
-pub begun-seen : (f : List ℕ) (h : Line) (v : Verdict) → h ≡ lineAt f 1 → v ≡ headVerdict h → record { head = h; before = h; verdict = v } ≡ seen f 2
+pub begun-seen : (f : List ℕ) (h : Line) (v : Verdict) → h ≡ header f → v ≡ headVerdict h → record { head = h; before = h; verdict = v } ≡ seen f 2
 unfolding lineVerdict scan
 begun-seen f h v e q = rw (q, e)
 
@@ -48,7 +48,7 @@ ended-seen f k s w e g = rw e (ends (eqb (scan (k - 1) (lineVerdict f) .number) 
 module _ (f : List ℕ) where
   pub bad-size : (Sized f → ⊥) → refusal 1 0 0 ≡ linesVerdict f
   unfolding linesVerdict
-  bad-size h = rw (false-iff (sized-iff f) .1 h)
+  bad-size h = rw (other-iff false (sized-iff f) .1 h)
 
   pub good-size : Sized f → scan (lines f) (lineVerdict f) ≡ linesVerdict f
   unfolding linesVerdict

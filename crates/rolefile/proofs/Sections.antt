@@ -17,11 +17,11 @@ use Rattle.search.proofs.Truth.{and-iff}
 use Rattle.rolefile.specs.declared.Line.{Line}
 use Rattle.rolefile.specs.Field.{fieldAt}
 use Rattle.rolefile.specs.Line.{P, letterOf, fields, start, lineAt, lines, fieldUsed}
-use Rattle.rolefile.specs.Form.{count, about}
+use Rattle.rolefile.specs.Form.{count, about, lineCount}
 use Rattle.rolefile.specs.Said.{is, says, last, labelBy}
 use Rattle.rolefile.specs.WellFormed.{GoodLines}
 use Rattle.rolefile.specs.Decimal.{letterByte}
-use Rattle.rolefile.specs.Section.{part, one, two, three, letterAt, Leads}
+use Rattle.rolefile.specs.Section.{part, one, two, three, letterAt, Leads, pairs}
 use Rattle.rolefile.proofs.Decimals.{figures}
 use Rattle.rolefile.proofs.Written.{Reads, Stands, letter-iff, line-iff}
 use Rattle.rolefile.proofs.Parts.{part-start, part-line, part-lines}
@@ -167,11 +167,11 @@ module _ (f : List ℕ) (good : GoodLines f) {k j m : ℕ} (s : Section f k j m)
   -- ---- what the lines say
 
   -- a letter of two fields
-  pub says-two : fields k ≡ 2 → (x y : ℕ) → says f k x y 0 ≡ some m (λ i. eqb (one (part f j) i) x && eqb (two (part f j) i) y)
-  unfolding says
+  pub says-two : fields k ≡ 2 → (x y : ℕ) → pairs (part f j) m x y ≡ says f k x y 0
+  unfolding says pairs
   says-two e x y =
-      some-within (lines f) j m (s .fits) (λ i. is (lineAt f i) k x y 0) _ (tested s _)
-      (λ i w. rw (s .inside i w, eq-eqb k k refl, told .none i w (rw (s .inside i w) e), and-true, told .one i w, told .two i w))
+      sym (some-within (lines f) j m (s .fits) (λ i. is (lineAt f i) k x y 0) _ (tested s _)
+      (λ i w. rw (s .inside i w, eq-eqb k k refl, told .none i w (rw (s .inside i w) e), and-true, told .one i w, told .two i w)))
 
   -- the letter of three
   pub says-three : k ≡ P → (x y z : ℕ)
@@ -185,7 +185,7 @@ module _ (f : List ℕ) (good : GoodLines f) {k j m : ℕ} (s : Section f k j m)
     about-one : (i : ℕ) → Among m i → about f k x (j + i) ≡ eqb (one (part f j) i) x
     about-one i w = rw (s .inside i w, eq-eqb k k refl, told .one i w)
 
-    pub count-about : count (lines f) (about f k x) ≡ count m (λ i. eqb (one (part f j) i) x)
+    pub count-about : lineCount f k x ≡ count m (λ i. eqb (one (part f j) i) x)
     count-about = count-within (lines f) j m (s .fits) (about f k x) _ (tested s _) about-one
 
     pub label-section : labelBy f k x ≡ last m (λ i. eqb (one (part f j) i) x) (two (part f j))

@@ -9,7 +9,7 @@ use native.Mathlib.Numerals.{add-one}
 use lib.Dec.{eqb}
 use borrow.Author.Tests.{eqb-false, ne-eqb}
 use Rattle.search.specs.Search.{Among}
-use Rattle.search.proofs.Truth.{either-by}
+use Rattle.search.proofs.Truth.{either-by, either}
 use Rattle.rolefile.specs.declared.Verdict.{Verdict}
 use Rattle.rolefile.specs.Form.{fine, refusal, unless, _then_, scan}
 
@@ -45,8 +45,7 @@ then-joined u v w = go (eqb (u .number) 0) refl
     go false e = then-stop u w (eqb-false (u .number) 0 e)
 
 pub unless-clean : (t : Bool) (v : Verdict) {w : Verdict} → Refuses v → Clean w → Clean (unless t v w)
-unless-clean true v h k e = k e
-unless-clean false v h k e = absurd (h e)
+unless-clean t v {w} h k = either Clean t w v k (λ e. absurd (h e))
 
 module _ (v : ℕ → Verdict) where
   pub scan-clean : (n : ℕ) → ((k : ℕ) → Among n k → Clean (v k)) → Clean (scan n v)

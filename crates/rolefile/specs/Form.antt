@@ -77,7 +77,7 @@ bodyVerdict h p k l =
     unless (ltb H (l .letter)) (refusal 2 k 0) (unless (ranged h l) (refusal 4 k 0) (unless (rises p l) (refusal 5 k 0) fine))
 
 unfoldable pub lineVerdict : List ℕ → ℕ → Verdict
-lineVerdict f k = cond (eqb k 1) (headVerdict (lineAt f 1)) (bodyVerdict (header f) (lineAt f (k - 1)) k (lineAt f k))
+lineVerdict f k = cond (eqb k 1) (headVerdict (header f)) (bodyVerdict (header f) (lineAt f (k - 1)) k (lineAt f k))
 
 -- ---- 6: "user or card with no label or more than one"
 
@@ -90,9 +90,17 @@ count (suc n) p = count n p + cond (p (suc n)) 1 0
 abbrev pub about : List ℕ → ℕ → ℕ → ℕ → Bool
 about f k x i = eqb (lineAt f i .letter) k && eqb (lineAt f i .a) x
 
+-- how many lines of the letter k are about x
+abbrev pub lineCount : List ℕ → ℕ → ℕ → ℕ
+lineCount f k x = count (lines f) (about f k x)
+
+-- none, or more than one
+abbrev pub notOne : List ℕ → ℕ → ℕ → Bool
+notOne f k x = not (eqb (lineCount f k x) 1)
+
 -- the lowest of n things that has no line of the letter k or more than one, or 0
 unfoldable pub unlabelled : List ℕ → ℕ → ℕ → ℕ
-unlabelled f k n = first n (λ x. not (eqb (count (lines f) (about f k x)) 1))
+unlabelled f k n = first n (notOne f k)
 
 -- the verdict where x was found, or fine where x is 0
 abbrev pub found : ℕ → Verdict → Verdict

@@ -3,10 +3,10 @@
 use Prim.Native.Nat.{ℕ, _+_, _*_, _%_, _≤_, _<_}
 use mathlib.Core.Path.{_≡_}
 use mathlib.Core.List.{List}
-use mathlib.Core.Bool.{cond}
-use lib.Dec.{leb}
+use mathlib.Core.Bool.{Bool, _&&_, cond}
+use lib.Dec.{leb, eqb}
 use lib.ListN.{getD, drop}
-use Rattle.search.specs.Search.{Among}
+use Rattle.search.specs.Search.{Among, some}
 use Rattle.rolefile.specs.Line.{start, lines}
 
 -- the part of a file after its first j lines
@@ -32,6 +32,10 @@ two = figureOf 6
 
 unfoldable pub three : List ℕ → ℕ → ℕ
 three = figureOf 11
+
+-- one of the first m lines of a part has the numbers x and y
+unfoldable pub pairs : List ℕ → ℕ → ℕ → ℕ → Bool
+pairs p m x y = some m (λ i. eqb (one p i) x && eqb (two p i) y)
 
 -- the byte of line i's letter
 unfoldable pub letterAt : List ℕ → ℕ → ℕ

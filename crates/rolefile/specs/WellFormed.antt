@@ -46,7 +46,7 @@ pub record GoodBody (h p l : Line) : Type 0 where
   pub order : Rises p l
 
 pub record GoodLine (f : List ℕ) (k : ℕ) : Type 0 where
-  pub head : k ≡ 1 → GoodHead (lineAt f 1)
+  pub head : k ≡ 1 → GoodHead (header f)
   pub body : (k ≡ 1 → ⊥) → GoodBody (header f) (lineAt f (k - 1)) (lineAt f k)
 
 abbrev pub GoodLines : List ℕ → Type 0

@@ -15,11 +15,15 @@ use borrow.Author.Count.{below-more}
 use borrow.Author.Tests.{le-leb, eq-eqb, ne-eqb}
 use Rattle.search.specs.Search.{among, Among}
 use Rattle.search.proofs.Truth.{and-iff, and-when, among-iff, both}
-use Rattle.roleset.specs.Row.{AllBytes, bit, rowOf, roleByte, roleBit, whole, member, added, removed, Kept, Placed, PlacedRows}
+use Rattle.roleset.specs.Row.{AllBytes, bit, rowOf, roleByte, roleBit, whole, member, added, removed, Copied, Kept, Placed, PlacedRows}
 use Rattle.roleset.proofs.Bits.{bit-zero, bit-on, bit-off, same-bits}
 
 pub whole-true : (xs : List ℕ) (at : ℕ) → at + 16 ≤ length xs → whole xs at ≡ true
 whole-true xs at = le-leb (at + 16) (length xs)
+
+-- a copy of a row that lies in xs
+pub copied : (xs row : List ℕ) (at : ℕ) → at + 16 ≤ length xs → Copied xs at row → (r : ℕ) → member row 0 r ≡ member xs at r
+copied xs row at l c r = c r ∙ rw (whole-true xs at l)
 
 module _ (xs : List ℕ) (at : ℕ) where
   pub member-role : (r : ℕ) → member xs at r ≡ true → Among 128 r
@@ -110,9 +114,13 @@ placed-as e p = record { row = λ l r. p .row l r ∙ e r; rest = p .rest; none 
 
 -- ---- bytes kept
 
--- outside a part, by two changes inside it
+-- outside a part, by a change inside it
+pub kept-wider : {a b c d : ℕ} (xs ys : List ℕ) → (a ≤ c) × (d ≤ b) → Kept c d xs ys → Kept a b xs ys
+kept-wider xs ys w k i o = k i (λ n. omega (arith, o (omega arith)))
+
+-- and by two
 pub kept-both : {a b c d e g : ℕ} (xs ys zs : List ℕ) → (a ≤ c) × (d ≤ b) × (a ≤ e) × (g ≤ b) → Kept c d xs ys → Kept e g ys zs → Kept a b xs zs
-kept-both xs ys zs w k h i o = h i (λ n. omega (arith, o (omega arith))) ∙ k i (λ n. omega (arith, o (omega arith)))
+kept-both xs ys zs w k h i o = kept-wider ys zs (omega arith) h i o ∙ kept-wider xs ys (omega arith) k i o
 
 -- what stands outside a part is kept by a store in it
 pub kept-more : (a b i v : ℕ) (xs ys : List ℕ) → a ≤ i → i < b → Kept a b xs ys → Kept a b xs (set ys i v)
@@ -204,13 +212,13 @@ module _ {at : ℕ} {f : ℕ → ℕ} {xs : List ℕ} where
         below-more _ i
         (λ k m. getD-set-other ys (at + i) (at + k) byte 0 (λ j. omega arith) ∙ w .done k m)
         (getD-set-same ys (at + i) byte 0 (omega arith) ∙ e);
-    rest = kept-more at (at + (i + 1)) (at + i) byte xs ys (omega arith) (omega arith) (λ k o. w .rest k (λ m. omega (arith, o m)));
+    rest = kept-more at (at + (i + 1)) (at + i) byte xs ys (omega arith) (omega arith) (kept-wider xs ys (omega arith) (w .rest));
   }
 
   pub write-all : {s : ℕ → Bool} {i : ℕ} {ys : List ℕ} → Written at i f xs ys → i ≡ 16 → at + 16 ≤ length xs
       → ((r : ℕ) → (among 128 r && bit (f (roleByte r)) (roleBit r)) ≡ s r) → Placed at s xs ys
   write-all {s} {i} {ys} w l fits h = record {
     row = λ m r. member-of ys at f (λ k n. w .done k (omega arith)) r ∙ h r;
-    rest = λ k o. w .rest k (λ m. omega (arith, o m));
+    rest = kept-wider xs ys (omega arith) (w .rest);
     none = λ m. absurd (omega arith);
   }

@@ -56,9 +56,9 @@ untrue a h = not-eq-not .0 h
 pub both : {a : Bool} → a ≡ true → a ≡ false → ⊥
 both p q = true≢false (sym p ∙ q)
 
--- what a test tells that fails
-pub false-iff : {a : Bool} {P : Type 0} → (a ≡ true) ↔ P → (a ≡ false) ↔ (P → ⊥)
-false-iff i = Iff·trans (Iff·symm not-eq-not) (Iff·not i)
+-- what a test tells that comes out b, by what it tells where it comes out the other way
+pub other-iff : (b : Bool) {a : Bool} {P : Type 0} → (a ≡ not b) ↔ P → (a ≡ b) ↔ (P → ⊥)
+other-iff b i = Iff·trans (Iff·symm not-eq-not) (Iff·not i)
 
 -- what code that branches on `!test()` knows of the test that was answered
 pub passed : {t u : Bool} → t ≡ u → not t ≡ false → u ≡ true
@@ -71,7 +71,7 @@ pub one-of : (n x : ℕ) {t : Bool} → t ≡ among n x → not t ≡ false → 
 one-of n x e h = among-iff n x .0 (passed e h)
 
 pub none-of : (n x : ℕ) {t : Bool} → t ≡ among n x → not t ≡ true → Among n x → ⊥
-none-of n x e h = false-iff (among-iff n x) .0 (failed e h)
+none-of n x e h = other-iff false (among-iff n x) .0 (failed e h)
 
 -- two tests that are true in the same cases are one
 pub same : (a b : Bool) → (a ≡ true → b ≡ true) → (b ≡ true → a ≡ true) → a ≡ b

@@ -3,9 +3,8 @@ use Prim.Native.Nat.{_≤_}
 use native.Mathlib.Omega.{arith}
 use borrow.Author.Needs.{needs}
 use denote.Ref.{now}
-use Rattle.order.specs.Closure.{path}
+use Rattle.order.specs.Closure.{Agree, path}
 use Rattle.order.specs.Table.{related}
-use Rattle.order.proofs.Closure.{Agree}
 use Rattle.text.proofs.Text.{puts-as}
 use Rattle.policy.specs.Tables.{flowsIn}
 use Rattle.monitor.proofs.Known.{few-roles}

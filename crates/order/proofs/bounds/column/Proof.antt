@@ -5,8 +5,8 @@ use native.Mathlib.Nat.{add-sub-cancel}
 use native.Mathlib.Omega.{arith}
 use borrow.Author.Needs.{needs}
 use lib.ListN.{length}
-use Rattle.order.specs.Table.{mark}
-use Rattle.order.proofs.Stored.{Upto, upto-more}
+use Rattle.order.specs.Table.{mark, Upto}
+use Rattle.order.proofs.Stored.{upto-more}
 use Rattle.order.proofs.bounds.column.Statement.{statement}
 use Rattle.order.proofs.bounds.column.Tie as tie
 

@@ -6,8 +6,8 @@ use native.Mathlib.Omega.{arith}
 use borrow.Author.Needs.{needs}
 use lib.ListN.{length}
 use mathlib.Core.Bool.{_&&_}
-use Rattle.order.specs.Table.{marks}
-use Rattle.order.proofs.Stored.{Upto, upto-more}
+use Rattle.order.specs.Table.{marks, Upto}
+use Rattle.order.proofs.Stored.{upto-more}
 use Rattle.order.proofs.bounds.common.Statement.{statement}
 use Rattle.order.proofs.bounds.common.Tie as tie
 

@@ -8,7 +8,7 @@ use borrow.Author.Needs.{needs}
 use Rattle.search.proofs.Found.{first-yet}
 use Rattle.order.specs.Bound.{converse, FirstWithoutBound}
 use Rattle.order.specs.Table.{mark}
-use Rattle.order.proofs.Closure.{Agree}
+use Rattle.order.specs.Closure.{Agree}
 use Rattle.order.proofs.Bound.{NoneWithout, none-without-more, without-found, none-without, first-without-agree}
 use Rattle.order.proofs.bounds.first_pair.Statement.{statement}
 use Rattle.order.proofs.bounds.first_pair.Tie as tie

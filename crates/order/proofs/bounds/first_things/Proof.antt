@@ -6,7 +6,8 @@ use borrow.Author.Needs.{needs}
 use lib.ListN.{length}
 use native.Mathlib.Numerals.{add-one}
 use lib.Dec.{leb}
-use Rattle.order.proofs.Stored.{Upto, upto-more}
+use Rattle.order.specs.Table.{Upto}
+use Rattle.order.proofs.Stored.{upto-more}
 use Rattle.order.proofs.bounds.first_things.Statement.{statement}
 use Rattle.order.proofs.bounds.first_things.Tie as tie
 

@@ -11,8 +11,7 @@ use denote.Ref.{now}
 use Rattle.search.specs.Search.{every, implies}
 use Rattle.search.proofs.Found.{every-yet, every-more}
 use Rattle.order.specs.Bound.{upper}
-use Rattle.order.specs.Table.{marks, mark}
-use Rattle.order.proofs.Stored.{Upto}
+use Rattle.order.specs.Table.{marks, mark, Upto}
 use Rattle.order.proofs.bounds.lower_bounds.Statement.{statement}
 use Rattle.order.proofs.bounds.lower_bounds.Tie as tie
 

@@ -13,9 +13,8 @@ use lib.ListN.{getD}
 use Rattle.search.specs.Search.{first}
 use Rattle.search.proofs.Found.{first-none, first-found, first-more, first-vain}
 use Rattle.order.specs.Bound.{converse, withoutBound, partnerWithoutBound, lub, least, pair, upper}
-use Rattle.order.specs.Table.{mark, marks}
+use Rattle.order.specs.Table.{mark, Upto, marks}
 use Rattle.order.proofs.Bound.{least-cut, upper-pair}
-use Rattle.order.proofs.Stored.{Upto}
 use Rattle.order.proofs.bounds.partner.Statement.{statement}
 use Rattle.order.proofs.bounds.partner.Tie as tie
 

@@ -6,8 +6,8 @@ use native.Mathlib.Nat.{add-sub-cancel}
 use native.Mathlib.Omega.{arith}
 use borrow.Author.Needs.{needs}
 use lib.ListN.{length}
-use Rattle.order.specs.Table.{marks}
-use Rattle.order.proofs.Stored.{Upto, upto-more}
+use Rattle.order.specs.Table.{marks, Upto}
+use Rattle.order.proofs.Stored.{upto-more}
 use Rattle.order.proofs.marks.stepped.Statement.{statement}
 use Rattle.order.proofs.marks.stepped.Tie as tie
 

@@ -1,15 +1,16 @@
 -- Each turn relates by one card more.
-use Prim.Native.Nat.{ℕ, _+_, _*_, _≤_, _-_}
+use Prim.Native.Nat.{ℕ, _≤_, _-_}
 use mathlib.Core.Path.{_≡_, sym, _∙_}
 use native.Mathlib.Omega.{arith}
 use borrow.Author.Needs.{needs}
 use denote.Ref.{now}
 use lib.ListN.{length, length-replicate}
 use Rattle.search.specs.Search.{some}
+use Rattle.roleset.specs.Row.{rowOf}
 use Rattle.search.proofs.Found.{some-more, some-yet}
 use Rattle.roleset.proofs.Rows.{zero-rows}
 use Rattle.order.specs.Table.{related}
-use Rattle.order.proofs.Closure.{Agree}
+use Rattle.order.specs.Closure.{Agree}
 use Rattle.policy.specs.Tables.{flowsByCard}
 use Rattle.policy.proofs.flow.flow_table.Statement.{statement}
 use Rattle.policy.proofs.flow.flow_table.Tie as tie
@@ -22,7 +23,7 @@ abbrev μ-loop : tie.MeasureT-loop
 μ-loop s n t₀ o₀ t o = n - o
 
 loop-holds : tie.Need-loop-holds Inv-loop μ-loop
-loop-holds c = (search needs, length-replicate {A = ℕ} 2048 0, λ r q u v. zero-rows 2048 (0 + 16 * (r - 1)) q (omega arith) ∙ sym (some-yet _))
+loop-holds c = (search needs, length-replicate {A = ℕ} 2048 0, λ r q u v. zero-rows 2048 (rowOf 0 r) q (omega arith) ∙ sym (some-yet _))
 
 loop-again : tie.Need-loop-again Inv-loop μ-loop
 loop-again c =

@@ -1,7 +1,7 @@
 -- A search among the first cards, for two roles that differ.
 use Prim.Native.Nat.{ℕ, _≤_, _-_}
 use mathlib.Core.Path.{_≡_}
-use mathlib.Core.Bool.{Bool, false, _&&_}
+use mathlib.Core.Bool.{Bool, false}
 use mathlib.Core.List.{List}
 use lib.ListN.{length}
 use native.Mathlib.Omega.{arith}
@@ -9,7 +9,7 @@ use borrow.Author.Needs.{needs}
 use denote.Ref.{now}
 use Rattle.search.specs.Search.{some}
 use Rattle.search.proofs.Found.{some-found, some-still, some-vain, some-yet}
-use Rattle.policy.specs.Tables.{cardsUpTo, isState, stateSize, flowsByCard, flowing}
+use Rattle.policy.specs.Tables.{flowsIn, cardsUpTo, stateSize, flowsByCard}
 use Rattle.policy.proofs.Flowing.{no-state, a-state, of-state, flow-self, flow-other}
 use Rattle.policy.proofs.flow.flows.Statement.{statement}
 use Rattle.policy.proofs.flow.flows.Tie as tie
@@ -22,7 +22,7 @@ abbrev μ-loop : tie.MeasureT-loop
 
 -- what is found in a state
 module _ (xs : List ℕ) (from to : ℕ) (whole : stateSize ≤ length xs) (b : Bool) where
-  found : (from ≡ to → ⊥) → b ≡ some (cardsUpTo xs) (flowsByCard xs from to) → b ≡ (isState xs && flowing xs (cardsUpTo xs) from to)
+  found : (from ≡ to → ⊥) → b ≡ some (cardsUpTo xs) (flowsByCard xs from to) → b ≡ flowsIn xs from to
   found ne e = rw (a-state xs whole, flow-other xs (cardsUpTo xs) from to ne) e
 
 returns : tie.Need-returns Inv-loop μ-loop

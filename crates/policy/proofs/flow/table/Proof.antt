@@ -1,9 +1,9 @@
 -- The roles that may write a card, each with those that may read it, and then without itself.
-use Prim.Native.Nat.{_+_, _*_, _-_}
 use mathlib.Core.Path.{_≡_, _∙_}
 use native.Mathlib.Omega.{arith}
 use borrow.Author.Needs.{needs}
 use denote.Ref.{now}
+use Rattle.roleset.specs.Row.{rowOf}
 use Rattle.roleset.proofs.Rows.{zero-rows}
 use Rattle.policy.specs.Tables.{cardsUpTo}
 use Rattle.policy.proofs.Flowing.{no-state, a-state, of-state, without-loops-flows}
@@ -11,7 +11,7 @@ use Rattle.policy.proofs.flow.table.Statement.{statement}
 use Rattle.policy.proofs.flow.table.Tie as tie
 
 returns : tie.Need-returns
-returns c r q u v = rw (no-state (now (c .before .before .args .s)) (search needs)) (zero-rows 2048 (0 + 16 * (r - 1)) q (omega arith))
+returns c r q u v = rw (no-state (now (c .before .before .args .s)) (search needs)) (zero-rows 2048 (rowOf 0 r) q (omega arith))
 
 cards-are : (c : tie.After-count) → c .count .result ≡ cardsUpTo (now (c .before .before .before .args .s))
 cards-are c = of-state (now (c .before .before .before .args .s)) (search needs) (c .count .ensures)

@@ -5,7 +5,7 @@ use native.Mathlib.Omega.{arith}
 use borrow.Author.Needs.{needs}
 use Rattle.roleset.proofs.Rows.{zero-rows}
 use Rattle.roleset.specs.Row.{rowOf}
-use Rattle.order.proofs.Closure.{Agree}
+use Rattle.order.specs.Closure.{Agree}
 use Rattle.order.specs.Table.{related}
 use Rattle.policy.specs.Tables.{gathered}
 use Rattle.policy.proofs.Gathering.{gathered-more, gathered-yet}

@@ -8,7 +8,8 @@ use denote.Ref.{now}
 use lib.ListN.{length}
 use Rattle.roleset.specs.Row.{member, rowOf}
 use Rattle.order.proofs.Placing.{row-tested}
-use Rattle.order.proofs.Stored.{Upto, upto-more}
+use Rattle.order.specs.Table.{Upto}
+use Rattle.order.proofs.Stored.{upto-more}
 use Rattle.policy.proofs.gather.labels_of.Statement.{statement}
 use Rattle.policy.proofs.gather.labels_of.Tie as tie
 

@@ -4,12 +4,13 @@ use mathlib.Core.Path.{_≡_}
 use native.Mathlib.Omega.{arith}
 use borrow.Author.Needs.{needs}
 use lib.ListN.{length}
-use Rattle.policy.proofs.Noted.{Noting, notes-none, notes-more}
+use Rattle.policy.specs.Tables.{NotedBytes}
+use Rattle.policy.proofs.Noted.{notes-none, notes-more}
 use Rattle.policy.proofs.labels.note_lines.Statement.{statement}
 use Rattle.policy.proofs.labels.note_lines.Tie as tie
 
 abbrev Inv-loop : tie.InvT-loop
-Inv-loop s₀ at size p m i₀ s i = (i ≤ m) × (length s ≡ length s₀) × Noting at size p s₀ i s
+Inv-loop s₀ at size p m i₀ s i = (i ≤ m) × (length s ≡ length s₀) × NotedBytes at size p i s₀ s
 
 abbrev μ-loop : tie.MeasureT-loop
 μ-loop s₀ at size p m i₀ s i = m - i

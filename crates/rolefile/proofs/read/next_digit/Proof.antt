@@ -1,16 +1,15 @@
 -- Each way out is by the test that `column` makes there.
-use Prim.Native.Nat.{_≤_}
 use mathlib.Core.Bool.{and-false}
 use native.Mathlib.Omega.{arith}
 use borrow.Author.Needs.{needs}
 use Rattle.search.specs.Search.{Among}
 use Rattle.search.proofs.Truth.{passed, failed, one-of}
 use Rattle.rolefile.specs.Field.{isDigit, column}
-use Rattle.rolefile.proofs.Decimals.{isDigit-iff}
+use Rattle.rolefile.proofs.Decimals.{IsDigit, isDigit-iff}
 use Rattle.rolefile.proofs.read.next_digit.Statement.{statement}
 use Rattle.rolefile.proofs.read.next_digit.Tie as tie
 
-known : (c : tie.Else2) → let a = c .before .before .before .before .args in ((48 ≤ a .b) × (a .b ≤ 57)) × Among 9999 (a .n)
+known : (c : tie.Else2) → let a = c .before .before .before .before .args in IsDigit (a .b) × Among 9999 (a .n)
 known c =
     let t = c .before .before in
     (isDigit-iff _ .0 (passed (t .before .is-digit .ensures) (t .if1 .left)), one-of 9999 _ (c .before .among .ensures) (c .if2 .left))

@@ -21,8 +21,8 @@ use sound.WpLaws.{WpFn-mono}
 use denote.Laws.{Is}
 use denote.Plain.{uint-vals, uint-tells, uint-makes}
 use denote.Builtin.{u8, usize}
-use denote.Ref.{RefT, NamedLft}
-use denote.Signature.{plain, namedLft}
+use denote.Ref.{RefT}
+use denote.Signature.{plain}
 use denote.Slice.{slice-vals, shr-slice-tells, shr-slice-lawful}
 use denote.Steps.{nothing, owned}
 use denote.Struct.Rest.{own-shut}
@@ -34,7 +34,7 @@ use denote.Exit.{yes}
 use Rattle.rolefile.specs.declared.reader.Reader.{Reader}
 use Rattle.rolefile.proofs.reader.Reader as T
 use Rattle.rolefile.proofs.reader.Reader.Laws as T′
-use Rattle.rolefile.proofs.Held.{lasting, File, fileVal, partVals, OwnFile, OwnParts, file-twice}
+use Rattle.rolefile.proofs.Held.{held, held-laws, lasting, File, fileVal, partVals, OwnFile, OwnParts, file-twice}
 use Rattle.rolefile.proofs.reader.from_line.Key.{name as #from-line}
 use Rattle.rolefile.proofs.reader.from_line as from-line
 use Rattle.rolefile.proofs.reader.from_line.Statement as stated
@@ -45,9 +45,6 @@ stayed = (stay-none-slice (0 ∷ []) tt (plain (λ _. u8)) yes, (stay-none (λ _
 
 module _ {M : Type 1} (𝓤 : URA M) (H : Heap 𝓤) (A : Atoms 𝓤) (W : Given 𝓤 H A) (mem : Memory → SProp 𝓤) (run : Routine → Fun 𝓤) (κ : Lft) (q : Share) (f : RefT (List ℕ)) (k : ℕ)
     (ok : k < 2 ^ 64) where
-  abbrev α : NamedLft
-  α = namedLft 1 0 tt (κ, tt)
-
   -- the machine value of the file
   abbrev v : Val
   v = fileVal f
@@ -69,7 +66,7 @@ module _ {M : Type 1} (𝓤 : URA M) (H : Heap 𝓤) (A : Atoms 𝓤) (W : Given
       says ! (refl, refl) $ frame ! $ fsplit ! $ use1 W (‵ (OwnFile κ f) ⊛ ‵ (OwnFile κ f)) (file-twice 𝓤 H A W κ f) $ split ! $ move ! (0 ∷ 2 ∷ []) $ fjoin ! $ frame ! $
       -- [what the file owns]: beside the number's facts it is what the struct owns
       nothing ! $ owned ! usize (Is usize) (uint-makes 𝓤 H A W w64) k _ (refl, ok) $ fjoin ! $ move ! (1 ∷ 0 ∷ []) $ fjoin ! $
-      by ! (own-shut 𝓤 H A W (T.the-type α) (T′.the-laws α) (f, (k, tt)))
+      by ! (own-shut 𝓤 H A W (held (κ, tt)) (held-laws (κ, tt)) (f, (k, tt)))
 
   module _ (C : Calls 𝓤 H) (Λ : Loops 𝓤 H) where
     walk : Is (File κ) f (v ∷ []) → ent 𝓤 (onEntry 𝓤 H A from-line.signature (κ, tt) (q, tt) (f, (k, tt)) at) (WpFn 𝓤 H C Λ code.function (v ∷ vint w64 k ∷ []) Post)
