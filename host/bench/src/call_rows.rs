@@ -1,10 +1,11 @@
 //! The rows of session calls and reports.
 
 use crate::cases::{Case, CASES, FLOWING};
-use crate::files::{flowing, largest, RoleFile};
+use crate::files::{flowing, largest};
 use crate::table::Row;
 use crate::timing::{Three, Times};
 use crate::versions::measure;
+use second_checker::check::RoleFile;
 
 /// The ratio of proved to plain is to be at most this.
 const RATIO_AIM: f64 = 1.2;

@@ -2,10 +2,11 @@
 
 use crate::calls::{run, Arguments, Kind};
 use crate::draw::Draw;
-use crate::files::RoleFile;
 use crate::monitor::Buffers;
 use crate::plain::{self, Plain};
 use crate::seats::Seats;
+use second_checker::check::RoleFile;
+use second_checker::generate::write;
 use Seats::{Empty, Holding, Low};
 
 /// How many sets of arguments a batch has.
@@ -88,7 +89,7 @@ impl Case {
             return vec![[0; 4]];
         }
         let mut buffers = Buffers::zeroed();
-        plain::load(&file.bytes(), &mut buffers.state);
+        plain::load(&write(file), &mut buffers.state);
         let mut plain = Plain::over(buffers.lend());
         self.seats.take(&mut plain);
         let mut draw = Draw::new(file.counts, self.seats.held());

@@ -2,6 +2,7 @@
 
 use crate::calls::Arguments;
 use crate::seats::roles_held;
+use second_checker::check::Counts;
 
 pub struct Draw {
     number: u64,
@@ -15,14 +16,13 @@ pub struct Draw {
 
 impl Draw {
     /// Draws within the counts of a file.
-    pub fn new(counts: [usize; 4], held: u16) -> Draw {
-        let [_, roles, users, cards] = counts.map(|count| count as u16);
+    pub fn new(counts: Counts, held: u16) -> Draw {
         Draw {
             number: 0x9e37_79b9_7f4a_7c15,
             turn: 0,
-            roles,
-            users,
-            cards,
+            roles: counts.roles as u16,
+            users: counts.users as u16,
+            cards: counts.cards as u16,
             held,
         }
     }
@@ -46,20 +46,20 @@ impl Draw {
 
     /// A user and a label that every clearance dominates.
     pub fn opening(&mut self) -> Arguments {
-        [
-            self.place(),
-            self.between(1, self.users),
-            self.between(1, 29),
-            0,
-        ]
+        self.opening_at(1, 29)
     }
 
     /// A user and a label that no clearance dominates.
     pub fn high_opening(&mut self) -> Arguments {
+        self.opening_at(30, 32)
+    }
+
+    /// A user and a label among these.
+    fn opening_at(&mut self, first: u16, last: u16) -> Arguments {
         [
             self.place(),
             self.between(1, self.users),
-            self.between(30, 32),
+            self.between(first, last),
             0,
         ]
     }

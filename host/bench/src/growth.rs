@@ -8,6 +8,7 @@ use crate::seats::Seats;
 use crate::sizes::{Size, LARGEST};
 use crate::timing::{Three, Times};
 use crate::versions;
+use second_checker::generate::write;
 
 /// Files that grow in one way.
 pub struct Way {
@@ -77,7 +78,7 @@ fn cases(size: Size) -> [Case; 2] {
 pub fn measure(way: &Way, rounds: usize) -> Vec<Point> {
     let sizes = (way.sizes)();
     let files: Vec<_> = sizes.iter().map(|size| size.file()).collect();
-    let bytes: Vec<_> = files.iter().map(|file| file.bytes()).collect();
+    let bytes: Vec<_> = files.iter().map(write).collect();
     let bytes: Vec<&[u8]> = bytes.iter().map(Vec::as_slice).collect();
     bytes.iter().for_each(|file| agree(file, 0));
     let loads = loads::measure(ALL, &bytes, rounds);

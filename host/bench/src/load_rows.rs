@@ -5,6 +5,7 @@ use crate::plain::STATE;
 use crate::table::Row;
 use crate::timing::{Three, Times};
 use crate::{files, proved};
+use second_checker::generate::write;
 
 const TWO_MAKERS: &[u8] = include_bytes!("../../../examples/two-makers.role");
 
@@ -22,7 +23,7 @@ fn print_load(what: &str, [proved, plain, simple]: Three<Times>) {
 
 /// Checks for accepted files that the loads agree, times them and prints the rows.
 fn report_accepted(rounds: usize) {
-    let (largest, smallest) = (files::largest().bytes(), files::smallest());
+    let (largest, smallest) = (write(&files::largest()), files::smallest());
     let names = [
         "load of 2,900 lines",
         "load of two-makers.role, 2,064 lines",
@@ -39,7 +40,7 @@ fn report_accepted(rounds: usize) {
 /// differences. A stage of the simple load is lost in the scatter of its times.
 fn report_stages(rounds: usize) {
     let mut stages = files::stages();
-    stages.push(("assigned roles, and copying", 0, files::largest().bytes()));
+    stages.push(("assigned roles, and copying", 0, write(&files::largest())));
     for (_, number, file) in &stages {
         agree(file, *number);
     }

@@ -2,12 +2,13 @@
 
 use crate::calls::{run, Arguments};
 use crate::cases::Case;
-use crate::files::RoleFile;
 use crate::monitor::{Buffers, Monitor, STORE};
 use crate::plain::{self, Plain};
 use crate::proved::{self, Proved};
 use crate::simple::{self, Simple};
 use crate::timing::{Samples, Three, Times, SIMPLE_PART};
+use second_checker::check::RoleFile;
+use second_checker::generate::write;
 use std::hint::black_box;
 use std::time::Instant;
 
@@ -78,7 +79,7 @@ impl<'b> Versions<'b> {
 pub fn measure(case: &Case, file: &RoleFile, rounds: usize) -> Three<Times> {
     let (mut proved, mut plain) = (Buffers::zeroed(), Buffers::zeroed());
     let batch = case.batch(file);
-    let mut versions = Versions::of(case, &file.bytes(), &mut proved, &mut plain);
+    let mut versions = Versions::of(case, &write(file), &mut proved, &mut plain);
     versions.agree(case, &batch);
     versions.times(case, &batch, rounds)
 }

@@ -99,7 +99,7 @@ pub fn write(file: &RoleFile) -> Vec<u8> {
 }
 
 /// How many lines the file has.
-fn lines_of(file: &RoleFile) -> usize {
+pub fn lines_of(file: &RoleFile) -> usize {
     1 + file.dominance.len()
         + file.seniority.len()
         + file.clearances.len()
