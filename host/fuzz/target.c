@@ -8,8 +8,6 @@
 #include <stdlib.h>
 #include <string.h>
 
-#define STATE 65536
-#define CARD_BYTES 64
 #define MOST_WRITE 256
 
 /* The calls, by the numbers that the model knows them by. */
@@ -20,7 +18,7 @@ struct run {
     struct model *model;
     struct lent state[SIDES], store[SIDES];
     /* What state and store must be. */
-    uint8_t expected[STATE];
+    uint8_t expected[MONITOR_STATE_BYTES];
     uint8_t *cards;
     size_t cards_length;
     /* The state was changed by hand: the model can't tell what calls do. */
@@ -47,9 +45,11 @@ static void same(int condition, const char *what, enum side side)
 static void compare(struct run *run, int state_may_change)
 {
     if (state_may_change)
-        memcpy(run->expected, run->state[INSTRUMENTED].bytes, STATE);
+        memcpy(run->expected, run->state[INSTRUMENTED].bytes,
+               MONITOR_STATE_BYTES);
     for (enum side side = 0; side < SIDES; side++) {
-        same(memcmp(run->state[side].bytes, run->expected, STATE) == 0,
+        same(memcmp(run->state[side].bytes, run->expected,
+                    MONITOR_STATE_BYTES) == 0,
              "state", side);
         same(memcmp(run->store[side].bytes, run->cards, run->cards_length) == 0,
              "store", side);
@@ -59,12 +59,12 @@ static void compare(struct run *run, int state_may_change)
 /* Lends a store with exactly the bytes of the loaded file's cards. */
 static void fit_store(struct run *run)
 {
-    size_t length = CARD_BYTES * model_counts(run->model).cards;
+    size_t length = MONITOR_CARD_BYTES * model_counts(run->model).cards;
     free(run->cards);
     run->cards = malloc(length + 1);
     run->cards_length = length;
     for (size_t at = 0; at < length; at++)
-        run->cards[at] = (uint8_t)(at * 7 + at / CARD_BYTES);
+        run->cards[at] = (uint8_t)(at * 7 + at / MONITOR_CARD_BYTES);
     for (enum side side = 0; side < SIDES; side++) {
         give_back(side, run->store[side]);
         run->store[side] = lend(side, STORE_SLOT, run->cards, length);
@@ -89,13 +89,14 @@ static void load(struct run *run, unsigned lending, unsigned changes)
     static uint8_t file[MOST_FILE];
     size_t length = next_file(&run->input, file, changes);
     struct monitor_verdict wanted =
-        model_load(run->model, file, length, STATE);
+        model_load(run->model, file, length, MONITOR_STATE_BYTES);
     for (enum side side = 0; side < SIDES; side++) {
         struct lent lent = lend(side, FILE_SLOT, file, length);
         if (lending >= 240)
-            load_short(run, side, lent, STATE - 1 - 4369 * (lending - 240));
+            load_short(run, side, lent,
+                       MONITOR_STATE_BYTES - 1 - 4369 * (lending - 240));
         struct monitor_verdict verdict = load_of[side](
-            lent.bytes, length, run->state[side].bytes, STATE);
+            lent.bytes, length, run->state[side].bytes, MONITOR_STATE_BYTES);
         same(verdict.number == wanted.number, "verdict's number", side);
         same(verdict.first == wanted.first, "verdict's place", side);
         same(verdict.second == wanted.second, "verdict's place", side);
@@ -161,7 +162,7 @@ static struct numbers next_numbers(struct run *run, enum kind kind)
     };
     struct model_counts counts = model_counts(run->model);
     const uint64_t limits[] = {0, counts.labels, counts.roles, counts.users,
-                               counts.cards, CARD_BYTES, 2};
+                               counts.cards, MONITOR_CARD_BYTES, 2};
     struct numbers n = {0, 0, 0, 0};
     uint64_t *fields[] = {&n.first, &n.second, &n.third, &n.fourth};
     for (unsigned at = 0; at < 4 && meanings[kind][at] != NONE; at++) {
@@ -179,9 +180,11 @@ static struct numbers next_numbers(struct run *run, enum kind kind)
 static void call_unusable(const struct run *run, enum kind kind,
                           const struct numbers *numbers, unsigned lending)
 {
-    static const uint8_t zeroes[STATE];
+    static const uint8_t zeroes[MONITOR_STATE_BYTES];
     const uint8_t *content = lending == 255 ? zeroes : run->expected;
-    size_t length = lending == 255 ? STATE : STATE - 1 - 5041 * (lending - 242);
+    size_t length = lending == 255
+                        ? MONITOR_STATE_BYTES
+                        : MONITOR_STATE_BYTES - 1 - 5041 * (lending - 242);
     struct lent none = {NULL, 0};
     for (enum side side = 0; side < SIDES; side++) {
         struct lent state = lend(side, OTHER_STATE, content, length);
@@ -201,7 +204,7 @@ static struct monitor_figure wanted(struct run *run, enum kind kind,
                                     uint8_t value, struct lent bytes)
 {
     if (!run->spoiled)
-        return model_call(run->model, kind, STATE, run->cards,
+        return model_call(run->model, kind, MONITOR_STATE_BYTES, run->cards,
                           run->cards_length, numbers, value);
     struct monitor_figure answer =
         ask(INSTRUMENTED, kind, run->state[INSTRUMENTED],
@@ -252,11 +255,12 @@ static void spoil(struct run *run)
 
 static void begin(struct run *run)
 {
-    memset(run->expected, 0xa5, STATE);
+    memset(run->expected, 0xa5, MONITOR_STATE_BYTES);
     run->model = model_new();
     run->spoiled = 1;
     for (enum side side = 0; side < SIDES; side++)
-        run->state[side] = lend(side, STATE_SLOT, run->expected, STATE);
+        run->state[side] =
+            lend(side, STATE_SLOT, run->expected, MONITOR_STATE_BYTES);
     run->cards = malloc(1);
     for (enum side side = 0; side < SIDES; side++)
         run->store[side] = lend(side, STORE_SLOT, run->cards, 0);

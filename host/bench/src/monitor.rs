@@ -1,18 +1,12 @@
 //! The session calls of a monitor that has loaded a role file, and the buffers it is lent.
 
+pub use crate::answer::Figure;
+
 use crate::plain::STATE;
 use std::hint::black_box;
 
 /// The bytes of a store of 512 cards.
 pub const STORE: usize = 64 * 512;
-
-/// The answer of a report, as C has it.
-#[repr(C)]
-#[derive(Clone, Copy)]
-pub struct Figure {
-    pub number: u64,
-    pub figure: u64,
-}
 
 impl Figure {
     /// The number and the figure in one: a refusal has the figure 0.

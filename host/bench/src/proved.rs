@@ -1,32 +1,14 @@
 //! The proved monitor, as a C server calls it.
 
+use crate::c;
 use crate::monitor::{Figure, Lent, Monitor};
 use crate::verdict::Verdict;
-
-#[rustfmt::skip]
-extern "C" {
-    fn monitor_load(file: *const u8, file_len: usize, state: *mut u8, state_len: usize) -> Verdict;
-    fn monitor_open(state: *mut u8, state_len: usize, place: u64, user: u64, label: u64) -> u64;
-    fn monitor_close(state: *mut u8, state_len: usize, place: u64) -> u64;
-    fn monitor_take(state: *mut u8, state_len: usize, place: u64, role: u64) -> u64;
-    fn monitor_drop(state: *mut u8, state_len: usize, place: u64, role: u64) -> u64;
-    fn monitor_read_number(
-        state: *const u8, state_len: usize, store: *const u8, store_len: usize,
-        place: u64, card: u64, offset: u64, length: u64,
-    ) -> u64;
-    fn monitor_write(
-        state: *const u8, state_len: usize, store: *mut u8, store_len: usize,
-        place: u64, card: u64, offset: u64, bytes: *const u8, bytes_len: usize,
-    ) -> u64;
-    fn monitor_flows(state: *const u8, state_len: usize, from: u64, to: u64) -> Figure;
-    fn monitor_circle(state: *const u8, state_len: usize) -> Figure;
-}
 
 // SAFETY, of every call here: each pointer comes with the length of its slice, and the slices of a
 // call do not overlap.
 
 pub fn load(file: &[u8], state: &mut [u8]) -> Verdict {
-    unsafe { monitor_load(file.as_ptr(), file.len(), state.as_mut_ptr(), state.len()) }
+    unsafe { c::monitor_load(file.as_ptr(), file.len(), state.as_mut_ptr(), state.len()) }
 }
 
 /// The proved monitor over what it is lent.
@@ -36,28 +18,28 @@ pub struct Proved<'b>(pub Lent<'b>);
 impl Monitor for Proved<'_> {
     fn open(&mut self, place: u64, user: u64, label: u64) -> u64 {
         let state = &mut *self.0.state;
-        unsafe { monitor_open(state.as_mut_ptr(), state.len(), place, user, label) }
+        unsafe { c::monitor_open(state.as_mut_ptr(), state.len(), place, user, label) }
     }
 
     fn close(&mut self, place: u64) -> u64 {
         let state = &mut *self.0.state;
-        unsafe { monitor_close(state.as_mut_ptr(), state.len(), place) }
+        unsafe { c::monitor_close(state.as_mut_ptr(), state.len(), place) }
     }
 
     fn take(&mut self, place: u64, role: u64) -> u64 {
         let state = &mut *self.0.state;
-        unsafe { monitor_take(state.as_mut_ptr(), state.len(), place, role) }
+        unsafe { c::monitor_take(state.as_mut_ptr(), state.len(), place, role) }
     }
 
     fn drop(&mut self, place: u64, role: u64) -> u64 {
         let state = &mut *self.0.state;
-        unsafe { monitor_drop(state.as_mut_ptr(), state.len(), place, role) }
+        unsafe { c::monitor_drop(state.as_mut_ptr(), state.len(), place, role) }
     }
 
     fn read_number(&self, place: u64, card: u64, offset: u64, length: u64) -> u64 {
         let (state, store) = (&*self.0.state, &*self.0.store);
         unsafe {
-            monitor_read_number(
+            c::monitor_read_number(
                 state.as_ptr(), state.len(), store.as_ptr(), store.len(),
                 place, card, offset, length,
             )
@@ -67,7 +49,7 @@ impl Monitor for Proved<'_> {
     fn write(&mut self, place: u64, card: u64, offset: u64, bytes: &[u8]) -> u64 {
         let (state, store) = (&*self.0.state, &mut *self.0.store);
         unsafe {
-            monitor_write(
+            c::monitor_write(
                 state.as_ptr(), state.len(), store.as_mut_ptr(), store.len(),
                 place, card, offset, bytes.as_ptr(), bytes.len(),
             )
@@ -75,10 +57,10 @@ impl Monitor for Proved<'_> {
     }
 
     fn flows(&self, from: u64, to: u64) -> Figure {
-        unsafe { monitor_flows(self.0.state.as_ptr(), self.0.state.len(), from, to) }
+        unsafe { c::monitor_flows(self.0.state.as_ptr(), self.0.state.len(), from, to) }
     }
 
     fn circle(&self) -> Figure {
-        unsafe { monitor_circle(self.0.state.as_ptr(), self.0.state.len()) }
+        unsafe { c::monitor_circle(self.0.state.as_ptr(), self.0.state.len()) }
     }
 }

@@ -1,12 +1,6 @@
 //! The answer of a load: a number and its place, 0 0 0 on acceptance.
 
-#[repr(C)]
-#[derive(Clone, Copy, Debug, PartialEq, Eq)]
-pub struct Verdict {
-    pub number: u64,
-    pub first: u64,
-    pub second: u64,
-}
+pub use crate::answer::Verdict;
 
 impl Verdict {
     pub const ACCEPTED: Verdict = Verdict {

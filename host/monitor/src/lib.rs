@@ -2,6 +2,7 @@
 //! 01, wrappers over the C functions, and random calls made on both.
 
 pub mod answer;
+pub mod c;
 pub mod call;
 pub mod files;
 pub mod generate;

@@ -1,5 +1,6 @@
 //! What a user can, against the model and against the calls themselves.
 
+use monitor_tests::c;
 use monitor_tests::generate::{accepted_file, number, wild_number};
 use monitor_tests::library::{self, Figure};
 use monitor_tests::loaded::Loaded;
@@ -299,6 +300,6 @@ fn short_and_zeroed_states() {
         assert_eq!(question.to_model(&Model::default(), STATE_BYTES), refused);
     }
     assert!(loaded.state == before && zeroed == [0; STATE_BYTES]);
-    let nothing = unsafe { library::c::monitor_can(std::ptr::null(), 0, 1, 1, 2, 2) };
+    let nothing = unsafe { c::monitor_can(std::ptr::null(), 0, 1, 1, 2, 2) };
     assert_eq!(nothing, refused);
 }

@@ -3,6 +3,10 @@
 //! file and its levels come from the second checker; sessions are kept in the
 //! lent state, in a layout of this crate alone.
 
+#[path = "../../src/answer.rs"]
+mod answer;
+
+use answer::{Figure, Verdict};
 use second_checker::check::{read, Meaning, RoleFile};
 use second_checker::generate::LIMITS;
 use second_checker::order::Order;
@@ -41,21 +45,6 @@ const CARD_ROW: usize = 64;
 const SESSION: usize = 3 + ROLE_ROW;
 
 const _: () = assert!(END <= STATE_BYTES);
-
-/// `struct monitor_verdict`
-#[repr(C)]
-pub struct Verdict {
-    number: u64,
-    first: u64,
-    second: u64,
-}
-
-/// `struct monitor_figure`
-#[repr(C)]
-pub struct Figure {
-    number: u64,
-    figure: u64,
-}
 
 // ---------------------------------------------------------------------------
 // Numbers and marks in the state; things are numbered from 1
@@ -131,11 +120,11 @@ fn session_roles(place: usize) -> usize {
 
 fn load(file: &[u8], state: &mut [u8]) -> Verdict {
     if state.len() < STATE_BYTES {
-        return verdict(7, [0, 0]);
+        return Verdict::refused(7);
     }
     let accepted = match check(file) {
-        Outcome::Refused(refusal) => return verdict(refusal.number, refusal.place),
         Outcome::Accepted(accepted) => accepted,
+        refused => return Verdict::of(&refused),
     };
     let Ok(role_file) = read(file) else {
         unreachable!("an accepted file has its form");
@@ -147,7 +136,7 @@ fn load(file: &[u8], state: &mut [u8]) -> Verdict {
     for &(from, to) in &accepted.flows {
         mark(state, FLOWS, ROLE_ROW, from, to);
     }
-    verdict(0, [0, 0])
+    Verdict::default()
 }
 
 /// Puts what the file says into a zeroed state.
@@ -197,14 +186,6 @@ fn put_order(state: &mut [u8], (table, row_bytes): (usize, usize), size: usize, 
         for lower in (1..=size).filter(|&lower| order.over(upper, lower)) {
             mark(state, table, row_bytes, upper, lower);
         }
-    }
-}
-
-fn verdict(number: usize, place: [usize; 2]) -> Verdict {
-    Verdict {
-        number: number as u64,
-        first: place[0] as u64,
-        second: place[1] as u64,
     }
 }
 
@@ -468,7 +449,7 @@ fn number(result: Result<(), u64>) -> u64 {
 fn figure(result: Result<u64, u64>) -> Figure {
     match result {
         Ok(figure) => Figure { number: 0, figure },
-        Err(number) => Figure { number, figure: 0 },
+        Err(number) => Figure::refused(number),
     }
 }
 
