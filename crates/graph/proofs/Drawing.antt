@@ -11,7 +11,7 @@ use Rattle.roleset.proofs.Rows.{zero-rows}
 use Rattle.roleset.specs.Row.{rowOf, member, united, Placed}
 use Rattle.order.specs.Closure.{Relation, Agree, path}
 use Rattle.order.specs.Table.{related, Tabled}
-use Rattle.text.specs.Text.{ascii}
+use Rattle.rolefile.specs.Ascii.{ascii}
 use Rattle.text.proofs.Each.{each-agree, each-pair-agree}
 use Rattle.policy.proofs.Closing.{paths-to}
 use Rattle.policy.proofs.Flowing.{row-left, row-more}

@@ -7,7 +7,7 @@ use native.Mathlib.Omega.{arith}
 use lib.ListN.{length, length-append}
 use Rattle.order.specs.Closure.{Relation, path}
 use Rattle.rolefile.proofs.Decimals.{few-digits}
-use Rattle.text.specs.Text.{ascii}
+use Rattle.rolefile.specs.Ascii.{ascii}
 use Rattle.text.proofs.Each.{each-most, each-pair-most}
 use Rattle.policy.specs.Tables.{flowsIn}
 use Rattle.monitor.specs.Review.{knownLabels, knownRoles}

@@ -30,7 +30,8 @@ use lib.ListN.{length}
 use Rattle.search.specs.Search.{some}
 use Rattle.order.specs.Closure.{Relation, path}
 use Rattle.rolefile.specs.Decimal.{digits}
-use Rattle.text.specs.Text.{ascii, each, eachPair}
+use Rattle.rolefile.specs.Ascii.{ascii}
+use Rattle.text.specs.Text.{each, eachPair}
 use Rattle.policy.specs.Tables.{flowsIn}
 use Rattle.monitor.specs.Review.{knownLabels, knownRoles, dominatesIn, seniorTo}
 use Rattle.graph.specs.declared.Order.{Order}

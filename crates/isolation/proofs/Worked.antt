@@ -22,7 +22,7 @@ use Rattle.policy.proofs.Outcomes.{accepted-fine}
 use Rattle.monitor.specs.Calls.{unless, ifDone, partAt}
 use Rattle.monitor.specs.Runs.{Call, Start, loaded, partOf, storeOf}
 use Rattle.monitor.specs.Rules.{noSessions, entitledByFile, fittingByFile, givesByFile, openRule, closeRule, takeRule, dropRule, partRule, rule, next}
-use Rattle.monitor.specs.Cases.{line, bytes}
+use Rattle.monitor.specs.Cases.{bytes}
 use Rattle.monitor.proofs.Demand2.{loaded-runs}
 use Rattle.isolation.specs.TwoRuns.{Answer, noneOpen, grants, track, shared, sharedCalls, shown, SameCards}
 use Rattle.isolation.specs.Worked.{file, firstStore, secondStore, firstRun, secondRun, done, low, highFirst, highSecond}
@@ -33,7 +33,7 @@ abbrev answersBy : ℕ → List ℕ → List Call → List Answer
 answersBy L store cs = map (λ x. x .answer) (shownBy file L 192 noneOpen noSessions store cs)
 
 accepted-file : verdict file ≡ fine
-unfolding file line bytes
+unfolding file bytes
     column columns letterOf fields formed lineOf lineAt
     sized goodCounts firstLimit secondLimit ranged rises headVerdict bodyVerdict lineVerdict scan count unlabelled unlabelledVerdict linesVerdict formVerdict
     says last labelBy some every first via upper isLeast least lub withoutBound partnerWithoutBound lowestWithoutBound
@@ -46,7 +46,7 @@ accepted = accepted-fine file .0 accepted-file
 -- the four lists, computed
 computed : (answersBy 2 firstStore firstRun ≡ low) × (answersBy 2 secondStore secondRun ≡ low)
     × (answersBy 4 firstStore firstRun ≡ highFirst) × (answersBy 4 secondStore secondRun ≡ highSecond)
-unfolding file line bytes firstStore secondStore firstRun secondRun low highFirst highSecond
+unfolding file bytes firstStore secondStore firstRun secondRun low highFirst highSecond
     column columns letterOf fields formed lineOf lineAt says last labelBy some every first via upper isLeast least lub
     dominates senior may mayAt level rLevel wLevel
     unless ifDone entitledByFile fittingByFile givesByFile openRule closeRule takeRule dropRule partRule rule next
@@ -56,7 +56,7 @@ computed = (refl, refl, refl, refl)
 -- ---- the pair falls under demand 3 for label 2
 
 one-list : sharedCalls file 2 noneOpen firstRun ≡ sharedCalls file 2 noneOpen secondRun
-unfolding file line bytes firstRun secondRun column columns letterOf fields formed lineOf lineAt says last labelBy some via dominates grants track shared sharedCalls
+unfolding file bytes firstRun secondRun column columns letterOf fields formed lineOf lineAt says last labelBy some via dominates grants track shared sharedCalls
 one-list = refl
 
 one-length : (length firstStore ≡ 192) × (length secondStore ≡ 192)
@@ -64,7 +64,7 @@ unfolding firstStore secondStore
 one-length = (refl, refl)
 
 three-cards : (cards file ≡ 3) × (dominates file 2 (cardLabel file 3) ≡ false)
-unfolding file line bytes column columns letterOf fields formed lineOf lineAt says last labelBy some via dominates
+unfolding file bytes column columns letterOf fields formed lineOf lineAt says last labelBy some via dominates
 three-cards = (refl, refl)
 
 same-cards : SameCards file 2 firstStore secondStore

@@ -14,14 +14,14 @@ use Rattle.policy.specs.Verdict.{orderVerdict, labelVerdict, roleVerdict, assig
 use Rattle.policy.specs.Flow.{flows, flowCircle}
 use Rattle.monitor.specs.Calls.{unless, ifDone}
 use Rattle.monitor.specs.Rules.{entitledByFile, fittingByFile, givesByFile, openRule, takeRule, partRule, rule, next}
-use Rattle.monitor.specs.Cases.{line, bytes, numbered, Findings, findings, Case, cases}
+use Rattle.monitor.specs.Cases.{bytes, numbered, Findings, findings, Case, cases}
 
 -- what the definitions find of a case's file
 abbrev given : Case → Findings
 given c = findings (bytes (c .file)) (c .expected)
 
 computed : map given cases ≡ map (λ c. c .expected) cases
-unfolding cases findings line bytes
+unfolding cases findings bytes
     column columns letterOf fields formed lineOf lineAt
     sized goodCounts firstLimit secondLimit ranged rises headVerdict bodyVerdict lineVerdict scan count unlabelled unlabelledVerdict linesVerdict formVerdict
     says last labelBy some every first via upper isLeast least lub withoutBound partnerWithoutBound lowestWithoutBound

@@ -1,12 +1,12 @@
 -- The cases of "Example files", those with a star and the others too: each file with what the document says of it, and session calls after its load with their
 -- numbers. Where the document tells of a file without showing it, the file is a small one of that kind. Assumes nothing.
 use Prim.Native.Nat.{ℕ, _*_}
-use Prim.Native.Char.{code}
-use Prim.Native.String.{String, [] as end, _∷_ as _▸_}
-use mathlib.Core.List.{List, [], _∷_, map}
+use Prim.Native.String.{String}
+use mathlib.Core.List.{List, [], _∷_, _++_, map}
 use mathlib.Core.Bool.{Bool, false}
 use mathlib.Core.Option.{Option, none, some, Option·map}
 use Rattle.rolefile.specs.declared.Verdict.{Verdict}
+use Rattle.rolefile.specs.Ascii.{ascii}
 use Rattle.rolefile.specs.Form.{fine, refusal}
 use Rattle.policy.specs.Policy.{rLevel, wLevel, levelNumber}
 use Rattle.policy.specs.Verdict.{verdict}
@@ -15,14 +15,10 @@ use Rattle.rolefile.specs.Said.{cards}
 use Rattle.monitor.specs.Runs.{Call, opens, takes, reads, writes}
 use Rattle.monitor.specs.Rules.{Sessions, noSessions, rule, next}
 
--- a line's text and byte 10, and then the rest of the file
-unfoldable pub line : String → List ℕ → List ℕ
-line end rest = 10 ∷ rest
-line (c ▸ text) rest = code c ∷ line text rest
-
+-- the bytes of lines with these texts
 unfoldable pub bytes : List String → List ℕ
 bytes [] = []
-bytes (text ∷ texts) = line text (bytes texts)
+bytes (text ∷ texts) = ascii text ++ (10 ∷ bytes texts)
 
 -- "R for each role (role, r-level, w-level; 0 free, 99 undefined)"
 abbrev pub Row : Type 0

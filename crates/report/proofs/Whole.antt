@@ -10,7 +10,7 @@ use Rattle.roleset.specs.Row.{AllBytes}
 use Rattle.rolefile.specs.Decimal.{digits}
 use Rattle.policy.specs.Tables.{clearancesAt}
 use Rattle.rolefile.proofs.Decimals.{few-digits, padded-length}
-use Rattle.text.specs.Text.{ascii}
+use Rattle.rolefile.specs.Ascii.{ascii}
 use Rattle.monitor.specs.Review.{knownLabels, isUser, clearanceOf, mayOpen, mayTake}
 use Rattle.monitor.proofs.Known.{few-labels, user}
 use Rattle.report.specs.declared.list.Listed.{Listed}

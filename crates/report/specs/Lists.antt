@@ -4,7 +4,8 @@ use mathlib.Core.List.{List, [], _++_}
 use mathlib.Core.Bool.{Bool, not, _&&_, cond}
 use Rattle.search.specs.Search.{among, some}
 use Rattle.rolefile.specs.Decimal.{digits}
-use Rattle.text.specs.Text.{ascii, each}
+use Rattle.rolefile.specs.Ascii.{ascii}
+use Rattle.text.specs.Text.{each}
 use Rattle.monitor.specs.Review.{knownRoles, knownCards, assignedTo, entitledTo, giveCard}
 use Rattle.report.specs.declared.list.Listed.{Listed}
 use Rattle.report.specs.declared.list.Listed.the-variants.{Assigned, Inherited, Taken, Untaken, Read, Written, Unread}

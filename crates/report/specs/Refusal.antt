@@ -12,7 +12,7 @@ use mathlib.Core.Bool.{Bool, _&&_, cond}
 use lib.Dec.{leb, ltb, eqb}
 use Rattle.rolefile.specs.Line.{textAt}
 use Rattle.rolefile.specs.Decimal.{digits}
-use Rattle.text.specs.Text.{ascii}
+use Rattle.rolefile.specs.Ascii.{ascii}
 use Rattle.report.specs.Rights.{head}
 
 -- the meaning of a refusal's number: by the file's form, and by what the file says

@@ -13,7 +13,8 @@ use mathlib.Core.List.{List, [], _++_}
 use mathlib.Core.Bool.{Bool, true, false, cond}
 use Rattle.search.specs.Search.{some}
 use Rattle.rolefile.specs.Decimal.{digits, columnsOf}
-use Rattle.text.specs.Text.{ascii, each}
+use Rattle.rolefile.specs.Ascii.{ascii}
+use Rattle.text.specs.Text.{each}
 use Rattle.monitor.specs.Review.{knownLabels, knownUsers, isUser, clearanceOf, mayOpen, mayTake}
 use Rattle.report.specs.declared.list.Listed.the-variants.{Assigned, Inherited, Taken, Untaken, Read, Written, Unread}
 use Rattle.report.specs.Lists.{rangesOf}

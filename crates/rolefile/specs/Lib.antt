@@ -1,3 +1,4 @@
+pub mod Ascii
 pub mod Field
 pub mod Line
 pub mod Form

@@ -1,19 +1,11 @@
 -- Text put into a buffer. Assumes nothing.
 use Prim.Native.Nat.{ℕ, zero, suc, _+_, _%_, _≤_}
-use Prim.Native.Char.{code}
-use Prim.Native.String.{String}
-use Prim.Native.String as string
 use mathlib.Core.Path.{_≡_}
-use mathlib.Core.List.{List, [], _∷_, _++_}
+use mathlib.Core.List.{List, [], _++_}
 use mathlib.Core.Bool.{Bool, cond}
 use lib.Dec.{ltb}
 use lib.ListN.{length, take}
 use Rattle.rolefile.specs.Decimal.{lastDigits, inColumns, blanks}
-
--- the bytes of a quoted text of ASCII characters
-abbrev pub ascii : String → List ℕ
-ascii string.[] = []
-ascii (string._∷_ c s) = code c ∷ ascii s
 
 -- the texts of the things 1 to n, one after the other
 unfoldable pub each : ℕ → (ℕ → List ℕ) → List ℕ

@@ -8,7 +8,7 @@ use borrow.Author.Needs.{needs}
 use borrow.Author.Tests.{eq-eqb}
 use denote.Ref.{now}
 use Rattle.order.specs.Table.{related}
-use Rattle.text.specs.Text.{ascii}
+use Rattle.rolefile.specs.Ascii.{ascii}
 use Rattle.text.proofs.Text.{puts-then, puts-as}
 use Rattle.monitor.proofs.Known.{few-labels}
 use Rattle.graph.specs.declared.Order.the-variants.{Dominating}

@@ -8,7 +8,7 @@ use native.Mathlib.Nat.{le-trans}
 use borrow.Author.Needs.{needs}
 use denote.Ref.{now}
 use Rattle.search.proofs.Truth.{passed, failed}
-use Rattle.text.specs.Text.{ascii}
+use Rattle.rolefile.specs.Ascii.{ascii}
 use Rattle.text.proofs.Text.{puts-then, puts-nothing, puts-whole, puts-as}
 use Rattle.monitor.specs.Review.{isUser}
 use Rattle.monitor.proofs.Known.{user}
