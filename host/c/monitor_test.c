@@ -13,6 +13,9 @@
 
 #define STATE_BYTES 65536u
 #define CARD_BYTES 64u
+_Static_assert(MONITOR_STATE_BYTES == STATE_BYTES &&
+                   MONITOR_CARD_BYTES == CARD_BYTES,
+               "the sizes of document 01");
 /* The store of a file with two cards. */
 #define STORE_BYTES (2 * CARD_BYTES)
 #define FARTHEST UINT64_MAX

@@ -23,7 +23,7 @@ use Rattle.policy.specs.Tables.{tableOf}
 use Rattle.policy.proofs.Relating.{by-mode}
 use Rattle.monitor.specs.Session.{labelsIn, usersIn, cardsIn, cleared, entitled, fitting}
 use Rattle.monitor.specs.Calls.{unless, ifDone}
-use Rattle.monitor.specs.Runs.{Call, opens, takes, Memory, Start, loaded, after, run}
+use Rattle.monitor.specs.Runs.{Call, opens, takes, Memory, Start, loaded, after, run, left}
 use Rattle.monitor.specs.Rules.{Session, Sessions, noSessions, entitledByFile, fittingByFile, givesByFile, openRule, takeRule, partRule, rule, sessionOf, holding, next, sessions}
 use Rattle.monitor.specs.Rights.{canNumber, roleCould, could, Cans, canRule, couldByFile, useOf, CouldUse}
 use Rattle.monitor.proofs.Answers.{unless-done, figure-same}
@@ -31,7 +31,7 @@ use Rattle.monitor.proofs.Orderly.{opening, opening-done, taking, gives
 use Rattle.monitor.proofs.Stands.{Stands}
 use Rattle.monitor.proofs.InFile.{test-same, test-passed, sound-file, cleared-file, entitled-file, fitting-file}
 use Rattle.monitor.proofs.Places.{put-at}
-use Rattle.monitor.proofs.Demand2.{Runs, runs-next, runs-number, loaded-runs, left, left-runs}
+use Rattle.monitor.proofs.Demand2.{Runs, runs-next, runs-number, loaded-runs, left-runs}
 
 -- ---- by the file
 
@@ -174,7 +174,7 @@ module _ {f : List ℕ} (accepted : Accepted f) (a : Start f) (store : List ℕ)
   -- on every state that a load and calls left: by the file, and never 21
   module _ (cs : List Call) where
     abbrev end : List ℕ
-    end = left accepted a store cs .state
+    end = left a store cs .state
 
     pub can-file : (u l o m n figure : ℕ) → Cans end u l o m n figure → (n ≡ canRule f u l o m) × (figure ≡ ifDone n (cond (couldByFile f u l o m) 1 0) 0)
     can-file u l o m n figure h =
@@ -188,7 +188,7 @@ module _ {f : List ℕ} (accepted : Accepted f) (a : Start f) (store : List ℕ)
         t : Sessions
         t = sessions f noSessions cs
 
-        ran : Runs f t (length store) (left accepted a store cs)
+        ran : Runs f t (length store) (left a store cs)
         ran = left-runs accepted a store cs
 
   -- from the state that a load left, at any place and with a store that has all cards
@@ -206,11 +206,11 @@ module _ {f : List ℕ} (accepted : Accepted f) (a : Start f) (store : List ℕ)
     unfolding rule
     granting r =
         let form = accepted .ordered .form in
-        let a = runs-number f form noSessions (length store) start runs (opens p u l) in
-        let b = runs-number f form _ (length store) _ runs-one (takes p r) in
-        let c = runs-number f form _ (length store) _ (runs-two r) (useOf m p o) ∙ use-rule f (length store) p u l place enough m o _ mode in (
-          λ x. record { opened = a ∙ x .opened; taken = b ∙ x .taken; used = c ∙ x .used },
-          λ x. record { opened = sym a ∙ x .opened; taken = sym b ∙ x .taken; used = sym c ∙ x .used },
+        let one = runs-number f form noSessions (length store) start runs (opens p u l) in
+        let two = runs-number f form _ (length store) _ runs-one (takes p r) in
+        let three = runs-number f form _ (length store) _ (runs-two r) (useOf m p o) ∙ use-rule f (length store) p u l place enough m o _ mode in (
+          λ x. record { opened = one ∙ x .opened; taken = two ∙ x .taken; used = three ∙ x .used },
+          λ x. record { opened = sym one ∙ x .opened; taken = sym two ∙ x .taken; used = sym three ∙ x .used },
         )
 
     pub can-iff : (n figure : ℕ) → Cans (a .state) u l o m n figure → (figure ≡ 1) ↔ ((r : ℕ) × CouldUse start p u l o m r)

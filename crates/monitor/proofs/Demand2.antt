@@ -21,7 +21,7 @@ use Rattle.policy.proofs.Loads.{judged}
 use Rattle.monitor.specs.Session.{sound}
 use Rattle.monitor.specs.Calls.{unless, ifDone, written, partAt, opened, closed, taken, dropped, writeNumber}
 use Rattle.monitor.specs.Calls.{flowsNumber, circleNumber, Flows, Circles}
-use Rattle.monitor.specs.Runs.{Call, opens, closes, takes, drops, reads, writes, Memory, Start, loaded, number, stateAfter, storeOf, storeAfter, after, run}
+use Rattle.monitor.specs.Runs.{Call, opens, closes, takes, drops, reads, writes, Memory, Start, loaded, number, stateAfter, storeOf, storeAfter, after, run, left}
 use Rattle.monitor.specs.Places.{put}
 use Rattle.monitor.specs.Rules.{Session, Sessions, noSessions, sessionRule, atSessionByFile, openRule, closeRule, takeRule, dropRule, partRule, rule, sessionOf, holding, without, next, sessions}
 use Rattle.monitor.proofs.Answers.{unless-done, both-ways, either-way, figure-same}
@@ -169,25 +169,22 @@ module _ {f : List ℕ} (accepted : Accepted f) (a : Start f) where
   loaded-runs store = record { known = no-sessions-orderly f; stands = loaded-stands; stored = refl }
 
   module _ (store : List ℕ) (cs : List Call) where
-    abbrev pub left : Memory
-    left = run (loaded a store) cs
-
-    pub left-runs : Runs f (sessions f noSessions cs) (length store) left
+    pub left-runs : Runs f (sessions f noSessions cs) (length store) (left a store cs)
     left-runs = runs-after f (accepted .ordered .form) cs noSessions (length store) (loaded a store) (loaded-runs store)
 
-    left-sound : sound (left .state) ≡ true
-    left-sound = sound-file f (accepted .ordered .form) (sessions f noSessions cs) (left .state) (left-runs .stands)
+    left-sound : sound (left a store cs .state) ≡ true
+    left-sound = sound-file f (accepted .ordered .form) (sessions f noSessions cs) (left a store cs .state) (left-runs .stands)
 
     -- what each call is answered, whatever store it is lent, by the file and the calls so far
-    pub answers : (lent : List ℕ) (c : Call) → number (record { state = left .state; store = lent }) c ≡ rule f (length lent) (sessions f noSessions cs) c
-    answers lent c = let r = left-runs in number-file f (accepted .ordered .form) (sessions f noSessions cs) (r .known) (record { state = left .state; store = lent }) (r .stands) c
+    pub answers : (lent : List ℕ) (c : Call) → number (record { state = left a store cs .state; store = lent }) c ≡ rule f (length lent) (sessions f noSessions cs) c
+    answers lent c = let r = left-runs in number-file f (accepted .ordered .form) (sessions f noSessions cs) (r .known) (record { state = left a store cs .state; store = lent }) (r .stands) c
 
     -- "never for a state that a load and calls left"
-    pub never-21 : (lent : List ℕ) (c : Call) → number (record { state = left .state; store = lent }) c ≡ 21 → ⊥
+    pub never-21 : (lent : List ℕ) (c : Call) → number (record { state = left a store cs .state; store = lent }) c ≡ 21 → ⊥
     never-21 lent c e = rule-not-21 f (length lent) (sessions f noSessions cs) c (sym (answers lent c) ∙ e)
 
     -- the flow report
-    pub flows-answers : (q r n figure : ℕ) → Flows (left .state) q r n figure
+    pub flows-answers : (q r n figure : ℕ) → Flows (left a store cs .state) q r n figure
         → (n ≡ unless (among (roles f) q) 25 (unless (among (roles f) r) 25 0)) × (figure ≡ ifDone n (cond (flows f q r) 1 0) 0)
     unfolding flowsNumber
     flows-answers q r n figure h =
@@ -200,13 +197,13 @@ module _ {f : List ℕ} (accepted : Accepted f) (a : Start f) where
           figure-same n (h .number) (h .answer) (λ z.
               let (u, rest) = unless-done (among (roles f) q) 25 _ (omega arith) (sym e ∙ z) in
               let (v, end) = unless-done (among (roles f) r) 25 0 (omega arith) rest in
-              flow-file f form (left .state) tables (w .stands .long) q r
+              flow-file f form (left a store cs .state) tables (w .stands .long) q r
               (role-few f form q (among-iff (roles f) q .0 u)) (role-few f form r (among-iff (roles f) r .0 v))),
         )
 
-    pub circle-answers : (n figure : ℕ) → Circles (left .state) n figure → (n ≡ 0) × (figure ≡ flowCircle f)
+    pub circle-answers : (n figure : ℕ) → Circles (left a store cs .state) n figure → (n ≡ 0) × (figure ≡ flowCircle f)
     unfolding circleNumber ifDone
     circle-answers n figure h =
         let w = left-runs in
-        let e : circleNumber (left .state) ≡ 0 = test-passed 21 left-sound in
-        (h .number ∙ e, h .answer ∙ rw e (circle-file f (accepted .ordered .form) (left .state) (w .stands .tables) (w .stands .long)))
+        let e : circleNumber (left a store cs .state) ≡ 0 = test-passed 21 left-sound in
+        (h .number ∙ e, h .answer ∙ rw e (circle-file f (accepted .ordered .form) (left a store cs .state) (w .stands .tables) (w .stands .long)))

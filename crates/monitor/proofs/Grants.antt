@@ -16,13 +16,13 @@ use Rattle.policy.specs.Policy.{dominates, senior, may}
 use Rattle.policy.specs.Accepted.{ReadsUnder, WritesOver, Accepted}
 use Rattle.policy.proofs.Levels.{reads-under-iff, writes-over-iff}
 use Rattle.monitor.specs.Calls.{unless}
-use Rattle.monitor.specs.Runs.{Call, opens, closes, takes, drops, reads, writes, Start, number}
+use Rattle.monitor.specs.Runs.{Call, opens, closes, takes, drops, reads, writes, Start, number, left}
 use Rattle.monitor.specs.Places.{isFree}
 use Rattle.monitor.specs.Rules.{Session, Sessions, noSessions, entitledByFile, fittingByFile, givesByFile, openRule, closeRule, takeRule, dropRule, partRule, rule, sessions}
 use Rattle.monitor.specs.Granted.{OpenFor, Holds, MayOpen, OpenPlace, MayTake, MayDrop, MayUse, Granted}
 use Rattle.monitor.proofs.Orderly.{Orderly, no-sessions-orderly, opening, opening-done, session-done, admitted, session-granted, taking, dropping, gives-iff, part-done}
 use Rattle.monitor.proofs.History.{orderly-sessions, session-with, Opened, open-for-iff, holds-iff}
-use Rattle.monitor.proofs.Demand2.{left, answers}
+use Rattle.monitor.proofs.Demand2.{answers}
 
 -- a role fits a label exactly where it reads under the label and writes over it
 pub fitting-by-file-iff : (f : List ℕ) → PartialOrder (labels f) (dominates f) → (l r : ℕ) → (fittingByFile f l r ≡ true) ↔ (ReadsUnder f l r × WritesOver f l r)
@@ -151,8 +151,8 @@ rule-iff f a size cs (reads p o k n) = part-iff f cs 1 size p o k n
 rule-iff f a size cs (writes p o k bytes) = part-iff f cs 2 size p o k (length bytes)
 
 -- this call may be lent another store than the calls so far
-pub done-iff : {f : List ℕ} (accepted : Accepted f) (a : Start f) (store : List ℕ) (cs : List Call) (lent : List ℕ) (c : Call)
-    → (number (record { state = left accepted a store cs .state; store = lent }) c ≡ 0) ↔ Granted f (length lent) cs c
+pub done-iff : {f : List ℕ} → Accepted f → (a : Start f) (store : List ℕ) (cs : List Call) (lent : List ℕ) (c : Call)
+    → (number (record { state = left a store cs .state; store = lent }) c ≡ 0) ↔ Granted f (length lent) cs c
 done-iff {f} accepted a store cs lent c =
     let e = answers accepted a store cs lent c in
     let i = rule-iff f accepted (length lent) cs c in

@@ -15,7 +15,7 @@ use Rattle.rolefile.specs.Said.{cards}
 use Rattle.monitor.specs.Runs.{Call, opens, takes, reads, writes}
 use Rattle.monitor.specs.Rules.{Sessions, noSessions, rule, next}
 
--- the bytes of lines with these texts
+-- each text as a line: its bytes, and byte 10
 unfoldable pub bytes : List String → List ℕ
 bytes [] = []
 bytes (text ∷ texts) = ascii text ++ (10 ∷ bytes texts)

@@ -1,4 +1,4 @@
--- Runs of calls: each call on the state and store that the last one left, with the numbers, bytes and states of `Calls`. Assumes nothing.
+-- Runs of calls from the state that a load left: each call on the state and store that the last one left, with the numbers, bytes and states of `Calls`. Assumes nothing.
 use Prim.Native.Nat.{ℕ, _≤_}
 use mathlib.Core.List.{List, [], _∷_}
 use lib.ListN.{length}
@@ -29,7 +29,7 @@ pub record Start (f : List ℕ) : Type 0 where
   pub state : List ℕ
   pub load : Loaded f verdict before state
 
--- that state, and a store
+-- the memory that a run starts with: that state, and a store
 abbrev pub loaded : {f : List ℕ} → Start f → List ℕ → Memory
 loaded a store = record { state = a .state; store = store }
 
@@ -79,3 +79,7 @@ after m c = record { state = stateAfter m c; store = storeAfter m c }
 unfoldable pub run : Memory → List Call → Memory
 run m [] = m
 run m (c ∷ cs) = run (after m c) cs
+
+-- what a load and then the calls cs left
+abbrev pub left : {f : List ℕ} → Start f → List ℕ → List Call → Memory
+left a store cs = run (loaded a store) cs

@@ -2,8 +2,8 @@
 --     path n e a b       b is reached from a by one step or more
 --     closure n e a b    the reflexive transitive closure: a is b, or b is reached from a
 --     circle n e         the lowest thing that is reached from itself, or 0
---     Agree n m f g      f and g are the same among the things 1 to n and 1 to m
 --     Reach, HasPath, OnCircle, PartialOrder say the same as properties
+--     Agree n m f g      f and g say the same of each a among 1 to n and b among 1 to m
 -- Assumes nothing.
 use Prim.Native.Nat.{ℕ, zero, suc}
 use mathlib.Core.Path.{_≡_}
@@ -14,7 +14,7 @@ use Rattle.search.specs.Search.{Among, first}
 abbrev pub Relation : Type 0
 Relation = ℕ → ℕ → Bool
 
--- f and g say the same of the things 1 to n over the things 1 to m
+-- f and g say the same of each a among 1 to n and b among 1 to m
 abbrev pub Agree : ℕ → ℕ → Relation → Relation → Type 0
 Agree n m f g = (a b : ℕ) → Among n a → Among m b → f a b ≡ g a b
 

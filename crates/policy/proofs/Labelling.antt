@@ -15,7 +15,7 @@ use Rattle.roleset.specs.Row.{Kept}
 use Rattle.roleset.proofs.Rows.{kept-both}
 use Rattle.rolefile.specs.declared.Verdict.{Verdict}
 use Rattle.rolefile.specs.Line.{H, U, O}
-use Rattle.rolefile.specs.Form.{fine, refusal, header, firstLimit, secondLimit, lineCount, notOne, unlabelled, linesVerdict, unlabelledVerdict, count}
+use Rattle.rolefile.specs.Form.{fine, refusal, header, firstLimit, secondLimit, linesAbout, notOne, unlabelled, linesVerdict, unlabelledVerdict, count}
 use Rattle.rolefile.specs.Said.{users, cards, last, labelBy}
 use Rattle.rolefile.specs.Section.{part, one, two}
 use Rattle.rolefile.proofs.Counts.{count-none}
@@ -80,13 +80,13 @@ pub record Table (f : List ℕ) (k n at size : ℕ) (ys : List ℕ) : Type 0 whe
 module _ (f : List ℕ) (good : GoodLines f) {k j m : ℕ} (s : Section f k j m) (after : H < k)
     (n : ℕ) (most : firstLimit (header f) k ≡ n) (small : secondLimit (header f) k ≤ 32) where
   module _ (x : ℕ) where
-    section-byte : Byte (part f j) x (notes (part f j) m x 0) (lineCount f k x) (labelBy f k x)
+    section-byte : Byte (part f j) x (notes (part f j) m x 0) (linesAbout f k x) (labelBy f k x)
     section-byte =
         rw (count-about f good s x, label-section f good s x)
         (notes-byte (part f j) x m (λ i w. let t = two-within f good s after i w in omega arith))
 
     -- a number past the file's count has no line
-    none-past : n < x → lineCount f k x ≡ 0
+    none-past : n < x → linesAbout f k x ≡ 0
     none-past l =
         count-about f good s x
         ∙ count-none (names (part f j) x) m .1 (λ i w. ne-eqb (one (part f j) i) x (λ e. omega (arith, one-within f good s after i w)))
@@ -97,16 +97,16 @@ module _ (f : List ℕ) (good : GoodLines f) {k j m : ℕ} (s : Section f k j m)
   noted-table at size ys l bytes = record {
     lowest =
         first-agree (unlabelledIn ys at) (notOne f k) n
-        (λ x w. let (e, g) = section-byte x in rw (bytes x (omega arith), e) (unlabelled-byte (lineCount f k x) (labelBy f k x) g));
-    all = λ z x w. bytes x w ∙ section-byte x .0 ∙ rw (le-leb (lineCount f k x) 1 (few z x w));
+        (λ x w. let (e, g) = section-byte x in rw (bytes x (omega arith), e) (unlabelled-byte (linesAbout f k x) (labelBy f k x) g));
+    all = λ z x w. bytes x w ∙ section-byte x .0 ∙ rw (le-leb (linesAbout f k x) 1 (few z x w));
   }
     where
-      few : unlabelled f k n ≡ 0 → (x : ℕ) → Among size x → lineCount f k x ≤ 1
+      few : unlabelled f k n ≡ 0 → (x : ℕ) → Among size x → linesAbout f k x ≤ 1
       few z x w = elim (decLt n x) [
         | yes past ↦ omega (arith, none-past x past)
         | no past ↦
             let single = first-none (notOne f k) n .0 z x (omega arith) in
-            omega (arith, eqb-true (lineCount f k x) 1 (not-false (eqb (lineCount f k x) 1) single))
+            omega (arith, eqb-true (linesAbout f k x) 1 (not-false (eqb (linesAbout f k x) 1) single))
       ]
 
 -- ---- 6: clearances are noted, and then the labels of cards

@@ -133,7 +133,7 @@ pub record Bytes (at size : ℕ) (v : ℕ → ℕ) (xs ys : List ℕ) : Type 0 w
   pub bytes : (x : ℕ) → Among size x → byteOf ys at x ≡ v x
   pub rest : Kept at (at + size) xs ys
 
--- the bytes of a table when i lines of the part p have been noted
+-- the bytes of a table when the first i lines of the part p have been noted, and nothing else changed
 abbrev pub NotedBytes : ℕ → ℕ → List ℕ → ℕ → List ℕ → List ℕ → Type 0
 NotedBytes at size p i xs ys = Bytes at size (λ x. notes p i x (byteOf xs at x)) xs ys
 

@@ -15,7 +15,7 @@ use Rattle.search.proofs.Found.{first-none-of}
 use Rattle.rolefile.specs.declared.Line.{Line}
 use Rattle.rolefile.specs.declared.Verdict.{Verdict}
 use Rattle.rolefile.specs.Line.{H, U, O, P, lineAt, lines}
-use Rattle.rolefile.specs.Form.{refusal, sized, header, goodCounts, firstLimit, secondLimit, ranged, before, rises, headVerdict, bodyVerdict, lineVerdict, about, unlabelled, found, unlabelledVerdict, linesVerdict, formVerdict, withinLimits, lineCount, notOne}
+use Rattle.rolefile.specs.Form.{refusal, sized, header, goodCounts, firstLimit, secondLimit, ranged, before, rises, headVerdict, bodyVerdict, lineVerdict, about, unlabelled, found, unlabelledVerdict, linesVerdict, formVerdict, withinLimits, linesAbout, notOne}
 use Rattle.rolefile.specs.Said.{users, cards}
 use Rattle.rolefile.specs.WellFormed.{Sized, GoodCounts, GoodNumbers, Before, Rises, GoodHead, GoodBody, GoodLine, GoodLines, LineRefused, noHeader, badCounts, malformed, badNumbers, unordered, One, OneEach, LowestUnlabelled, WellFormed}
 use Rattle.rolefile.proofs.Decides.{Decides, Fails, Else, Earliest, decides-as, decides-when}
@@ -135,11 +135,11 @@ lines-decides f = then-decides (test-decides (sized-iff f) (refusal 1 0 0) (omeg
 -- ---- 6
 
 module _ (f : List ℕ) (k : ℕ) where
-  one-iff : (x : ℕ) → (eqb (lineCount f k x) 1 ≡ true) ↔ One f k x
+  one-iff : (x : ℕ) → (eqb (linesAbout f k x) 1 ≡ true) ↔ One f k x
   one-iff x =
       let t = count-one (about f k x) (lines f) in (
-        λ e. let (i, (w, h, o)) = t .0 (eqb-true (lineCount f k x) 1 e) in record { line = i; inside = w; tells = h; only = o },
-        λ o. eq-eqb (lineCount f k x) 1 (t .1 (o .line, (o .inside, o .tells, o .only))),
+        λ e. let (i, (w, h, o)) = t .0 (eqb-true (linesAbout f k x) 1 e) in record { line = i; inside = w; tells = h; only = o },
+        λ o. eq-eqb (linesAbout f k x) 1 (t .1 (o .line, (o .inside, o .tells, o .only))),
       )
 
   -- why a file is refused for a thing that does not have one line
@@ -153,10 +153,10 @@ module _ (f : List ℕ) (k : ℕ) where
       has : (x : ℕ) → Among n x → (notOne f k x ≡ true) ↔ (One f k x → ⊥)
       has x w =
           let none = other-iff false (one-iff x) in
-          (λ e. none .0 (not-true (eqb (lineCount f k x) 1) e), λ h. rw (none .1 h))
+          (λ e. none .0 (not-true (eqb (linesAbout f k x) 1) e), λ h. rw (none .1 h))
 
       hasNot : (x : ℕ) → Among n x → (notOne f k x ≡ false) ↔ One f k x
-      hasNot x w = (λ e. one-iff x .0 (not-false (eqb (lineCount f k x) 1) e), λ o. rw (one-iff x .1 o))
+      hasNot x w = (λ e. one-iff x .0 (not-false (eqb (linesAbout f k x) 1) e), λ o. rw (one-iff x .1 o))
 
 -- ---- the whole form
 

@@ -17,7 +17,7 @@ use Rattle.search.proofs.Truth.{and-iff}
 use Rattle.rolefile.specs.declared.Line.{Line}
 use Rattle.rolefile.specs.Field.{fieldAt}
 use Rattle.rolefile.specs.Line.{P, letterOf, fields, start, lineAt, lines, fieldUsed}
-use Rattle.rolefile.specs.Form.{count, about, lineCount}
+use Rattle.rolefile.specs.Form.{count, about, linesAbout}
 use Rattle.rolefile.specs.Said.{is, says, last, labelBy}
 use Rattle.rolefile.specs.WellFormed.{GoodLines}
 use Rattle.rolefile.specs.Decimal.{letterByte}
@@ -185,7 +185,7 @@ module _ (f : List ℕ) (good : GoodLines f) {k j m : ℕ} (s : Section f k j m)
     about-one : (i : ℕ) → Among m i → about f k x (j + i) ≡ eqb (one (part f j) i) x
     about-one i w = rw (s .inside i w, eq-eqb k k refl, told .one i w)
 
-    pub count-about : lineCount f k x ≡ count m (λ i. eqb (one (part f j) i) x)
+    pub count-about : linesAbout f k x ≡ count m (λ i. eqb (one (part f j) i) x)
     count-about = count-within (lines f) j m (s .fits) (about f k x) _ (tested s _) about-one
 
     pub label-section : labelBy f k x ≡ last m (λ i. eqb (one (part f j) i) x) (two (part f j))

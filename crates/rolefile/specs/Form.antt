@@ -91,12 +91,12 @@ abbrev pub about : List ℕ → ℕ → ℕ → ℕ → Bool
 about f k x i = eqb (lineAt f i .letter) k && eqb (lineAt f i .a) x
 
 -- how many lines of the letter k are about x
-abbrev pub lineCount : List ℕ → ℕ → ℕ → ℕ
-lineCount f k x = count (lines f) (about f k x)
+abbrev pub linesAbout : List ℕ → ℕ → ℕ → ℕ
+linesAbout f k x = count (lines f) (about f k x)
 
 -- none, or more than one
 abbrev pub notOne : List ℕ → ℕ → ℕ → Bool
-notOne f k x = not (eqb (lineCount f k x) 1)
+notOne f k x = not (eqb (linesAbout f k x) 1)
 
 -- the lowest of n things that has no line of the letter k or more than one, or 0
 unfoldable pub unlabelled : List ℕ → ℕ → ℕ → ℕ

@@ -56,7 +56,7 @@ untrue a h = not-eq-not .0 h
 pub both : {a : Bool} → a ≡ true → a ≡ false → ⊥
 both p q = true≢false (sym p ∙ q)
 
--- what a test tells that comes out b, by what it tells where it comes out the other way
+-- a test comes out b exactly where what its other outcome tells does not hold
 pub other-iff : (b : Bool) {a : Bool} {P : Type 0} → (a ≡ not b) ↔ P → (a ≡ b) ↔ (P → ⊥)
 other-iff b i = Iff·trans (Iff·symm not-eq-not) (Iff·not i)
 

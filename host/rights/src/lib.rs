@@ -39,7 +39,7 @@ impl Printed {
     }
 
     /// A line about what was wrong, and nothing else.
-    pub fn problem(before: &str, name: &[u8], after: &str) -> Printed {
+    fn problem(before: &str, name: &[u8], after: &str) -> Printed {
         Printed {
             output: Vec::new(),
             problems: [before.as_bytes(), name, after.as_bytes(), b"\n"].concat(),

@@ -46,7 +46,7 @@ pub fn line(file: &[u8], number: u64, place: usize) -> Option<&[u8]> {
         .then(|| &file[LINE_LENGTH * (place - 1)..LINE_LENGTH * place - 1])
 }
 
-/// A byte as the reply shows it: itself, or `?` where it is none of the printable ones.
+/// A byte as it is shown: `?` for one that is no printed character of ASCII.
 fn shown_byte(byte: u8) -> char {
     match char::from(byte) {
         ' ' => ' ',

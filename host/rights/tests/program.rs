@@ -44,7 +44,10 @@ fn example_file() -> Temporary {
 
 /// Nothing on standard output, and exactly this line on standard error.
 fn only_a_problem(arguments: &[OsString], before: &str, name: &[u8], after: &str) {
-    let wanted = Printed::problem(before, name, after);
+    let wanted = Printed {
+        output: Vec::new(),
+        problems: [before.as_bytes(), name, after.as_bytes(), b"\n"].concat(),
+    };
     // What the model says is not by itself what was laid down.
     assert!(agrees(arguments) == wanted, "{before}{after}");
 }
