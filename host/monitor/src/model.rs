@@ -453,11 +453,7 @@ impl Model {
 
 /// "22: place not 1 to 64"
 fn place_in_range(place: u64) -> Result<usize, u64> {
-    if (1..=PLACES as u64).contains(&place) {
-        Ok(place as usize)
-    } else {
-        Err(22)
-    }
+    in_range(place, PLACES).map_err(|_| 22)
 }
 
 /// "25: user, label, role or card number out of range"

@@ -233,10 +233,7 @@ fn usable(state: &[u8]) -> Result<(), u64> {
 
 /// 22
 fn place_in_range(place: u64) -> Result<usize, u64> {
-    if place == 0 || place > PLACES as u64 {
-        return Err(22);
-    }
-    Ok(place as usize)
+    in_range(place, PLACES).map_err(|_| 22)
 }
 
 /// 21, 22, 24: a place with a session.
