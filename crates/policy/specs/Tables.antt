@@ -172,12 +172,15 @@ pastCard t xs o r q = related t 0 r q || flowsByCard xs r q o
 abbrev pub withoutLoops : List ℕ → Relation
 withoutLoops t r q = related t 0 r q && not (eqb q r)
 
--- the counts in a state, none above its limit
+-- the count at `at`, or `most` where it is higher
+abbrev pub upTo : List ℕ → ℕ → ℕ → ℕ
+upTo xs at most = min (word xs at) most
+
 abbrev pub rolesUpTo : List ℕ → ℕ
-rolesUpTo xs = min (word xs roleCountAt) 128
+rolesUpTo xs = upTo xs roleCountAt 128
 
 abbrev pub cardsUpTo : List ℕ → ℕ
-cardsUpTo xs = min (word xs cardCountAt) 512
+cardsUpTo xs = upTo xs cardCountAt 512
 
 -- a whole state
 abbrev pub isState : List ℕ → Bool
@@ -185,9 +188,9 @@ isState xs = leb stateSize (length xs)
 
 -- ---- what a list of bytes tells of its roles and cards; what is too short for a state has none
 
--- the count at `at`, `most` where it is higher
+-- the count at `at`, or `most`
 abbrev pub countIn : List ℕ → ℕ → ℕ → ℕ
-countIn xs at most = cond (isState xs) (min (word xs at) most) 0
+countIn xs at most = cond (isState xs) (upTo xs at most) 0
 
 -- that of the roles
 abbrev pub roleCount : List ℕ → ℕ
