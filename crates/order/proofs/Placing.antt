@@ -12,8 +12,8 @@ use lib.Dec.{eqb, leb}
 use borrow.Author.Tests.{le-leb}
 use Rattle.search.specs.Search.{Among}
 use Rattle.search.proofs.Truth.{among-iff, both, eqb-swap}
-use Rattle.roleset.specs.Row.{whole, member, added, unitedWhere, Copied, Placed, PlacedRows}
-use Rattle.roleset.proofs.Rows.{row-kept, other-kept, kept-wider, kept-both, copied, whole-true}
+use Rattle.roleset.specs.Row.{whole, member, added, unitedWhere, RowCopy, Placed, PlacedRows}
+use Rattle.roleset.proofs.Rows.{row-kept, other-kept, kept-wider, kept-both, row-copy, whole-true}
 use Rattle.order.specs.Closure.{Relation, via, round, reflexive}
 use Rattle.order.specs.Table.{Rows, related, Tabled}
 use Rattle.order.proofs.Closure.{RowSet, rows-none, rows-more, rounds-none, rounds-more}
@@ -83,11 +83,11 @@ module _ (at : ℕ) (xs : List ℕ) (fits : at + 2048 ≤ length xs) where
       (or-comm (member xs (at + 16 * i) b) (eqb (i + 1) b))
 
   -- what a round of closing makes of the table, given the row `other` of thing k + 1
-  pub round-rows : (n k : ℕ) (ys other : List ℕ) → k < n → n ≤ 128 → Copied xs (at + 16 * k) other
+  pub round-rows : (n k : ℕ) (ys other : List ℕ) → k < n → n ≤ 128 → RowCopy xs (at + 16 * k) other
       → PlacedRows at n (λ i. unitedWhere xs (at + 16 * i) (k + 1) other) xs ys → Tabled at n (round e (k + 1)) xs ys
   round-rows n k ys other l m o p = record {
     rows = λ f. record {
-      done = λ a b v w. p .rows (omega arith) (a - 1) (omega arith) b ∙ rw (copied xs other (at + 16 * k) (omega arith) o b, add-sub-cancel k 1);
+      done = λ a b v w. p .rows (omega arith) (a - 1) (omega arith) b ∙ rw (row-copy xs other (at + 16 * k) (omega arith) o b, add-sub-cancel k 1);
       left = λ a b v u w. row-kept xs ys (p .rest) (at + 16 * (a - 1)) b (inr (omega arith));
     };
     rest = p .rest;

@@ -12,8 +12,8 @@ use borrow.Author.Tests.{le-leb, lt-leb, leb-false, not-true, eq-eqb, ne-eqb}
 use Rattle.search.specs.Search.{Among, Lowest, some, first}
 use Rattle.search.proofs.Truth.{and-iff}
 use Rattle.search.proofs.Found.{first-agree, first-none, first-lowest, first-within}
-use Rattle.roleset.specs.Row.{whole, member, removed, united, memberAfter, nextMember, Copied, Placed}
-use Rattle.roleset.proofs.Rows.{copied, whole-true}
+use Rattle.roleset.specs.Row.{whole, member, removed, united, memberAfter, nextMember, RowCopy, Placed}
+use Rattle.roleset.proofs.Rows.{row-copy, whole-true}
 use Rattle.order.specs.Closure.{Relation, Agree, path, loop, circle}
 use Rattle.order.specs.Table.{related, Tabled}
 use Rattle.order.proofs.Closure.{circle-agree, loop-circle}
@@ -56,9 +56,9 @@ module _ (h : Relation) (t u : List ℕ) (i : ℕ) (long : 2048 ≤ length t) (s
 
 -- the next role of a row that was taken by value
 pub next-taken : (xs row : List ℕ) (at i : ℕ) {w : ℕ} → at + 16 ≤ length xs → 16 ≤ length row
-    → Copied xs at row → w ≡ cond (whole row 0) (nextMember row 0 i) 0 → w ≡ nextMember xs at i
+    → RowCopy xs at row → w ≡ cond (whole row 0) (nextMember row 0 i) 0 → w ≡ nextMember xs at i
 next-taken xs row at i l m same e =
-    e ∙ rw (whole-true row 0 m) (first-agree (memberAfter row 0 i) (memberAfter xs at i) 128 (λ r w. rw (copied xs row at l same r)))
+    e ∙ rw (whole-true row 0 m) (first-agree (memberAfter row 0 i) (memberAfter xs at i) 128 (λ r w. rw (row-copy xs row at l same r)))
 
 -- card o + 1 is passed from one writer to the next: i is the last that has had its turn, and w the next one, or 0
 pub record Turn (t u xs : List ℕ) (o i w : ℕ) : Type 0 where
@@ -103,7 +103,7 @@ module _ {t u xs : List ℕ} {o i w : ℕ} (turn : Turn t u xs o i w) where
     writer-ahead = leb-false w i (not-true (leb w i) (and-iff (not (leb w i)) (Writes w) .0 (lowest .holds) .0))
 
     pub writer-more : {v : List ℕ} (readers : List ℕ) → Placed (16 * (w - 1)) (united u (16 * (w - 1)) readers) u v
-        → Copied xs (readersAt + 16 * o) readers → Tabled 0 w Past t v
+        → RowCopy xs (readersAt + 16 * o) readers → Tabled 0 w Past t v
     writer-more {v} readers placed read =
         let ahead = writer-ahead in
         let within = writer-within in
@@ -116,7 +116,7 @@ module _ {t u xs : List ℕ} {o i w : ℕ} (turn : Turn t u xs o i w) where
           last,
           add-sub-cancel o 1,
           and-iff (not (leb w i)) (Writes w) .0 (lowest .holds) .1,
-          copied xs readers (readersAt + 16 * o) (omega arith) read q,
+          row-copy xs readers (readersAt + 16 * o) (omega arith) read q,
         )))
 
 pub loop-removed : (t u : List ℕ) (i q : ℕ) → 2048 ≤ length t → length u ≡ length t → i < 128 → Among 128 q → Tabled 0 i (withoutLoops t) t u

@@ -9,8 +9,8 @@ use lib.ListN.{length, getD}
 use borrow.Author.Tests.{ne-eqb}
 use Rattle.search.specs.Search.{Among, some}
 use Rattle.search.proofs.Found.{some-more, some-yet, some-agree}
-use Rattle.roleset.specs.Row.{rowOf, member, united, Copied, Placed}
-use Rattle.roleset.proofs.Rows.{copied}
+use Rattle.roleset.specs.Row.{rowOf, member, united, RowCopy, Placed}
+use Rattle.roleset.proofs.Rows.{row-copy}
 use Rattle.order.specs.Closure.{Relation, Agree}
 use Rattle.order.specs.Bound.{lub}
 use Rattle.order.proofs.Bound.{lub-agree}
@@ -27,12 +27,12 @@ module _ (xs : List ℕ) (at o label : ℕ) (e : label ≡ getD xs (cardLabelsAt
   brings-none g l r ne = rw (byte-is, ne-eqb label l ne) (sym (or-false (member g (rowOf 0 l) r)))
 
   pub brings-row : (g h other : List ℕ) → length g ≡ 512 → Among 32 label → at + 16 * o + 16 ≤ length xs
-      → Copied xs (at + 16 * o) other
+      → RowCopy xs (at + 16 * o) other
       → Placed (rowOf 0 label) (united g (rowOf 0 label) other) g h
       → (l r : ℕ) → Among 32 l → member h (rowOf 0 l) r ≡ (member g (rowOf 0 l) r || brings xs at l r (o + 1))
   brings-row g h other long v fits row p l r w =
       rw (byte-is, add-sub-cancel o 1)
-      (row-united 0 32 label p v (member xs (at + 16 * o)) (omega arith) l r w (rw (copied xs other (at + 16 * o) fits row r)))
+      (row-united 0 32 label p v (member xs (at + 16 * o)) (omega arith) l r w (rw (row-copy xs other (at + 16 * o) fits row r)))
 
 pub gathered-more : (xs : List ℕ) (at o l r : ℕ) → (gathered xs at o l r || brings xs at l r (o + 1)) ≡ gathered xs at (o + 1) l r
 unfolding gathered

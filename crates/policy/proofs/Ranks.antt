@@ -2,7 +2,7 @@
 use Prim.Native.Nat.{ℕ, _+_, _≤_, min}
 use mathlib.Core.Path.{_≡_, refl, _∙_}
 use mathlib.Core.List.{List}
-use mathlib.Core.Bool.{false, cond}
+use mathlib.Core.Bool.{cond}
 use native.Mathlib.Omega.{arith}
 use lib.Dec.{leb}
 use lib.ListN.{length}
@@ -12,7 +12,7 @@ use Rattle.roleset.specs.Row.{Kept}
 use Rattle.roleset.proofs.Rows.{kept-both}
 use Rattle.order.specs.Bound.{converse}
 use Rattle.order.specs.Closure.{Agree, path, loop, circle, reflexive}
-use Rattle.order.specs.Table.{related, Rows, Tabled}
+use Rattle.order.specs.Table.{related, Tabled}
 use Rattle.order.proofs.Closure.{via-converse, circle-converse, loop-circle}
 use Rattle.rolefile.specs.declared.Line.{Line}
 use Rattle.rolefile.specs.declared.Verdict.{Verdict}
@@ -25,7 +25,7 @@ use Rattle.rolefile.proofs.Verdicts.{refuses}
 use Rattle.policy.specs.Policy.{senior}
 use Rattle.policy.specs.Tables.{seniorsAt, Related}
 use Rattle.policy.specs.Verdict.{roleVerdict}
-use Rattle.policy.specs.Stages.{Ready, Zeros, Ranking}
+use Rattle.policy.specs.Stages.{Ready, Zeros, PathRows, Ranking}
 use Rattle.policy.specs.declared.build.Parts.{Parts}
 use Rattle.policy.proofs.Readying.{good-of, counts-of, head-roles, s-lines}
 use Rattle.policy.proofs.Inside.{above-between}
@@ -37,7 +37,7 @@ pub record Pathed (f : List ℕ) (h : Line) (xs zs : List ℕ) (r : ℕ) : Type 
   pub count : min (h .b) 128 ≡ roles f
   pub few : roles f ≤ 128
   pub long : seniorsAt + 2048 ≤ length zs
-  pub rows : Rows 128 (roles f) (path (roles f) (converse (above f))) (λ a b. false) (related zs seniorsAt)
+  pub rows : PathRows 128 (roles f) (converse (above f)) (related zs seniorsAt)
   pub lowest : r ≡ circle (roles f) (above f)
   pub rest : Kept 2064 4112 xs zs
 
@@ -60,7 +60,7 @@ module _ (f : List ℕ) (q : Parts) (h : Line) (ready : Ready f q h) (xs ys zs p
   by-roles : Tabled seniorsAt (roles f) (path (roles f) (related ys seniorsAt)) ys zs
   by-roles = rw (head-roles f q h ready) at pathed
 
-  paths : Rows 128 (roles f) (path (roles f) (converse (above f))) (λ a b. false) (related zs seniorsAt)
+  paths : PathRows 128 (roles f) (converse (above f)) (related zs seniorsAt)
   paths =
       paths-table 128 (roles f) (converse (above f)) (related ys seniorsAt) (related zs seniorsAt) few
       (λ a b e. let (v, w) = above-between f (good-of f (ready .lines)) b a e in (w, v)) direct (by-roles .rows (omega arith))

@@ -6,7 +6,7 @@ use mathlib.Core.Bool.{Bool, false, _&&_}
 use lib.Dec.{leb}
 use lib.ListN.{getD}
 use Rattle.roleset.specs.Row.{Kept}
-use Rattle.order.specs.Closure.{Agree, path}
+use Rattle.order.specs.Closure.{Relation, Agree, path}
 use Rattle.order.specs.Table.{mark, Rows}
 use Rattle.rolefile.specs.declared.Line.{Line}
 use Rattle.rolefile.specs.declared.Verdict.{Verdict}
@@ -49,9 +49,13 @@ pub record Noting (f : List ℕ) (v : Verdict) (xs ys : List ℕ) : Type 0 where
   pub done : v .number ≡ 0 → Labelled f ys
   pub rest : Kept 1040 1808 xs ys
 
+-- u has the paths of e among the things 1 to n, and nothing in the rows after
+abbrev pub PathRows : ℕ → ℕ → Relation → Relation → Type 0
+PathRows size n e u = Rows size n (path n e) (λ a b. false) u
+
 -- the paths of dominance, and its closure, as tables
 abbrev pub Paths : List ℕ → List (List Bool) → Type 0
-Paths f t = Rows 32 (labels f) (path (labels f) (over f)) (λ a b. false) (mark t)
+Paths f t = PathRows 32 (labels f) (over f) (mark t)
 
 abbrev pub Closed : List ℕ → List (List Bool) → Type 0
 Closed f t = Agree 32 32 (mark t) (λ a b. leb a (labels f) && dominates f a b)

@@ -15,15 +15,15 @@ use borrow.Author.Count.{below-more}
 use borrow.Author.Tests.{le-leb, eq-eqb, ne-eqb}
 use Rattle.search.specs.Search.{among, Among}
 use Rattle.search.proofs.Truth.{and-iff, and-when, among-iff, both}
-use Rattle.roleset.specs.Row.{AllBytes, bit, rowOf, roleByte, roleBit, whole, member, added, removed, Copied, Kept, Placed, PlacedRows}
+use Rattle.roleset.specs.Row.{AllBytes, bit, rowOf, roleByte, roleBit, whole, member, added, removed, RowCopy, Kept, Placed, PlacedRows}
 use Rattle.roleset.proofs.Bits.{bit-zero, bit-on, bit-off, same-bits}
 
 pub whole-true : (xs : List ℕ) (at : ℕ) → at + 16 ≤ length xs → whole xs at ≡ true
 whole-true xs at = le-leb (at + 16) (length xs)
 
 -- a copy of a row that lies in xs
-pub copied : (xs row : List ℕ) (at : ℕ) → at + 16 ≤ length xs → Copied xs at row → (r : ℕ) → member row 0 r ≡ member xs at r
-copied xs row at l c r = c r ∙ rw (whole-true xs at l)
+pub row-copy : (xs row : List ℕ) (at : ℕ) → at + 16 ≤ length xs → RowCopy xs at row → (r : ℕ) → member row 0 r ≡ member xs at r
+row-copy xs row at l c r = c r ∙ rw (whole-true xs at l)
 
 module _ (xs : List ℕ) (at : ℕ) where
   pub member-role : (r : ℕ) → member xs at r ≡ true → Among 128 r

@@ -4,7 +4,7 @@
 --     member xs at r            the row of xs at `at` holds role r
 --     common xs a b             the rows at a and at b have a role in common
 --     nextMember xs at after    the lowest role above `after` that the row holds, or 0
---     Copied xs at row          `row` has the roles of the row of xs at `at`
+--     RowCopy xs at row         `row` has the roles of the row of xs at `at`
 --     AllBytes xs               each number of xs is a byte
 --     Kept a b xs ys            every byte of ys but those from a up to b is xs's
 --     Placed at s xs ys         ys is xs with the set s in the row at `at`, and nothing else changed
@@ -78,8 +78,8 @@ abbrev pub joined : List ℕ → ℕ → ℕ → ℕ → Bool
 joined xs into from r = member xs into r || (whole xs from && member xs from r)
 
 -- `row` has the roles of the row at `at`, and none where it does not lie in xs
-abbrev pub Copied : List ℕ → ℕ → List ℕ → Type 0
-Copied xs at row = (r : ℕ) → member row 0 r ≡ (whole xs at && member xs at r)
+abbrev pub RowCopy : List ℕ → ℕ → List ℕ → Type 0
+RowCopy xs at row = (r : ℕ) → member row 0 r ≡ (whole xs at && member xs at r)
 
 -- each number of the list is a byte
 abbrev pub AllBytes : List ℕ → Type 0

@@ -9,7 +9,7 @@ ghost use mathlib.Core.Bool.{_&&_, cond};
 ghost use Prim.Native.Nat.{_+_, _*_};
 ghost use lib.Dec.{leb};
 ghost use Rattle.search.specs.Search.{some};
-ghost use Rattle.roleset.specs.Row.{whole, member, common, nextMember, Copied, Placed, PlacedRows, added, addedWhere, removed, united, unitedWhere, joined};
+ghost use Rattle.roleset.specs.Row.{whole, member, common, nextMember, RowCopy, Placed, PlacedRows, added, addedWhere, removed, united, unitedWhere, joined};
 
 // Whether n rows from `at` on lie wholly in `len` bytes.
 pub fn rows_lie(len: usize, at: usize, n: usize) -> bool
@@ -77,7 +77,7 @@ pub fn remove(s: &mut [u8], at: usize, role: usize)
 
 // The row at `at`, by value.
 pub fn row(s: &[u8], at: usize) -> [u8; 16]
-    ensures { λ row. ⌜ Copied (now (s .entry)) at row ⌝ }
+    ensures { λ row. ⌜ RowCopy (now (s .entry)) at row ⌝ }
 {
     if !inner::lies(s.len(), at) {
         return [0u8; 16];
