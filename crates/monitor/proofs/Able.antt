@@ -179,25 +179,20 @@ module _ {f : List ℕ} (accepted : Accepted f) (a : Start f) (store : List ℕ)
     pub can-file : (u l o m n figure : ℕ) → Cans end u l o m n figure → (n ≡ canRule f u l o m) × (figure ≡ ifDone n (cond (couldByFile f u l o m) 1 0) 0)
     can-file u l o m n figure h =
         let form = accepted .ordered .form in
-        let e = h .number ∙ number-by f form t end (ran .stands) u l o m in (
+        let stands = left-runs accepted a store cs .stands in
+        let e = h .number ∙ number-by f form t end stands u l o m in (
           e,
           figure-same n (h .number) (h .answer) (λ z.
-              let w = can-done f u l o m (sym e ∙ z) in could-by f form t end (ran .stands) u l o m (w .user) (w .card) (w .mode)),
+              let w = can-done f u l o m (sym e ∙ z) in could-by f form t end stands u l o m (w .user) (w .card) (w .mode)),
         )
       where
         t : Sessions
         t = sessions f noSessions cs
 
-        ran : Runs f t (length store) (left a store cs)
-        ran = left-runs accepted a store cs
-
   -- from the state that a load left, at any place and with a store that has all cards
   module _ (enough : 64 * cards f ≤ length store) (p : ℕ) (place : Among 64 p) (u l o m : ℕ) (mode : Among 2 m) where
-    runs : Runs f noSessions (length store) start
-    runs = loaded-runs accepted a store
-
     runs-one : Runs f (next f noSessions (opens p u l)) (length store) (after start (opens p u l))
-    runs-one = runs-next f (accepted .ordered .form) noSessions (length store) start runs (opens p u l)
+    runs-one = runs-next f (accepted .ordered .form) noSessions (length store) start (loaded-runs accepted a store) (opens p u l)
 
     runs-two : (r : ℕ) → Runs f (next f (next f noSessions (opens p u l)) (takes p r)) (length store) (after (after start (opens p u l)) (takes p r))
     runs-two r = runs-next f (accepted .ordered .form) (next f noSessions (opens p u l)) (length store) (after start (opens p u l)) runs-one (takes p r)
@@ -206,7 +201,7 @@ module _ {f : List ℕ} (accepted : Accepted f) (a : Start f) (store : List ℕ)
     unfolding rule
     granting r =
         let form = accepted .ordered .form in
-        let one = runs-number f form noSessions (length store) start runs (opens p u l) in
+        let one = runs-number f form noSessions (length store) start (loaded-runs accepted a store) (opens p u l) in
         let two = runs-number f form _ (length store) _ runs-one (takes p r) in
         let three = runs-number f form _ (length store) _ (runs-two r) (useOf m p o) ∙ use-rule f (length store) p u l place enough m o _ mode in (
           λ x. record { opened = one ∙ x .opened; taken = two ∙ x .taken; used = three ∙ x .used },

@@ -16,7 +16,7 @@ use Rattle.rolefile.specs.WellFormed.{WellFormed}
 use Rattle.policy.specs.Policy.{dominates, senior, may}
 use Rattle.policy.specs.Tables.{labelCountAt, roleCountAt, userCountAt, cardCountAt, word, tableOf}
 use Rattle.policy.proofs.Meaning.{counts-known, role-few, user-few, card-few, marked-file}
-use Rattle.monitor.specs.Session.{sound, entitled, fitting}
+use Rattle.monitor.specs.Session.{entitled, fitting}
 use Rattle.monitor.specs.Rules.{Sessions, entitledByFile, fittingByFile}
 use Rattle.monitor.specs.Rights.{roleCould, could, couldByFile}
 use Rattle.monitor.specs.Review.{knownLabels, knownRoles, knownUsers, knownCards, known, isLabel, isRole, isUser, isCard, clearanceOf, dominatesIn, seniorTo, assignedTo, entitledTo, mayOpen, mayTake, giveCard}
@@ -26,25 +26,22 @@ use Rattle.monitor.proofs.Known.{may-role, may-known}
 use Rattle.monitor.proofs.Able.{table-says, could-by}
 
 module _ (f : List ℕ) (form : WellFormed f) (t : Sessions) (xs : List ℕ) (stands : Stands f t xs) where
-  whole : sound xs ≡ true
-  whole = sound-file f form t xs stands
-
   -- ---- counts and ranges
 
   pub review-labels : knownLabels xs ≡ labels f
-  review-labels = rw whole (stands .tables .counted .labels)
+  review-labels = rw (sound-file f form t xs stands) (stands .tables .counted .labels)
 
   pub review-roles : knownRoles xs ≡ roles f
-  review-roles = rw whole (stands .tables .counted .roles)
+  review-roles = rw (sound-file f form t xs stands) (stands .tables .counted .roles)
 
   pub review-users : knownUsers xs ≡ users f
-  review-users = rw whole (stands .tables .counted .users)
+  review-users = rw (sound-file f form t xs stands) (stands .tables .counted .users)
 
   pub review-cards : knownCards xs ≡ cards f
-  review-cards = rw whole (stands .tables .counted .cards)
+  review-cards = rw (sound-file f form t xs stands) (stands .tables .counted .cards)
 
   thing : (at n x : ℕ) → word xs at ≡ n → Among n x → known xs at x ≡ true
-  thing at n x e w = rw (whole, e) (among-iff n x .1 w)
+  thing at n x e w = rw (sound-file f form t xs stands, e) (among-iff n x .1 w)
 
   label : (l : ℕ) → Among (labels f) l → isLabel xs l ≡ true
   label l = thing labelCountAt (labels f) l (stands .tables .counted .labels)

@@ -6,7 +6,7 @@ use mathlib.Core.Logic.{_↔_, _⊎_, inl, inr, ⊎-elim}
 use mathlib.Core.List.{List}
 use mathlib.Core.Bool.{true, false≢true}
 use Rattle.search.specs.Search.{Among}
-use Rattle.order.specs.Bound.{converse, Lower, IsGlb}
+use Rattle.order.specs.Bound.{converse, Lower}
 use Rattle.order.proofs.Lattice.{lub-of-set, glb-iff-lower}
 use Rattle.rolefile.specs.Said.{labels}
 use Rattle.policy.specs.Policy.{Level, Free, Label, Undefined}
@@ -31,14 +31,11 @@ module _ (f : List ℕ) (o : Ordered f) (r : ℕ) where
   w-level-defined = (
     bounded (level (labels f) (converse (dominates f)) (mayAt f 2 r)) (level-tells (labels f) (converse (dominates f)) (mayAt f 2 r)),
     λ h. defined-iff (labels f) (converse (dominates f)) (mayAt f 2 r) .1 (λ (some, none).
-        ⊎-elim (λ empty. empty some) (λ d. let (c, b) = glb .1 d in none c b) h),
+        ⊎-elim (λ empty. empty some) (λ d. let (c, b) = glb-iff-lower (labels f) (dominates f) (o .dominance .order) (o .joins) (mayAt f 2 r) .1 d in none c b) h),
   )
     where
-      glb : ((c : ℕ) × IsGlb (labels f) (dominates f) (mayAt f 2 r) c) ↔ ((d : ℕ) × Among (labels f) d × WrittenOver d)
-      glb = glb-iff-lower (labels f) (dominates f) (o .dominance .order) (o .joins) (mayAt f 2 r)
-
       bounded : (l : Level) → Tells (labels f) (converse (dominates f)) (mayAt f 2 r) l → isDefined l ≡ true
           → (Some (labels f) (mayAt f 2 r) → ⊥) ⊎ ((d : ℕ) × Among (labels f) d × WrittenOver d)
       bounded Free t e = inl t
-      bounded (Label c) (some, b) e = inr (glb .0 (c, b))
+      bounded (Label c) (some, b) e = inr (glb-iff-lower (labels f) (dominates f) (o .dominance .order) (o .joins) (mayAt f 2 r) .0 (c, b))
       bounded Undefined t e = absurd (false≢true e)

@@ -182,12 +182,9 @@ module _ (f : List ℕ) (q : Parts) (h : Line) (t up : List (List Bool)) (x₀ x
   zeros₂ : Zeros 1808 2064 x₂
   zeros₂ i l m = grants .rest i (λ n. omega arith) ∙ kept i (λ n. omega arith) ∙ no-level i l m
 
-  -- the orders of the two bounds
-  dominance : Agree (labels f) (labels f) (mark t) (dominates f)
-  dominance = closed-agree f t (counts .labels .1) closed
-
+  -- the order of the upper bounds
   upward : Agree (labels f) (labels f) (converse (mark up)) (dominates f)
-  upward a b v w = turns b a (omega (arith, counts .labels)) (omega (arith, counts .labels)) ∙ dominance a b v w
+  upward a b v w = turns b a (omega (arith, counts .labels)) (omega (arith, counts .labels)) ∙ closed-agree f t (counts .labels .1) closed a b v w
 
   read₃ : (r : ℕ) → Among 128 r → byteOf x₃ rLevelsAt r ≡ levelNumber (rLevel f r)
   unfolding rLevel
@@ -200,7 +197,8 @@ module _ (f : List ℕ) (q : Parts) (h : Line) (t up : List (List Bool)) (x₀ x
   written₄ : (r : ℕ) → Among 128 r → byteOf x₄ wLevelsAt r ≡ levelNumber (wLevel f r)
   unfolding wLevel
   written₄ =
-      levels-are f counts between 2 wLevelsAt (converse (mark t)) (converse (dominates f)) writing x₃ x₄ (λ a b v w. dominance b a w v)
+      levels-are f counts between 2 wLevelsAt (converse (mark t)) (converse (dominates f)) writing x₃ x₄
+      (λ a b v w. closed-agree f t (counts .labels .1) closed b a w v)
       (λ l r v w. rw (ready .head) at writes l r v w ∙ may-at-is f x₃ (counts .cards) labelled₃ 2 writersAt (permitting₃ .writers) l r w)
       (rw (ready .head) at write-levels)
       (λ i l m. kept₃ i (λ n. omega arith) ∙ zeros₂ i (omega arith) (omega arith))

@@ -11,7 +11,6 @@ use Rattle.rolefile.specs.declared.Line.{Line}
 use Rattle.rolefile.specs.declared.Verdict.{Verdict}
 use Rattle.rolefile.specs.Field.{fieldAt}
 use Rattle.rolefile.specs.Line.{value, formed, lineOf, start, lineAt, noLine}
-use Rattle.rolefile.specs.Form.{header}
 use Rattle.rolefile.proofs.Decimals.{field-number}
 use Rattle.policy.specs.Verdict.{verdict}
 use Rattle.policy.specs.Accepted.{Outcome, accepted, badSize, badLine, badUser, badCard, labelCircle, noBound, roleCircle, badAssignment}
@@ -57,16 +56,13 @@ verdict-written f =
     let (a, b) = places (outcome f) in
     record { number = ⊎-elim (λ l. omega arith) (λ l. omega arith) (verdict-numbers f); first = a; second = b }
   where
-    few : Few (header f)
-    few = line-few f 1
-
     places : {v : Verdict} → Outcome f v → (v .first < 100000) × (v .second < 100000)
     places (accepted a) = omega arith
     places (badSize h) = omega arith
     places (badLine s w low l) = omega arith
-    places (badUser s g l) = omega (arith, few .c)
-    places (badCard s g us l) = omega (arith, few .d)
-    places (labelCircle w l) = omega (arith, few .a)
-    places (noBound w d p) = omega (arith, few .a)
-    places (roleCircle o l) = omega (arith, few .b)
+    places (badUser s g l) = omega (arith, line-few f 1 .c)
+    places (badCard s g us l) = omega (arith, line-few f 1 .d)
+    places (labelCircle w l) = omega (arith, line-few f 1 .a)
+    places (noBound w d p) = omega (arith, line-few f 1 .a)
+    places (roleCircle o l) = omega (arith, line-few f 1 .b)
     places (badAssignment {n} {i} o s w l low r) = let few = line-few f i in (few .a, few .b)

@@ -3,7 +3,7 @@ use Prim.Native.Nat.{ℕ, _+_, _-_, _*_, _<_}
 use mathlib.Core.Path.{_≡_, sym, ap, _∙_}
 use mathlib.Core.Logic.{_↔_}
 use mathlib.Core.List.{List}
-use mathlib.Core.Bool.{Bool, false, not, _&&_, Bool·not-not}
+use mathlib.Core.Bool.{Bool, not, _&&_, Bool·not-not}
 use native.Mathlib.Omega.{arith}
 use native.Mathlib.Decide.{decLt}
 use lib.Bits.{bitAnd, bitOr}
@@ -58,17 +58,14 @@ module _ (xs ys : List ℕ) (a b : ℕ) (bytes : AllBytes xs) (others : AllBytes
   byte-shares : (k j : ℕ) → k < 16 → j < 8 → (bit (getD xs (a + k) 0) j && bit (getD ys (b + k) 0) j) ≡ Shared (8 * k + j + 1)
   byte-shares k j l m = rw (bit-member xs a k j l m, bit-member ys b k j l m)
 
-  byte-apart : (k : ℕ) → (Both k ≡ 0) ↔ ((j : ℕ) → j < 8 → (bit (getD xs (a + k) 0) j && bit (getD ys (b + k) 0) j) ≡ false)
-  byte-apart k = and-none (getD xs (a + k) 0) (getD ys (b + k) 0) (bytes (a + k)) (others (b + k))
-
   rows-apart : Apart ↔ None Shared 128
   rows-apart = (
     λ h r w.
         let k = roleByte r in
         let j = roleBit r in
         let place : 8 * k + j + 1 ≡ r = omega arith in
-        rw place at (sym (byte-shares k j (omega arith) (omega arith)) ∙ byte-apart k .0 (h k (omega arith)) j (omega arith)),
-    λ none k l. byte-apart k .1 (λ j m. byte-shares k j l m ∙ none (8 * k + j + 1) (omega arith)),
+        rw place at (sym (byte-shares k j (omega arith) (omega arith)) ∙ and-none _ _ (bytes (a + k)) (others (b + k)) .0 (h k (omega arith)) j (omega arith)),
+    λ none k l. and-none _ _ (bytes (a + k)) (others (b + k)) .1 (λ j m. byte-shares k j l m ∙ none (8 * k + j + 1) (omega arith)),
   )
 
   met : not (eqb (bitOr (Halves a b) (Halves (a + 8) (b + 8))) 0) ≡ some 128 Shared
