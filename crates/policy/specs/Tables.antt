@@ -176,6 +176,7 @@ withoutLoops t r q = related t 0 r q && not (eqb q r)
 abbrev pub upTo : List ℕ → ℕ → ℕ → ℕ
 upTo xs at most = min (word xs at) most
 
+-- those of the roles and of the cards
 abbrev pub rolesUpTo : List ℕ → ℕ
 rolesUpTo xs = upTo xs roleCountAt 128
 
@@ -188,7 +189,7 @@ isState xs = leb stateSize (length xs)
 
 -- ---- what a list of bytes tells of its roles and cards; what is too short for a state has none
 
--- the count at `at`, or `most`
+-- the count at `at`, or `most` where it is higher
 abbrev pub countIn : List ℕ → ℕ → ℕ → ℕ
 countIn xs at most = cond (isState xs) (upTo xs at most) 0
 

@@ -56,7 +56,7 @@ untrue a h = not-eq-not .0 h
 pub both : {a : Bool} → a ≡ true → a ≡ false → ⊥
 both p q = true≢false (sym p ∙ q)
 
--- a test comes out b exactly where what its other outcome tells does not hold
+-- where P is what it means that a test comes out `not b`, its coming out b means that P does not hold
 pub other-iff : (b : Bool) {a : Bool} {P : Type 0} → (a ≡ not b) ↔ P → (a ≡ b) ↔ (P → ⊥)
 other-iff b i = Iff·trans (Iff·symm not-eq-not) (Iff·not i)
 
