@@ -7,7 +7,7 @@ use Rattle.monitor.proofs.state.user_at.Tie as tie
 
 returns : tie.Need-returns
 unfolding userAt
-returns c = (rw (← c .before .place-at .ensures) cc, omega arith, omega arith)
+returns c = (rw (c .byte .ensures, c .before .place-at .ensures), omega arith, omega arith)
 
 pub user-at-spec : {M : Type 1} → statement M
 user-at-spec =

@@ -6,7 +6,10 @@ use Rattle.rolefile.proofs.check.numbers_fit.Tie as tie
 
 returns : tie.Need-returns
 unfolding ranged
-returns c = cc
+returns c =
+    let two = c .before in
+    let one = two .before .before in
+    rw (c .among3 .ensures, two .among2 .ensures, two .before .second-limit .ensures, one .among .ensures, one .before .first-limit .ensures)
 
 pub numbers-fit-spec : {M : Type 1} → statement M
 numbers-fit-spec =

@@ -1,4 +1,5 @@
 -- The five columns, one after the other.
+use mathlib.Core.Path.{_∙_}
 use borrow.Author.Needs.{needs}
 use Rattle.rolefile.specs.Field.{columns}
 use Rattle.rolefile.proofs.read.field.Statement.{statement}
@@ -6,7 +7,12 @@ use Rattle.rolefile.proofs.read.field.Tie as tie
 
 returns : tie.Need-returns
 unfolding columns
-returns c = cc
+returns c =
+    let three = c .before .before in
+    let two = three .before .before in
+    let one = two .before .before in
+    let first = one .before .before in
+    c .column4 .ensures ∙ rw (three .column3 .ensures, two .column2 .ensures, one .column .ensures, first .first-digit .ensures)
 
 pub field-spec : {M : Type 1} → statement M
 field-spec =

@@ -14,7 +14,12 @@ returns c = c .no-line .ensures ∙ past-end (now (c .before .before .before .ar
 
 returns-2 : tie.Need-returns-2
 unfolding lineAt
-returns-2 c = cc
+returns-2 c =
+    let l = c .before .before in
+    let s = l .before .before in
+    let r = s .before in
+    let q = r .before in
+    c .line-of .ensures ∙ rw (l .letter .ensures, s .field4 .ensures, r .field3 .ensures, q .field2 .ensures, q .before .field .ensures)
 
 pub first-line-spec : {M : Type 1} → statement M
 first-line-spec =
