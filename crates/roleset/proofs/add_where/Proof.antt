@@ -1,13 +1,16 @@
 -- By cases.
-use mathlib.Core.Path.{sym}
-use mathlib.Core.Bool.{or-false}
+use mathlib.Core.Path.{_≡_, sym}
+use mathlib.Core.Bool.{true, or-false}
 use borrow.Author.Needs.{needs}
 use Rattle.roleset.proofs.Rows.{placed-as, unwritten}
 use Rattle.roleset.proofs.add_where.Statement.{statement}
 use Rattle.roleset.proofs.add_where.Tie as tie
 
 returns : tie.Need-returns
-returns c = placed-as (λ q. rw (c .before .before .before .before .if1 .taken)) (c .before .before .add .ensures)
+returns c =
+    let branch = c .before .before .before .before in
+    let wanted : branch .before .before .args .on ≡ true = branch .if1 .taken in
+    placed-as (λ q. rw wanted) (c .before .before .add .ensures)
 
 returns-2 : tie.Need-returns-2
 returns-2 c = unwritten (λ l q. rw (c .if1 .left) (sym (or-false _)))
