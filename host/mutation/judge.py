@@ -20,7 +20,7 @@ WORK = ROOT / "target" / "mutation"
 RLIBS = ROOT / "target" / "rlib"
 BUILT = "host/checker/target/release"
 
-# Where the prover refuses, the kind is that of the first error: `fact` or `unfit`.
+# Where the prover refuses, the kind is that of the first error: `fact`, `step` or `unfit`.
 Outcome = namedtuple("Outcome", "result place kind", defaults=["", ""])
 
 # How the checker says that a proof does not fit the function's shape any more: a need, a field or an argument
@@ -32,6 +32,13 @@ UNFIT = re.compile(
     r"|this pattern needs a function"
     r"|this λ is checked against `[^`]*`, which is not a function"
     r"|on the face `κs")
+
+# How it says that a step of a proof does not apply or gives up, which leaves open whether the fact holds.
+STEP = re.compile(
+    r"no occurrence of the path's"
+    r"|(?:met|stopped at) a bound of its own"
+    r"|Not every way was tried|It stopped (?:after|when)"
+    r"|step limit")
 
 # How it says that something is left unchecked because of an earlier error.
 CONSEQUENCE = "was not admitted"
@@ -103,14 +110,16 @@ def first_error(said, crate):
 
 
 def kind_of(said, operator):
-    """What the first error is at: a fact that does not hold, or a place where the proof does not fit."""
+    """What the first error is at: a fact that does not hold, a step that does not apply, or a place that does not fit."""
     found = errors(said)
     if not found:
         return "fact" if re.search(r"^fn \S+: no proof: expected .*; `search` does not close ", said, re.M) else "unfit"
     place, _, words = found[0].partition(": error: ")
     if "/proofs/" not in place or UNFIT.search(words):
         return "unfit"
-    return "unfit" if operator in FEWER and re.match(r"`[^`]*-spec`", words) else "fact"
+    if operator in FEWER and re.match(r"`[^`]*-spec`", words):
+        return "unfit"
+    return "step" if STEP.search(words) else "fact"
 
 
 def outcome(crate, more):
