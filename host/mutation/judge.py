@@ -35,7 +35,7 @@ UNFIT = re.compile(
 
 # How it says that a step of a proof does not apply or gives up, which leaves open whether the fact holds.
 STEP = re.compile(
-    r"no occurrence of the path's"
+    r"`rw`: no (?:occurrence of the path's|part of the goal)"
     r"|(?:met|stopped at) a bound of its own"
     r"|Not every way was tried|It stopped (?:after|when)"
     r"|step limit")

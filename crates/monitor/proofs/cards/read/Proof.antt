@@ -1,10 +1,11 @@
 -- By its number, and where that is 0 the part lies in the store.
-use mathlib.Core.Path.{refl, sym, _∙_}
+use mathlib.Core.Path.{refl, sym, ap, _∙_}
 use native.Mathlib.Nat.{add-sub-cancel-left}
 use native.Mathlib.Omega.{arith}
-use lib.ListN.{length}
+use lib.ListN.{length, take, drop}
 use borrow.Author.Needs.{needs}
-use Rattle.monitor.proofs.Answers.{Fit, part-fits, outcome}
+use Rattle.monitor.specs.Calls.{partAt}
+use Rattle.monitor.proofs.Answers.{Fit, part-fits, left, outcome}
 use Rattle.monitor.proofs.cards.read.Statement.{statement}
 use Rattle.monitor.proofs.cards.read.Tie as tie
 
@@ -12,7 +13,11 @@ fits : (c : tie.Then1) → let a = c .before .before .before .before .args in Fi
 fits c = part-fits _ _ _ _ _ _ _ (sym (c .before .read-number .ensures) ∙ c .if1 .taken)
 
 returns : tie.Need-returns
-returns c = record { bytes = rw add-sub-cancel-left (search outcome); block = refl; start = search outcome }
+returns c =
+    let a = c .before .before .before .before .before .args in
+    let at = partAt (a .card) (a .offset) in
+    let cut = ap (λ k. take k (drop at (a .store .now))) (add-sub-cancel-left at (a .n)) in
+    record { bytes = left _ _ _ (c .before .before .read-number .ensures) (c .before .if1 .taken) cut; block = refl; start = search outcome }
 
 returns-2 : tie.Need-returns-2
 returns-2 c = record { bytes = search outcome; block = refl; start = search outcome }

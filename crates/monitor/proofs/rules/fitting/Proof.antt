@@ -1,20 +1,25 @@
 -- By the two levels that it reads.
+use mathlib.Core.Path.{_≡_, _∙_}
 use borrow.Author.Needs.{needs}
+use denote.Ref.{now}
 use Rattle.search.proofs.Truth.{passed, failed}
+use Rattle.policy.specs.Tables.{byteOf, passesIn, rLevelsAt, wLevelsAt}
 use Rattle.monitor.specs.Session.{fitting}
 use Rattle.monitor.proofs.rules.fitting.Statement.{statement}
 use Rattle.monitor.proofs.rules.fitting.Tie as tie
 
+first : (c : tie.After-passes) → let a = c .before .before .before .args in let reads = byteOf (now (a .s)) rLevelsAt (a .role) in c .passes .result ≡ passesIn (now (a .s)) reads (a .label) reads
+first c = c .passes .ensures ∙ rw (c .before .byte-of .ensures .0)
+
 returns : tie.Need-returns
 unfolding fitting
-returns c = rw (← c .before .before .byte-of .ensures .0, failed (c .before .passes .ensures) (c .if1 .taken))
+returns c = rw (failed (first (c .before)) (c .if1 .taken))
 
 returns-2 : tie.Need-returns-2
 unfolding fitting
 returns-2 c =
-    let first = c .before .before in
-    rw (← first .before .before .byte-of .ensures .0, passed (first .before .passes .ensures) (first .if1 .left), ← c .before .byte-of2 .ensures .0)
-    (c .passes2 .ensures)
+    let branch = c .before .before in
+    rw (passed (first (branch .before)) (branch .if1 .left)) (c .passes2 .ensures ∙ rw (c .before .byte-of2 .ensures .0))
 
 pub fitting-spec : {M : Type 1} → statement M
 fitting-spec =

@@ -1,4 +1,5 @@
 -- By the two rows that meet.
+use mathlib.Core.Path.{_∙_}
 use borrow.Author.Needs.{needs}
 use Rattle.monitor.specs.Session.{gives}
 use Rattle.monitor.proofs.rules.gives.Statement.{statement}
@@ -6,7 +7,7 @@ use Rattle.monitor.proofs.rules.gives.Tie as tie
 
 returns : tie.Need-returns
 unfolding gives
-returns c = rw (← c .before .held-at .ensures) (c .meet .ensures)
+returns c = c .meet .ensures ∙ rw (c .before .held-at .ensures)
 
 pub gives-spec : {M : Type 1} → statement M
 gives-spec =

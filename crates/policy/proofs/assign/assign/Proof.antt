@@ -1,12 +1,23 @@
 -- The three tests in turn.
 use Prim.Native.Nat.{_+_, _-_}
+use mathlib.Core.Path.{_≡_}
 use native.Mathlib.Omega.{arith}
 use borrow.Author.Needs.{needs}
 use borrow.Author.Tests.{eq-eqb, ne-eqb}
+use denote.Ref.{now}
 use Rattle.search.proofs.Truth.{passed, failed}
-use Rattle.policy.specs.Tables.{assignByTables}
+use Rattle.policy.specs.Tables.{byteOf, passesIn, clearancesAt, rLevelsAt, wLevelsAt, assignByTables}
 use Rattle.policy.proofs.assign.assign.Statement.{statement}
 use Rattle.policy.proofs.assign.assign.Tie as tie
+
+-- what the two tests of levels find
+reading : (c : tie.After-passes) → let a = c .before .before .before .before .before .before .args in let reads = byteOf (now (a .s)) rLevelsAt (a .r) in
+    c .passes .result ≡ passesIn (now (a .s)) reads (byteOf (now (a .s)) clearancesAt (a .u)) reads
+reading c = c .passes .ensures
+
+writing : (c : tie.After-passes2) → let a = c .before .before .before .before .before .before .before .before .args in let writes = byteOf (now (a .s)) wLevelsAt (a .r) in
+    c .passes2 .result ≡ passesIn (now (a .s)) writes writes (byteOf (now (a .s)) clearancesAt (a .u))
+writing c = c .passes2 .ensures
 
 returns : tie.Need-returns
 unfolding assignByTables
@@ -16,7 +27,7 @@ returns-2 : tie.Need-returns-2
 unfolding assignByTables
 returns-2 c =
     let d = c .before .before in
-    rw (ne-eqb _ _ (d .before .if1 .left), failed (d .passes .ensures) (c .before .if2 .taken)) (c .refused2 .ensures)
+    rw (ne-eqb _ _ (d .before .if1 .left), failed (reading d) (c .before .if2 .taken)) (c .refused2 .ensures)
 
 returns-3 : tie.Need-returns-3
 unfolding assignByTables
@@ -25,8 +36,8 @@ returns-3 c =
     let d = e .before .before in
     rw (
       ne-eqb _ _ (d .before .if1 .left),
-      passed (d .passes .ensures) (e .before .if2 .left),
-      failed (e .passes2 .ensures) (c .before .if3 .taken),
+      passed (reading d) (e .before .if2 .left),
+      failed (writing e) (c .before .if3 .taken),
     ) (c .refused3 .ensures)
 
 returns-4 : tie.Need-returns-4
@@ -36,8 +47,8 @@ returns-4 c =
     let d = e .before .before in
     rw (
       ne-eqb _ _ (d .before .if1 .left),
-      passed (d .passes .ensures) (e .before .if2 .left),
-      passed (e .passes2 .ensures) (c .before .if3 .left),
+      passed (reading d) (e .before .if2 .left),
+      passed (writing e) (c .before .if3 .left),
     ) (c .nothing .ensures)
 
 pub assign-spec : {M : Type 1} → statement M

@@ -1,16 +1,23 @@
 -- The circle is looked for first, and then the pair.
+use Prim.Native.Nat.{min}
+use mathlib.Core.Path.{_≡_}
 use borrow.Author.Needs.{needs}
 use borrow.Author.Tests.{ne-eqb}
+use Rattle.order.specs.Closure.{loop}
+use Rattle.order.specs.Table.{mark}
 use Rattle.policy.specs.Verdict.{orderVerdict}
 use Rattle.policy.proofs.Dominance.{pair-verdict}
 use Rattle.policy.proofs.build.check_labels.Statement.{statement}
 use Rattle.policy.proofs.build.check_labels.Tie as tie
 
+lowest : (c : tie.After-lowest-loop) → let a = c .before .args in c .lowest-loop .result ≡ loop (min (a .n) 32) (mark (a .paths))
+lowest c = c .lowest-loop .ensures
+
 returns : tie.Need-returns
 unfolding orderVerdict
 returns c =
-    let a = c .before .before .lowest-loop in
-    rw (← (a .ensures), ne-eqb (a .result) 0 (c .before .if1 .taken)) (c .refused .ensures)
+    let a = c .before .before in
+    rw (← lowest a, ne-eqb (a .lowest-loop .result) 0 (c .before .if1 .taken)) (c .refused .ensures)
 
 returns-2 : tie.Need-returns-2
 unfolding orderVerdict
@@ -18,7 +25,7 @@ returns-2 c =
     let d = c .before .before .before in
     let pair = d .first-pair in
     rw (
-      ← (d .before .before .lowest-loop .ensures),
+      ← lowest (d .before .before),
       d .before .if1 .left,
       pair-verdict _ _ (pair .result .lower) (pair .result .higher) (pair .ensures),
       ne-eqb (pair .result .lower) 0 (c .before .if2 .taken),
@@ -30,7 +37,7 @@ returns-3 c =
     let d = c .before .before .before in
     let pair = d .first-pair in
     rw (
-      ← (d .before .before .lowest-loop .ensures),
+      ← lowest (d .before .before),
       d .before .if1 .left,
       pair-verdict _ _ (pair .result .lower) (pair .result .higher) (pair .ensures),
       c .before .if2 .left,

@@ -1,11 +1,19 @@
 -- By the tests of the numbers before and after.
-use mathlib.Core.Path.{sym, _∙_}
+use Prim.Native.Nat.{_+_}
+use mathlib.Core.Path.{_≡_, sym, _∙_}
 use borrow.Author.Needs.{needs}
+use denote.Ref.{now}
 use Rattle.search.proofs.Truth.{passed, failed}
+use Rattle.roleset.specs.Row.{member}
 use Rattle.text.proofs.Text.{puts-nothing}
-use Rattle.report.specs.Lists.{piece}
+use Rattle.report.specs.Lists.{listed, piece}
 use Rattle.report.proofs.list.piece.Statement.{statement}
 use Rattle.report.proofs.list.piece.Tie as tie
+
+-- whether the number after it stands on the list
+next : (c : tie.After-stands3) → let a = c .before .before .before .before .before .before .before .args in
+    c .stands3 .result ≡ listed (now (a .s)) (a .list) (a .user) (member (a .roles) 0) (a .k + 1)
+next c = c .stands3 .ensures
 
 returns : tie.Need-returns
 unfolding piece
@@ -23,7 +31,7 @@ unfolding piece
 returns-3 c =
     let two = c .before .before in
     let one = two .before .before in
-    rw (passed (one .before .stands .ensures) (one .if1 .left), passed (two .before .stands2 .ensures) (two .if2 .left), sym (c .before .stands3 .ensures) ∙ c .if3 .taken)
+    rw (passed (one .before .stands .ensures) (one .if1 .left), passed (two .before .stands2 .ensures) (two .if2 .left), sym (next (c .before)) ∙ c .if3 .taken)
     (puts-nothing _ _ (search needs))
 
 returns-4 : tie.Need-returns-4
@@ -32,7 +40,7 @@ returns-4 c =
     let three = c .before .before .before .before .before in
     let two = three .before .before in
     let one = two .before .before in
-    rw (passed (one .before .stands .ensures) (one .if1 .left), passed (two .before .stands2 .ensures) (two .if2 .left), sym (three .before .stands3 .ensures) ∙ three .if3 .left)
+    rw (passed (one .before .stands .ensures) (one .if1 .left), passed (two .before .stands2 .ensures) (two .if2 .left), sym (next (three .before)) ∙ three .if3 .left)
     (c .before .before .number-after2 .ensures .0 (search needs))
 
 pub piece-spec : {M : Type 1} → statement M
