@@ -1,7 +1,10 @@
 -- The texts one after the other.
 use borrow.Author.Needs.{needs}
+use denote.Ref.{now}
+use Rattle.order.specs.Table.{related}
+use Rattle.rolefile.specs.Ascii.{ascii}
 use Rattle.text.proofs.Text.{puts-then}
-use Rattle.graph.specs.Graph.{rolesText}
+use Rattle.graph.specs.Graph.{nodes, rolesText}
 use Rattle.graph.proofs.roles_by.Statement.{statement}
 use Rattle.graph.proofs.roles_by.Tie as tie
 
@@ -14,7 +17,9 @@ returns c =
     let lined = parted .before .before .before .before .before in
     let noded = lined .before .before .before .before .before in
     let begun = noded .before .before .before .before .before in
-    puts-then (begun .put .ensures) (puts-then (noded .nodes .ensures) (puts-then (lined .order-edges .ensures)
+    let a = begun .before .before .before .before .before .before .before .before .args in
+    let drawn = nodes (ascii "r") (a .n) (λ r. related (now (a .leads)) 0 r r) in
+    puts-then (begun .put .ensures) (puts-then {a = drawn} (noded .nodes .ensures) (puts-then (lined .order-edges .ensures)
     (puts-then (parted .put2 .ensures) (puts-then (flowed .flow-edges .ensures) (ended .put3 .ensures)))))
 
 pub roles-by-spec : {M : Type 1} → statement M

@@ -10,6 +10,7 @@ use Rattle.policy.proofs.Dominance.{pair-verdict}
 use Rattle.policy.proofs.build.check_labels.Statement.{statement}
 use Rattle.policy.proofs.build.check_labels.Tie as tie
 
+-- the lowest label on a circle, or 0
 lowest : (c : tie.After-lowest-loop) → let a = c .before .args in c .lowest-loop .result ≡ loop (min (a .n) 32) (mark (a .paths))
 lowest c = c .lowest-loop .ensures
 

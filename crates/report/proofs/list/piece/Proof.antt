@@ -1,5 +1,5 @@
 -- By the tests of the numbers before and after.
-use Prim.Native.Nat.{_+_}
+use Prim.Native.Nat.{_+_, _-_}
 use mathlib.Core.Path.{_≡_, sym, _∙_}
 use borrow.Author.Needs.{needs}
 use denote.Ref.{now}
@@ -10,28 +10,35 @@ use Rattle.report.specs.Lists.{listed, piece}
 use Rattle.report.proofs.list.piece.Statement.{statement}
 use Rattle.report.proofs.list.piece.Tie as tie
 
--- whether the number after it stands on the list
-next : (c : tie.After-stands3) → let a = c .before .before .before .before .before .before .before .args in
+-- what the three tests find: whether the number stands on the list, the one before it, and the one after it
+here : (c : tie.After-stands) → let a = c .before .before .before .args in c .stands .result ≡ listed (now (a .s)) (a .list) (a .user) (member (a .roles) 0) (a .k)
+here c = c .stands .ensures
+
+earlier : (c : tie.After-stands2) → let a = c .before .before .before .before .before .args in
+    c .stands2 .result ≡ listed (now (a .s)) (a .list) (a .user) (member (a .roles) 0) (a .k - 1)
+earlier c = c .stands2 .ensures
+
+later : (c : tie.After-stands3) → let a = c .before .before .before .before .before .before .before .args in
     c .stands3 .result ≡ listed (now (a .s)) (a .list) (a .user) (member (a .roles) 0) (a .k + 1)
-next c = c .stands3 .ensures
+later c = c .stands3 .ensures
 
 returns : tie.Need-returns
 unfolding piece
-returns c = rw (failed (c .before .stands .ensures) (c .if1 .taken)) (puts-nothing _ _ (search needs))
+returns c = rw (failed (here (c .before)) (c .if1 .taken)) (puts-nothing _ _ (search needs))
 
 returns-2 : tie.Need-returns-2
 unfolding piece
 returns-2 c =
     let two = c .before .before .before .before .before in
     let one = two .before .before in
-    rw (passed (one .before .stands .ensures) (one .if1 .left), failed (two .before .stands2 .ensures) (two .if2 .taken)) (c .before .before .number-after .ensures .0 (search needs))
+    rw (passed (here (one .before)) (one .if1 .left), failed (earlier (two .before)) (two .if2 .taken)) (c .before .before .number-after .ensures .0 (search needs))
 
 returns-3 : tie.Need-returns-3
 unfolding piece
 returns-3 c =
     let two = c .before .before in
     let one = two .before .before in
-    rw (passed (one .before .stands .ensures) (one .if1 .left), passed (two .before .stands2 .ensures) (two .if2 .left), sym (next (c .before)) ∙ c .if3 .taken)
+    rw (passed (here (one .before)) (one .if1 .left), passed (earlier (two .before)) (two .if2 .left), sym (later (c .before)) ∙ c .if3 .taken)
     (puts-nothing _ _ (search needs))
 
 returns-4 : tie.Need-returns-4
@@ -40,7 +47,7 @@ returns-4 c =
     let three = c .before .before .before .before .before in
     let two = three .before .before in
     let one = two .before .before in
-    rw (passed (one .before .stands .ensures) (one .if1 .left), passed (two .before .stands2 .ensures) (two .if2 .left), sym (next (three .before)) ∙ three .if3 .left)
+    rw (passed (here (one .before)) (one .if1 .left), passed (earlier (two .before)) (two .if2 .left), sym (later (three .before)) ∙ three .if3 .left)
     (c .before .before .number-after2 .ensures .0 (search needs))
 
 pub piece-spec : {M : Type 1} → statement M
