@@ -13,14 +13,15 @@ use Rattle.search.specs.Search.{Among}
 use Rattle.search.proofs.Truth.{among-iff, either, either-by}
 use Rattle.roleset.specs.Row.{rowOf, bit, member, roleByte, roleBit}
 use Rattle.roleset.proofs.Bits.{bit-zero, bit-on}
-use Rattle.order.specs.Closure.{Agree}
+use Rattle.order.specs.Closure.{Relation, Agree}
 use Rattle.order.specs.Table.{related}
 use Rattle.rolefile.specs.Form.{fine}
-use Rattle.rolefile.specs.Said.{labels, roles, users, cards, clearance, cardLabel, assigned}
-use Rattle.policy.specs.Policy.{dominates, senior, may, rLevel, wLevel, levelNumber}
+use Rattle.rolefile.specs.Said.{assigned}
+use Rattle.policy.specs.Settings.{Settings, settings}
+use Rattle.policy.specs.Policy.{may, rLevel, wLevel, levelNumber}
 use Rattle.policy.specs.Tables.{word, byteOf, dominanceAt, clearancesAt, cardLabelsAt, rLevelsAt, wLevelsAt, seniorsAt, assignedAt, readersAt, writersAt, markAt}
 use Rattle.policy.specs.Accepted.{Accepted}
-use Rattle.policy.specs.Image.{Dominating, Unused, Describes, Image, loadVerdict}
+use Rattle.policy.specs.Image.{Dominating, Unused, Assigning, Describes, Image, loadVerdict}
 use Rattle.policy.proofs.Outcomes.{accepted-fine}
 use Rattle.monitor.specs.Runs.{Start}
 
@@ -87,43 +88,43 @@ module _ (at size : ℕ) (g rest : ℕ → ℕ) (i : ℕ) where
 
 -- ---- the state of a file
 
-module _ (f : List ℕ) where
+module _ (σ : Settings) (α : Relation) where
   -- four counts, two bytes each, the lower first
   counts : ℕ → ℕ
   counts i =
-      cond (eqb i 0) (labels f % 256) (cond (eqb i 1) (labels f / 256) (cond (eqb i 2) (roles f % 256) (cond (eqb i 3) (roles f / 256)
-      (cond (eqb i 4) (users f % 256) (cond (eqb i 5) (users f / 256) (cond (eqb i 6) (cards f % 256) (cards f / 256)))))))
+      cond (eqb i 0) (σ .labels % 256) (cond (eqb i 1) (σ .labels / 256) (cond (eqb i 2) (σ .roles % 256) (cond (eqb i 3) (σ .roles / 256)
+      (cond (eqb i 4) (σ .users % 256) (cond (eqb i 5) (σ .users / 256) (cond (eqb i 6) (σ .cards % 256) (σ .cards / 256)))))))
 
   -- a table of role sets: row x holds r where `said x r`
   rows : (ℕ → ℕ → Bool) → ℕ → ℕ
   rows said i = packed 8 (λ j. said (i / 16 + 1) (8 * (i % 16) + j + 1))
 
   marks : ℕ → ℕ
-  marks i = cond (leb (i / 32 + 1) (labels f) && dominates f (i / 32 + 1) (i % 32 + 1)) 1 0
+  marks i = cond (leb (i / 32 + 1) (σ .labels) && σ .dominates (i / 32 + 1) (i % 32 + 1)) 1 0
 
   abbrev from-writers : ℕ → ℕ
-  from-writers = table writersAt 8192 (rows (λ o r. may f 2 r o)) (λ i. 0)
+  from-writers = table writersAt 8192 (rows (λ o r. may σ 2 r o)) (λ i. 0)
 
   abbrev from-readers : ℕ → ℕ
-  from-readers = table readersAt 8192 (rows (λ o r. may f 1 r o)) from-writers
+  from-readers = table readersAt 8192 (rows (λ o r. may σ 1 r o)) from-writers
 
   abbrev from-assigned : ℕ → ℕ
-  from-assigned = table assignedAt 4096 (rows (λ u r. assigned f u r)) from-readers
+  from-assigned = table assignedAt 4096 (rows α) from-readers
 
   abbrev from-seniors : ℕ → ℕ
-  from-seniors = table seniorsAt 2048 (rows (λ q r. leb q (roles f) && senior f r q)) from-assigned
+  from-seniors = table seniorsAt 2048 (rows (λ q r. leb q (σ .roles) && σ .senior r q)) from-assigned
 
   abbrev from-w-levels : ℕ → ℕ
-  from-w-levels = table wLevelsAt 128 (λ i. levelNumber (wLevel f (i + 1))) from-seniors
+  from-w-levels = table wLevelsAt 128 (λ i. levelNumber (wLevel σ (i + 1))) from-seniors
 
   abbrev from-r-levels : ℕ → ℕ
-  from-r-levels = table rLevelsAt 128 (λ i. levelNumber (rLevel f (i + 1))) from-w-levels
+  from-r-levels = table rLevelsAt 128 (λ i. levelNumber (rLevel σ (i + 1))) from-w-levels
 
   abbrev from-card-labels : ℕ → ℕ
-  from-card-labels = table cardLabelsAt 512 (λ i. cardLabel f (i + 1)) from-r-levels
+  from-card-labels = table cardLabelsAt 512 (λ i. σ .cardLabel (i + 1)) from-r-levels
 
   abbrev from-clearances : ℕ → ℕ
-  from-clearances = table clearancesAt 256 (λ i. clearance f (i + 1)) from-card-labels
+  from-clearances = table clearancesAt 256 (λ i. σ .clearance (i + 1)) from-card-labels
 
   abbrev from-dominance : ℕ → ℕ
   from-dominance = table dominanceAt 1024 marks from-clearances
@@ -218,52 +219,54 @@ module _ (f : List ℕ) where
       let i = start + (x - 1) in
       at i (omega arith) ∙ told i (omega arith) (omega arith) ∙ ap said (let z : i - start + 1 ≡ x = omega arith in z)
 
-  dominance-byte : Dominating f state
+  dominance-byte : Dominating σ state
   unfolding marks
   dominance-byte a b v w =
       let i = markAt a b in
       let row : (i - dominanceAt) / 32 + 1 ≡ a = omega arith in
       let column : (i - dominanceAt) % 32 + 1 ≡ b = omega arith in
       at i (omega arith) ∙ past-counts i (omega arith) ∙ table-in dominanceAt 1024 marks from-clearances i (omega arith) (omega arith)
-      ∙ ap (λ (y : ℕ). cond {A = ℕ} (leb y (labels f) && dominates f y ((i - dominanceAt) % 32 + 1)) 1 0) row
-      ∙ ap (λ (y : ℕ). cond {A = ℕ} (leb a (labels f) && dominates f a y) 1 0) column
+      ∙ ap (λ (y : ℕ). cond {A = ℕ} (leb y (σ .labels) && σ .dominates y ((i - dominanceAt) % 32 + 1)) 1 0) row
+      ∙ ap (λ (y : ℕ). cond {A = ℕ} (leb a (σ .labels) && σ .dominates a y) 1 0) column
 
-  describes : Describes f state
+  describes : Describes σ state
   unfolding counts
   describes = record {
     counted = record {
-      labels = word-of 0 (labels f) (omega arith) refl refl;
-      roles = word-of 2 (roles f) (omega arith) refl refl;
-      users = word-of 4 (users f) (omega arith) refl refl;
-      cards = word-of 6 (cards f) (omega arith) refl refl;
+      labels = word-of 0 (σ .labels) (omega arith) refl refl;
+      roles = word-of 2 (σ .roles) (omega arith) refl refl;
+      users = word-of 4 (σ .users) (omega arith) refl refl;
+      cards = word-of 6 (σ .cards) (omega arith) refl refl;
     };
     labelled = record {
-      users = byte-of clearancesAt 256 (clearance f) (omega arith)
+      users = byte-of clearancesAt 256 (σ .clearance) (omega arith)
           (λ i l m. past-dominance i (omega arith) ∙ table-in clearancesAt 256 _ from-card-labels i l m);
-      cards = byte-of cardLabelsAt 512 (cardLabel f) (omega arith)
+      cards = byte-of cardLabelsAt 512 (σ .cardLabel) (omega arith)
           (λ i l m. past-clearances i (omega arith) ∙ table-in cardLabelsAt 512 _ from-r-levels i l m);
     };
     dominating = dominance-byte;
-    seniors = λ q r v w. member-row seniorsAt 128 (λ q r. leb q (roles f) && senior f r q) (omega arith)
+    seniors = λ q r v w. member-row seniorsAt 128 (λ q r. leb q (σ .roles) && σ .senior r q) (omega arith)
         (λ i l m. past-w-levels i (omega arith) ∙ table-in seniorsAt 2048 _ from-assigned i l (omega arith)) q r v w;
     permitting = record {
-      readers = member-row readersAt 512 (λ o r. may f 1 r o) (omega arith)
+      readers = member-row readersAt 512 (λ o r. may σ 1 r o) (omega arith)
           (λ i l m. past-assigned i (omega arith) ∙ table-in readersAt 8192 _ from-writers i l (omega arith));
-      writers = member-row writersAt 512 (λ o r. may f 2 r o) (omega arith)
+      writers = member-row writersAt 512 (λ o r. may σ 2 r o) (omega arith)
           (λ i l m. past-readers i (omega arith) ∙ table-in writersAt 8192 _ (λ k. 0) i l (omega arith));
     };
     levelled = record {
-      reads = byte-of rLevelsAt 128 (λ r. levelNumber (rLevel f r)) (omega arith)
+      reads = byte-of rLevelsAt 128 (λ r. levelNumber (rLevel σ r)) (omega arith)
           (λ i l m. past-card-labels i (omega arith) ∙ table-in rLevelsAt 128 _ from-w-levels i l m);
-      writes = byte-of wLevelsAt 128 (λ r. levelNumber (wLevel f r)) (omega arith)
+      writes = byte-of wLevelsAt 128 (λ r. levelNumber (wLevel σ r)) (omega arith)
           (λ i l m. past-r-levels i (omega arith) ∙ table-in wLevelsAt 128 _ from-seniors i l m);
     };
-    assigning = member-row assignedAt 256 (λ u r. assigned f u r) (omega arith)
-        (λ i l m. past-seniors i (omega arith) ∙ table-in assignedAt 4096 _ from-readers i l (omega arith));
   }
 
-  image : Image f state
-  image = record { tables = describes; unused = λ i out l. at i l ∙ unused i out }
+  assigning : Assigning α state
+  assigning = member-row assignedAt 256 α (omega arith)
+      (λ i l m. past-seniors i (omega arith) ∙ table-in assignedAt 4096 _ from-readers i l (omega arith))
+
+  image : Image σ α state
+  image = record { tables = describes; assigning = assigning; unused = λ i out l. at i l ∙ unused i out }
 
   length-state : length state ≡ 65536
   unfolding state
@@ -275,13 +278,13 @@ start f accepted = record {
   before = zeros;
   enough = omega arith;
   verdict = fine;
-  state = state f;
+  state = state (settings f) (assigned f);
   load = record {
     answer = unfold loadVerdict in rw (accepted-fine f .1 accepted);
     refused = λ h. absurd (h refl);
-    done = λ e. image f;
-    rest = λ i l. List·getD-eq-default (state f) 0 {n = i} (rw (length-state f) l) ∙ sym (List·getD-eq-default zeros 0 l);
-    long = length-state f;
+    done = λ e. image (settings f) (assigned f);
+    rest = λ i l. List·getD-eq-default (state (settings f) (assigned f)) 0 {n = i} (rw (length-state (settings f) (assigned f)) l) ∙ sym (List·getD-eq-default zeros 0 l);
+    long = length-state (settings f) (assigned f);
   };
 }
   where

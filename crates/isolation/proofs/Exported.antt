@@ -2,6 +2,7 @@
 use Prim.Native.Nat.{ℕ}
 use mathlib.Core.Path.{_≡_, ap, _∙_}
 use mathlib.Core.List.{List, [], _∷_}
+use Rattle.policy.specs.Settings.{Settings, settings}
 use Rattle.monitor.specs.Runs.{Call, opens, closes, takes, drops, reads, writes, Memory, number, partOf, part, stateAfter, storeOf, storeAfter, after, run}
 use Rattle.isolation.specs.TwoRuns.{Answer, answer, Open, noneOpen, track, Shown, shown}
 use Rattle.isolation.specs.Exported.{Made, Makes, IsolatedExports}
@@ -22,17 +23,17 @@ made-once m (drops p r) a n (h, s, b) = answered m n (drops p r) a (h .number) b
 made-once m (reads p o k x) a n (h, s, b) = answered m n (reads p o k x) a h b (ap (λ (y : Memory). y .state) s) (ap (λ (y : Memory). y .store) s)
 made-once m (writes p o k bytes) a n (h, s, b) = answered m n (writes p o k bytes) a (h .number) b s (h .store)
 
-makes-run : (f : List ℕ) (L : ℕ) (cs : List Call) (t : Open) (m e : Memory) (xs : List Shown) → Makes f L t m cs xs e → (xs ≡ shown f L t m cs) × (e ≡ run m cs)
+makes-run : (σ : Settings) (L : ℕ) (cs : List Call) (t : Open) (m e : Memory) (xs : List Shown) → Makes σ L t m cs xs e → (xs ≡ shown σ L t m cs) × (e ≡ run m cs)
 unfolding shown run
-makes-run f L [] t m e xs h = h
-makes-run f L (c ∷ cs) t m e xs (a, n, ys, made, rest, shows) =
+makes-run σ L [] t m e xs h = h
+makes-run σ L (c ∷ cs) t m e xs (a, n, ys, made, rest, shows) =
     let (x, y) = made-once m c a n made in
-    let (z, w) = makes-run f L cs (track f t c) n e ys rest in
+    let (z, w) = makes-run σ L cs (track σ t c) n e ys rest in
     (shows ∙ rw (z, x, y), w ∙ rw y)
 
 pub exported : (f : List ℕ) → IsolatedExports f
 exported f accepted a b L label s₁ s₂ long same cs₁ cs₂ same-shared xs₁ xs₂ e₁ e₂ makes₁ makes₂ =
     let claim = isolation f accepted a b L label s₁ s₂ long same cs₁ cs₂ same-shared in
-    let (x₁, y₁) = makes-run f L cs₁ noneOpen _ e₁ xs₁ makes₁ in
-    let (x₂, y₂) = makes-run f L cs₂ noneOpen _ e₂ xs₂ makes₂ in
+    let (x₁, y₁) = makes-run (settings f) L cs₁ noneOpen _ e₁ xs₁ makes₁ in
+    let (x₂, y₂) = makes-run (settings f) L cs₂ noneOpen _ e₂ xs₂ makes₂ in
     rw (x₁, x₂, y₁, y₂) (record { answers = claim .answers; cards = claim .cards })

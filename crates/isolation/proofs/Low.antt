@@ -11,19 +11,18 @@ use lib.ListN.{length, getD, take, drop, length-drop}
 use lib.Seq.{length-take-le, getD-take, getD-drop, ext-getD}
 use Rattle.search.specs.Search.{Among}
 use Rattle.search.proofs.Truth.{untrue, both, other-iff}
-use Rattle.rolefile.specs.Said.{labels, cards, cardLabel}
-use Rattle.policy.specs.Policy.{dominates, may}
-use Rattle.policy.specs.Accepted.{Accepted}
-use Rattle.monitor.specs.Calls.{ifDone, written, partAt, writeNumber}
-use Rattle.monitor.specs.Runs.{Call, opens, closes, takes, drops, reads, writes, Memory, number, storeOf, storeAfter}
+use Rattle.policy.specs.Settings.{Settings}
+use Rattle.policy.specs.Policy.{may}
+use Rattle.policy.specs.Accepted.{Lawful}
+use Rattle.monitor.specs.Calls.{ifDone, written}
+use Rattle.monitor.specs.Runs.{Call, opens, closes, takes, drops, reads, writes}
 use Rattle.monitor.specs.Places.{isFree, put}
-use Rattle.monitor.specs.Rules.{Session, Sessions, sessionRule, fittingByFile, openRule, closeRule, takeRule, dropRule, partRule, rule, sessionOf, holding, without, next}
+use Rattle.monitor.specs.Rules.{Session, Sessions, sessionRule, fittingByFile, openRule, closeRule, takeRule, dropRule, partRule, rule, sessionOf, holding, without, sessionsAfter, Standing}
 use Rattle.monitor.proofs.Answers.{both-ways}
 use Rattle.monitor.proofs.Frames.{written-in, written-out}
-use Rattle.monitor.proofs.Wrote.{inside}
 use Rattle.monitor.proofs.Orderly.{Orderly, admitted, gives-iff, part-done}
 use Rattle.monitor.proofs.Places.{put-at}
-use Rattle.isolation.specs.TwoRuns.{Open, track, under, shared, SameCards}
+use Rattle.isolation.specs.TwoRuns.{Open, track, under, shared}
 use Rattle.isolation.proofs.Levels.{label-of-card, reads-below, writes-above}
 use Rattle.isolation.proofs.Tracking.{labelOf, Fits, free, placeOf, next-other, track-other, grants-iff}
 
@@ -34,18 +33,25 @@ session-const none = refl
 session-const (some s) = refl
 
 -- the session at each place under L is the same
-abbrev pub SameSessions : List ℕ → ℕ → Open → Sessions → Sessions → Type 0
-SameSessions f L t s₁ s₂ = (p : ℕ) → under f L (t p) ≡ true → s₁ p ≡ s₂ p
+abbrev pub SameSessions : Settings → ℕ → Open → Sessions → Sessions → Type 0
+SameSessions σ L t s₁ s₂ = (p : ℕ) → under σ L (t p) ≡ true → s₁ p ≡ s₂ p
 
-module _ (f : List ℕ) (L : ℕ) (t : Open) (s₁ s₂ : Sessions) (fits₁ : Fits t s₁) (fits₂ : Fits t s₂) (same : SameSessions f L t s₁ s₂) where
+module _ (σ : Settings) (L : ℕ) (t : Open) (n₁ n₂ : Standing) (staff : n₁ .assigned ≡ n₂ .assigned)
+    (fits₁ : Fits t (n₁ .sessions)) (fits₂ : Fits t (n₂ .sessions)) (same : SameSessions σ L t (n₁ .sessions) (n₂ .sessions)) where
+  abbrev s₁ : Sessions
+  s₁ = n₁ .sessions
+
+  abbrev s₂ : Sessions
+  s₂ = n₂ .sessions
+
   free-same : (p : ℕ) → isFree (s₁ p) ≡ isFree (s₂ p)
   free-same p = sym (free t s₁ fits₁ p) ∙ free t s₂ fits₂ p
 
-  pub same-number : (size : ℕ) (c : Call) → shared f L t c ≡ true → rule f size s₁ c ≡ rule f size s₂ c
+  pub same-number : (size : ℕ) (c : Call) → shared σ L t c ≡ true → rule σ size n₁ c ≡ rule σ size n₂ c
   unfolding rule shared openRule closeRule takeRule dropRule partRule
   same-number size (opens p u l) h = rw (free-same p)
   same-number size (closes p) h = rw (session-const (s₁ p), session-const (s₂ p), free-same p)
-  same-number size (takes p r) h = rw (same p h)
+  same-number size (takes p r) h = rw (staff, same p h)
   same-number size (drops p r) h = rw (same p h)
   same-number size (reads p o k n) h = rw (same p h)
   same-number size (writes p o k bytes) h = rw (same p h)
@@ -58,32 +64,32 @@ module _ (f : List ℕ) (L : ℕ) (t : Open) (s₁ s₂ : Sessions) (fits₁ : F
   changed-here p n change e =
       both-ways (λ a b. a p ≡ b p) n (put s₁ p _) s₁ (put s₂ p _) s₂ (λ z. put-at s₁ p _ p refl ∙ ap (Option·map change) e ∙ sym (put-at s₂ p _ p refl)) e
 
-  here : (c : Call) → shared f L t c ≡ true → under f L (track f t c (placeOf c)) ≡ true → next f s₁ c (placeOf c) ≡ next f s₂ c (placeOf c)
-  unfolding shared track next ifDone rule
-  here (opens p u l) h k = rw (same-number 0 (opens p u l) refl) (by (openRule f s₂ p u l) refl)
+  here : (c : Call) → shared σ L t c ≡ true → under σ L (track σ t c (placeOf c)) ≡ true → sessionsAfter σ n₁ c (placeOf c) ≡ sessionsAfter σ n₂ c (placeOf c)
+  unfolding shared track sessionsAfter ifDone rule
+  here (opens p u l) h k = rw (same-number 0 (opens p u l) refl) (by (openRule σ s₂ p u l) refl)
     where
-      by : (n : ℕ) → openRule f s₂ p u l ≡ n → ifDone n (put s₁ p (some (sessionOf u l))) s₁ p ≡ ifDone n (put s₂ p (some (sessionOf u l))) s₂ p
+      by : (n : ℕ) → openRule σ s₂ p u l ≡ n → ifDone n (put s₁ p (some (sessionOf u l))) s₁ p ≡ ifDone n (put s₂ p (some (sessionOf u l))) s₂ p
       by zero e = put-at s₁ p _ p refl ∙ sym (put-at s₂ p _ p refl)
       by (suc n) e =
           let z = same-number 0 (opens p u l) refl in
-          let refused = other-iff false (grants-iff f t s₁ fits₁ p u l) .1 (λ w. omega arith) in
+          let refused = other-iff false (grants-iff σ t s₁ fits₁ p u l) .1 (λ w. omega arith) in
           same p (rw refused at k)
   here (closes p) h k = absurd (false≢true (rw (put-at t p none p refl) at k))
-  here (takes p r) h k = rw (same-number 0 (takes p r) h) (changed-here p (takeRule f s₂ p r) (holding r) (same p h))
-  here (drops p r) h k = rw (same-number 0 (drops p r) h) (changed-here p (dropRule f s₂ p r) (without r) (same p h))
+  here (takes p r) h k = rw (same-number 0 (takes p r) h) (changed-here p (takeRule σ (n₂ .assigned) s₂ p r) (holding r) (same p h))
+  here (drops p r) h k = rw (same-number 0 (drops p r) h) (changed-here p (dropRule σ s₂ p r) (without r) (same p h))
   here (reads p o i n) h k = same p h
   here (writes p o i bytes) h k = same p h
 
-  pub next-same : (c : Call) → shared f L t c ≡ true → SameSessions f L (track f t c) (next f s₁ c) (next f s₂ c)
+  pub next-same : (c : Call) → shared σ L t c ≡ true → SameSessions σ L (track σ t c) (sessionsAfter σ n₁ c) (sessionsAfter σ n₂ c)
   next-same c h q k = elim (ℕ-discrete (placeOf c) q) [
     | yes e ↦ rw (← e) (here c h (rw (← e) at k))
-    | no n ↦ next-other f s₁ c q n ∙ same q (rw (track-other f t c q n) at k) ∙ sym (next-other f s₂ c q n)
+    | no n ↦ next-other σ (n₁ .assigned) s₁ c q n ∙ same q (rw (track-other σ t c q n) at k) ∙ sym (next-other σ (n₂ .assigned) s₂ c q n)
   ]
 
 -- ---- stores
 
 module _ (s t bytes : List ℕ) (at : ℕ) (fits-s : at + length bytes ≤ length s) (fits-t : at + length bytes ≤ length t) where
-  written-same : (j : ℕ) → getD s j 0 ≡ getD t j 0 → getD (written s at bytes) j 0 ≡ getD (written t at bytes) j 0
+  pub written-same : (j : ℕ) → getD s j 0 ≡ getD t j 0 → getD (written s at bytes) j 0 ≡ getD (written t at bytes) j 0
   written-same j e = elim (decLt j at) [
     | yes l ↦ outside (λ m. absurd (omega arith))
     | no l ↦ elim (decLt j (at + length bytes)) [
@@ -96,24 +102,6 @@ module _ (s t bytes : List ℕ) (at : ℕ) (fits-s : at + length bytes ≤ lengt
     where
       outside : (at ≤ j → at + length bytes ≤ j) → getD (written s at bytes) j 0 ≡ getD (written t at bytes) j 0
       outside out = written-out s at bytes fits-s j out ∙ e ∙ sym (written-out t at bytes fits-t j out)
-
--- the same call with the same number
-pub cards-after : (f : List ℕ) (L : ℕ) (m₁ m₂ : Memory) (c : Call) → number m₁ c ≡ number m₂ c → SameCards f L (m₁ .store) (m₂ .store)
-    → SameCards f L (storeAfter m₁ c) (storeAfter m₂ c)
-unfolding number storeOf
-cards-after f L m₁ m₂ (opens p u l) e h = h
-cards-after f L m₁ m₂ (closes p) e h = h
-cards-after f L m₁ m₂ (takes p r) e h = h
-cards-after f L m₁ m₂ (drops p r) e h = h
-cards-after f L m₁ m₂ (reads p o k n) e h = h
-cards-after f L m₁ m₂ (writes p o k bytes) e h =
-    let at = partAt o k in
-    rw e
-    (both-ways (SameCards f L) (writeNumber (m₂ .state) (m₂ .store) p o k bytes) (written (m₁ .store) at bytes) (m₁ .store) (written (m₂ .store) at bytes) (m₂ .store)
-    (λ z d i w u l.
-    written-same (m₁ .store) (m₂ .store) bytes at (inside (m₁ .state) (m₁ .store) p o k bytes (e ∙ z)) (inside (m₂ .state) (m₂ .store) p o k bytes z)
-    (partAt d i) (h d i w u l))
-    h)
 
 -- ---- what a read hands back, and what another call writes
 
@@ -128,36 +116,36 @@ bytes-same a b at n fits-a fits-b h = ext-getD 0 (take n (drop at a)) (take n (d
     byte : (c : List ℕ) (i : ℕ) → i < n → getD (take n (drop at c)) i 0 ≡ getD c (at + i) 0
     byte c i l = getD-take n (drop at c) i 0 l ∙ getD-drop at c i 0
 
-module _ (f : List ℕ) (accepted : Accepted f) (L : ℕ) (label : Among (labels f) L) (t : Open) (s : Sessions) (known : Orderly f s) (fits : Fits t s) where
+module _ (σ : Settings) (lawful : Lawful σ) (L : ℕ) (label : Among (σ .labels) L) (t : Open) (s : Sessions) (known : Orderly σ s) (fits : Fits t s) where
   -- a use of card o at place p, by a role that fits the session's label there
   record Use (mode p o : ℕ) : Type 0 where
-    pub card : Among (cards f) o
+    pub card : Among (σ .cards) o
     pub level : ℕ
-    pub inside : Among (labels f) level
+    pub inside : Among (σ .labels) level
     pub tracked : t p ≡ some level
-    pub role : (r : ℕ) × (may f mode r o ≡ true) × (fittingByFile f level r ≡ true)
+    pub role : (r : ℕ) × (may σ mode r o ≡ true) × (fittingByFile σ level r ≡ true)
 
-  use-of : (mode size p o k n : ℕ) → partRule f mode s size p o k n ≡ 0 → Use mode p o
+  use-of : (mode size p o k n : ℕ) → partRule σ mode s size p o k n ≡ 0 → Use mode p o
   use-of mode size p o k n z =
-      let u = part-done f mode s size p o k n z in
+      let u = part-done σ mode s size p o k n z in
       let x = u .session in
-      let adm = admitted f s known p x (u .found) in
-      let (r, w, holds, gives) = gives-iff f mode x o .0 (u .used) in
+      let adm = admitted σ s known p x (u .found) in
+      let (r, w, holds, gives) = gives-iff σ mode x o .0 (u .used) in
       record { card = u .card; level = x .label; inside = adm .label; tracked = fits p ∙ ap labelOf (u .found); role = (r, gives, adm .roles r holds .1) }
 
-  pub read-under : (size p o k n : ℕ) → partRule f 1 s size p o k n ≡ 0 → under f L (t p) ≡ true → dominates f L (cardLabel f o) ≡ true
+  pub read-under : (size p o k n : ℕ) → partRule σ 1 s size p o k n ≡ 0 → under σ L (t p) ≡ true → σ .dominates L (σ .cardLabel o) ≡ true
   read-under size p o k n z h =
       let u = use-of 1 size p o k n z in
       let (r, gives, suited) = u .role in
-      accepted .ordered .dominance .order .transitive L (u .level) (cardLabel f o) label (u .inside) (label-of-card f accepted o (u .card))
-      (rw (u .tracked) at h) (reads-below f accepted (u .level) r o (u .inside) (u .card) suited gives)
+      lawful .dominance .transitive L (u .level) (σ .cardLabel o) label (u .inside) (label-of-card σ lawful o (u .card))
+      (rw (u .tracked) at h) (reads-below σ lawful (u .level) r o (u .inside) (u .card) suited gives)
 
-  pub write-over : (size p o k n : ℕ) → partRule f 2 s size p o k n ≡ 0 → under f L (t p) ≡ false → dominates f L (cardLabel f o) ≡ false
+  pub write-over : (size p o k n : ℕ) → partRule σ 2 s size p o k n ≡ 0 → under σ L (t p) ≡ false → σ .dominates L (σ .cardLabel o) ≡ false
   write-over size p o k n z h =
       let u = use-of 2 size p o k n z in
       let (r, gives, suited) = u .role in
-      untrue (dominates f L (cardLabel f o)) (λ d.
+      untrue (σ .dominates L (σ .cardLabel o)) (λ d.
       both
-      (accepted .ordered .dominance .order .transitive L (cardLabel f o) (u .level) label (label-of-card f accepted o (u .card)) (u .inside)
-      d (writes-above f accepted (u .level) r o (u .inside) (u .card) suited gives))
+      (lawful .dominance .transitive L (σ .cardLabel o) (u .level) label (label-of-card σ lawful o (u .card)) (u .inside)
+      d (writes-above σ lawful (u .level) r o (u .inside) (u .card) suited gives))
       (rw (u .tracked) at h))

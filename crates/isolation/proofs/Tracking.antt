@@ -2,16 +2,16 @@
 use Prim.Native.Nat.{ℕ, zero, suc}
 use mathlib.Core.Path.{_≡_, refl, sym, ap, _∙_}
 use mathlib.Core.Logic.{_↔_, Iff·rfl}
-use mathlib.Core.List.{List}
 use mathlib.Core.Bool.{true, false, cond}
 use mathlib.Core.Option.{Option, none, some, Option·map}
 use native.Mathlib.Omega.{arith}
 use Rattle.search.proofs.Truth.{and-both, among-iff, other-iff, either}
-use Rattle.rolefile.specs.Said.{labels, users}
+use Rattle.order.specs.Closure.{Relation}
+use Rattle.policy.specs.Settings.{Settings}
 use Rattle.monitor.specs.Calls.{ifDone}
 use Rattle.monitor.specs.Runs.{Call, opens, closes, takes, drops, reads, writes}
 use Rattle.monitor.specs.Places.{isFree, put}
-use Rattle.monitor.specs.Rules.{Session, Sessions, noSessions, openRule, closeRule, takeRule, dropRule, sessionOf, holding, without, next}
+use Rattle.monitor.specs.Rules.{Session, Sessions, noSessions, openRule, closeRule, takeRule, dropRule, sessionOf, holding, without, stand, sessionsAfter}
 use Rattle.monitor.proofs.Answers.{either-way}
 use Rattle.monitor.proofs.Orderly.{Orderly, opening, opening-done, session-granted}
 use Rattle.monitor.proofs.Places.{put-everywhere, put-at, put-other}
@@ -45,21 +45,21 @@ placeOf (writes p o k bytes) = p
 
 -- ---- a call changes nothing at other places
 
-pub next-other : (f : List ℕ) (s : Sessions) (c : Call) (q : ℕ) → (placeOf c ≡ q → ⊥) → next f s c q ≡ s q
-unfolding next
-next-other f s (opens p u l) q n = either-way (λ x. x q ≡ s q) (openRule f s p u l) (put s p (some (sessionOf u l))) s (λ z. put-other s p (some (sessionOf u l)) q n) refl
-next-other f s (closes p) q n = either-way (λ x. x q ≡ s q) (closeRule s p) (put s p none) s (λ z. put-other s p none q n) refl
-next-other f s (takes p r) q n =
-    either-way (λ x. x q ≡ s q) (takeRule f s p r) (put s p (Option·map (holding r) (s p))) s (λ z. put-other s p (Option·map (holding r) (s p)) q n) refl
-next-other f s (drops p r) q n =
-    either-way (λ x. x q ≡ s q) (dropRule f s p r) (put s p (Option·map (without r) (s p))) s (λ z. put-other s p (Option·map (without r) (s p)) q n) refl
-next-other f s (reads p o k m) q n = refl
-next-other f s (writes p o k bytes) q n = refl
+pub next-other : (σ : Settings) (α : Relation) (s : Sessions) (c : Call) (q : ℕ) → (placeOf c ≡ q → ⊥) → sessionsAfter σ (stand α s) c q ≡ s q
+unfolding sessionsAfter
+next-other σ α s (opens p u l) q n = either-way (λ x. x q ≡ s q) (openRule σ s p u l) (put s p (some (sessionOf u l))) s (λ z. put-other s p (some (sessionOf u l)) q n) refl
+next-other σ α s (closes p) q n = either-way (λ x. x q ≡ s q) (closeRule s p) (put s p none) s (λ z. put-other s p none q n) refl
+next-other σ α s (takes p r) q n =
+    either-way (λ x. x q ≡ s q) (takeRule σ α s p r) (put s p (Option·map (holding r) (s p))) s (λ z. put-other s p (Option·map (holding r) (s p)) q n) refl
+next-other σ α s (drops p r) q n =
+    either-way (λ x. x q ≡ s q) (dropRule σ s p r) (put s p (Option·map (without r) (s p))) s (λ z. put-other s p (Option·map (without r) (s p)) q n) refl
+next-other σ α s (reads p o k m) q n = refl
+next-other σ α s (writes p o k bytes) q n = refl
 
-module _ (f : List ℕ) (t : Open) where
-  pub track-other : (c : Call) (q : ℕ) → (placeOf c ≡ q → ⊥) → track f t c q ≡ t q
+module _ (σ : Settings) (t : Open) where
+  pub track-other : (c : Call) (q : ℕ) → (placeOf c ≡ q → ⊥) → track σ t c q ≡ t q
   unfolding track
-  track-other (opens p u l) q n = either (λ x. x q ≡ t q) (grants f t p u l) (put t p (some l)) t (put-other t p (some l) q n) refl
+  track-other (opens p u l) q n = either (λ x. x q ≡ t q) (grants σ t p u l) (put t p (some l)) t (put-other t p (some l) q n) refl
   track-other (closes p) q n = put-other t p _ q n
   track-other (takes p r) q n = refl
   track-other (drops p r) q n = refl
@@ -68,15 +68,15 @@ module _ (f : List ℕ) (t : Open) where
 
 -- ---- the tracker goes along with the sessions
 
-module _ (f : List ℕ) (t : Open) (s : Sessions) (fits : Fits t s) where
+module _ (σ : Settings) (t : Open) (s : Sessions) (fits : Fits t s) where
   -- the openings that the tracker grants are those that are done
-  pub grants-iff : (p u l : ℕ) → (grants f t p u l ≡ true) ↔ (openRule f s p u l ≡ 0)
+  pub grants-iff : (p u l : ℕ) → (grants σ t p u l ≡ true) ↔ (openRule σ s p u l ≡ 0)
   unfolding grants
   grants-iff p u l =
-      let tests = and-both (among-iff 64 p) (and-both Iff·rfl (and-both (among-iff (users f) u) (and-both (among-iff (labels f) l) Iff·rfl))) in
+      let tests = and-both (among-iff 64 p) (and-both Iff·rfl (and-both (among-iff (σ .users) u) (and-both (among-iff (σ .labels) l) Iff·rfl))) in
       rw (free t s fits p) (
-        λ h. let (a, (b, (c, (d, e)))) = tests .0 h in opening-done f s p u l (record { place = a; free = b; user = c; label = d; cleared = e }),
-        λ z. let o = opening f s p u l z in tests .1 (o .place, (o .free, (o .user, (o .label, o .cleared)))),
+        λ h. let (a, (b, (c, (d, e)))) = tests .0 h in opening-done σ s p u l (record { place = a; free = b; user = c; label = d; cleared = e }),
+        λ z. let o = opening σ s p u l z in tests .1 (o .place, (o .free, (o .user, (o .label, o .cleared)))),
       )
 
   put-fits : (p : ℕ) (v : Option Session) → Fits (put t p (labelOf v)) (put s p v)
@@ -92,7 +92,7 @@ module _ (f : List ℕ) (t : Open) (s : Sessions) (fits : Fits t s) where
   change-fits p change h =
       put-everywhere (λ q x. t q ≡ labelOf x) s p (Option·map change (s p)) (fits p ∙ sym (same-label change h (s p))) (λ q n. fits q)
 
-  module _ (known : Orderly f s) where
+  module _ (α : Relation) (known : Orderly σ s) where
     -- a closing that is refused is of a place that has no session
     refused-free : (p : ℕ) → (closeRule s p ≡ 0 → ⊥) → s p ≡ none
     unfolding closeRule
@@ -100,13 +100,13 @@ module _ (f : List ℕ) (t : Open) (s : Sessions) (fits : Fits t s) where
       where
         by : (o : Option Session) → s p ≡ o → o ≡ none
         by none e = refl
-        by (some x) e = absurd (h (session-granted f s known p x e (λ x. 0) refl))
+        by (some x) e = absurd (h (session-granted σ s known p x e (λ x. 0) refl))
 
-    pub fits-track : (c : Call) → Fits (track f t c) (next f s c)
-    unfolding track next ifDone
-    fits-track (opens p u l) = by (openRule f s p u l) refl
+    pub fits-track : (c : Call) → Fits (track σ t c) (sessionsAfter σ (stand α s) c)
+    unfolding track sessionsAfter ifDone
+    fits-track (opens p u l) = by (openRule σ s p u l) refl
       where
-        by : (n : ℕ) → openRule f s p u l ≡ n → Fits (cond (grants f t p u l) (put t p (some l)) t) (ifDone n (put s p (some (sessionOf u l))) s)
+        by : (n : ℕ) → openRule σ s p u l ≡ n → Fits (cond (grants σ t p u l) (put t p (some l)) t) (ifDone n (put s p (some (sessionOf u l))) s)
         by zero e = rw (grants-iff p u l .1 e) (put-fits p (some (sessionOf u l)))
         by (suc n) e = rw (other-iff false (grants-iff p u l) .1 (λ z. omega arith)) fits
     fits-track (closes p) = by (closeRule s p) refl
@@ -115,8 +115,8 @@ module _ (f : List ℕ) (t : Open) (s : Sessions) (fits : Fits t s) where
         by zero e = put-fits p none
         by (suc n) e = put-everywhere (λ q x. x ≡ labelOf (s q)) t p none (ap labelOf (sym (refused-free p (λ z. omega arith)))) (λ q n. fits q)
     fits-track (takes p r) =
-        either-way (Fits t) (takeRule f s p r) (put s p (Option·map (holding r) (s p))) s (λ z. change-fits p (holding r) (λ x. refl)) fits
+        either-way (Fits t) (takeRule σ α s p r) (put s p (Option·map (holding r) (s p))) s (λ z. change-fits p (holding r) (λ x. refl)) fits
     fits-track (drops p r) =
-        either-way (Fits t) (dropRule f s p r) (put s p (Option·map (without r) (s p))) s (λ z. change-fits p (without r) (λ x. refl)) fits
+        either-way (Fits t) (dropRule σ s p r) (put s p (Option·map (without r) (s p))) s (λ z. change-fits p (without r) (λ x. refl)) fits
     fits-track (reads p o k n) = fits
     fits-track (writes p o k bytes) = fits

@@ -14,14 +14,15 @@ use Rattle.rolefile.specs.Field.{column, columns}
 use Rattle.rolefile.specs.Line.{letterOf, fields, formed, lineOf, lineAt}
 use Rattle.rolefile.specs.Form.{fine, scan, sized, goodCounts, firstLimit, secondLimit, ranged, rises, headVerdict, bodyVerdict, lineVerdict}
 use Rattle.rolefile.specs.Form.{count, unlabelled, unlabelledVerdict, linesVerdict, formVerdict}
-use Rattle.rolefile.specs.Said.{cards, says, last, labelBy, cardLabel}
-use Rattle.policy.specs.Policy.{dominates, senior, may, mayAt, level, rLevel, wLevel}
+use Rattle.rolefile.specs.Said.{cards, assigned, says, last, labelBy, cardLabel}
+use Rattle.policy.specs.Settings.{settings, dominates, senior}
+use Rattle.policy.specs.Policy.{may, mayAt, level, rLevel, wLevel}
 use Rattle.policy.specs.Verdict.{orderVerdict, labelVerdict, roleVerdict, assignVerdict, assignmentVerdict, policyVerdict, verdict}
 use Rattle.policy.specs.Accepted.{Accepted}
 use Rattle.policy.proofs.Outcomes.{accepted-fine}
 use Rattle.monitor.specs.Calls.{unless, ifDone, partAt}
 use Rattle.monitor.specs.Runs.{Call, Start, loaded, partOf, storeOf}
-use Rattle.monitor.specs.Rules.{noSessions, entitledByFile, fittingByFile, givesByFile, openRule, closeRule, takeRule, dropRule, partRule, rule, next}
+use Rattle.monitor.specs.Rules.{begun, entitledByFile, fittingByFile, givesByFile, openRule, closeRule, takeRule, dropRule, partRule, rule, sessionsAfter}
 use Rattle.monitor.specs.Cases.{bytes}
 use Rattle.monitor.proofs.Demand2.{loaded-runs}
 use Rattle.isolation.specs.TwoRuns.{Answer, noneOpen, grants, track, shared, sharedCalls, shown, SameCards}
@@ -30,7 +31,7 @@ use Rattle.isolation.proofs.Begins.{start}
 use Rattle.isolation.proofs.ByFile.{shownBy, shown-by}
 
 abbrev answersBy : ℕ → List ℕ → List Call → List Answer
-answersBy L store cs = map (λ x. x .answer) (shownBy file L 192 noneOpen noSessions store cs)
+answersBy L store cs = map (λ x. x .answer) (shownBy (settings file) L 192 noneOpen (begun (assigned file)) store cs)
 
 accepted-file : verdict file ≡ fine
 unfolding file bytes
@@ -49,13 +50,13 @@ computed : (answersBy 2 firstStore firstRun ≡ low) × (answersBy 2 secondStore
 unfolding file bytes firstStore secondStore firstRun secondRun low highFirst highSecond
     column columns letterOf fields formed lineOf lineAt says last labelBy some every first via upper isLeast least lub
     dominates senior may mayAt level rLevel wLevel
-    unless ifDone entitledByFile fittingByFile givesByFile openRule closeRule takeRule dropRule partRule rule next
+    unless ifDone entitledByFile fittingByFile givesByFile openRule closeRule takeRule dropRule partRule rule sessionsAfter
     grants track shared partOf storeOf shownBy
 computed = (refl, refl, refl, refl)
 
 -- ---- the pair falls under demand 3 for label 2
 
-one-list : sharedCalls file 2 noneOpen firstRun ≡ sharedCalls file 2 noneOpen secondRun
+one-list : sharedCalls (settings file) 2 noneOpen firstRun ≡ sharedCalls (settings file) 2 noneOpen secondRun
 unfolding file bytes firstRun secondRun column columns letterOf fields formed lineOf lineAt says last labelBy some via dominates grants track shared sharedCalls
 one-list = refl
 
@@ -67,7 +68,7 @@ three-cards : (cards file ≡ 3) × (dominates file 2 (cardLabel file 3) ≡ fal
 unfolding file bytes column columns letterOf fields formed lineOf lineAt says last labelBy some via dominates
 three-cards = (refl, refl)
 
-same-cards : SameCards file 2 firstStore secondStore
+same-cards : SameCards (settings file) 2 firstStore secondStore
 unfolding firstStore secondStore
 same-cards o i w d l =
     let n = three-cards .0 in
@@ -82,18 +83,18 @@ same-cards o i w d l =
 -- ---- what each label is shown, from the state that any load of the file left
 
 abbrev answersOf : Start file → ℕ → List ℕ → List Call → List Answer
-answersOf a L store cs = map (λ x. x .answer) (shown file L noneOpen (loaded a store) cs)
+answersOf a L store cs = map (λ x. x .answer) (shown (settings file) L noneOpen (loaded a store) cs)
 
 shows : (a : Start file) (L : ℕ) (store : List ℕ) (cs : List Call) → length store ≡ 192 → answersOf a L store cs ≡ answersBy L store cs
 shows a L store cs long =
     ap (map (λ x. x .answer))
-    (shown-by file (accepted .ordered .form) 192 L cs noneOpen noSessions (loaded a store)
+    (shown-by (settings file) 192 L cs noneOpen (begun (assigned file)) (loaded a store)
     (rw long at (loaded-runs accepted a store)))
 
 -- label 2 is shown the same, and not refusals alone; label 4, one step higher, is shown more, and not the same
 pub record Separated (a b : Start file) : Type 0 where
-  pub sharedCalls : sharedCalls file 2 noneOpen firstRun ≡ sharedCalls file 2 noneOpen secondRun
-  pub stores : (length firstStore ≡ length secondStore) × SameCards file 2 firstStore secondStore
+  pub sharedCalls : sharedCalls (settings file) 2 noneOpen firstRun ≡ sharedCalls (settings file) 2 noneOpen secondRun
+  pub stores : (length firstStore ≡ length secondStore) × SameCards (settings file) 2 firstStore secondStore
   pub low : (answersOf a 2 firstStore firstRun ≡ low) × (answersOf b 2 secondStore secondRun ≡ low)
   pub high : (answersOf a 4 firstStore firstRun ≡ highFirst) × (answersOf b 4 secondStore secondRun ≡ highSecond)
   pub differ : highFirst ≡ highSecond → ⊥

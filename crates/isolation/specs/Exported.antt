@@ -3,6 +3,7 @@
 use Prim.Native.Nat.{ℕ}
 use mathlib.Core.Path.{_≡_}
 use mathlib.Core.List.{List, [], _∷_}
+use Rattle.policy.specs.Settings.{Settings, settings}
 use Rattle.monitor.specs.Calls.{Opens, Closes, Takes, Drops, readNumber, readBytes, Writes}
 use Rattle.monitor.specs.Runs.{Call, opens, closes, takes, drops, reads, writes, Memory}
 use Rattle.isolation.specs.TwoRuns.{Answer, Open, noneOpen, track, shared, keep, Shown, SameFor, OfTwoRuns}
@@ -17,14 +18,14 @@ Made m (reads p o k s) a n = (a .number ≡ readNumber (m .state) (m .store) p o
 Made m (writes p o k bytes) a n = Writes (m .state) (m .store) p o k bytes (a .number) (n .store) × (n .state ≡ m .state) × (a .bytes ≡ [])
 
 -- the calls of a list made one after the other from m on: what L's shared calls show, and the memory at the end
-abbrev pub Makes : List ℕ → ℕ → Open → Memory → List Call → List Shown → Memory → Type 0
-Makes f L t m [] xs e = (xs ≡ []) × (e ≡ m)
-Makes f L t m (c ∷ cs) xs e =
-    (a : Answer) × (n : Memory) × (ys : List Shown) × Made m c a n × Makes f L (track f t c) n cs ys e
-    × (xs ≡ keep (shared f L t c) (record { answer = a; store = n .store }) ys)
+abbrev pub Makes : Settings → ℕ → Open → Memory → List Call → List Shown → Memory → Type 0
+Makes σ L t m [] xs e = (xs ≡ []) × (e ≡ m)
+Makes σ L t m (c ∷ cs) xs e =
+    (a : Answer) × (n : Memory) × (ys : List Shown) × Made m c a n × Makes σ L (track σ t c) n cs ys e
+    × (xs ≡ keep (shared σ L t c) (record { answer = a; store = n .store }) ys)
 
 abbrev pub IsolatedExports : List ℕ → Type 0
 IsolatedExports f =
     OfTwoRuns f (λ L m₁ m₂ cs₁ cs₂.
-    (xs₁ xs₂ : List Shown) (e₁ e₂ : Memory) → Makes f L noneOpen m₁ cs₁ xs₁ e₁ → Makes f L noneOpen m₂ cs₂ xs₂ e₂
-    → SameFor f L xs₁ xs₂ e₁ e₂)
+    (xs₁ xs₂ : List Shown) (e₁ e₂ : Memory) → Makes (settings f) L noneOpen m₁ cs₁ xs₁ e₁ → Makes (settings f) L noneOpen m₂ cs₂ xs₂ e₂
+    → SameFor (settings f) L xs₁ xs₂ e₁ e₂)

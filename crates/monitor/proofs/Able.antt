@@ -13,151 +13,153 @@ use Rattle.search.specs.Search.{among, Among}
 use Rattle.search.proofs.Truth.{or-iff, and-iff, among-iff}
 use Rattle.search.proofs.Found.{some-agree, some-both}
 use Rattle.roleset.specs.Row.{member, rowOf}
-use Rattle.rolefile.specs.Said.{labels, roles, users, cards, clearance}
-use Rattle.rolefile.specs.WellFormed.{WellFormed}
-use Rattle.policy.specs.Policy.{dominates, may}
+use Rattle.rolefile.specs.Said.{cards, assigned}
+use Rattle.order.specs.Closure.{Relation}
+use Rattle.policy.specs.Settings.{Settings, settings, Bounded}
+use Rattle.policy.specs.Policy.{may}
 use Rattle.policy.specs.Accepted.{Accepted}
 use Rattle.policy.specs.Image.{Allows, Describes}
+use Rattle.policy.proofs.Inside.{bounded}
 use Rattle.policy.proofs.Meaning.{role-few, card-few}
 use Rattle.policy.specs.Tables.{tableOf}
 use Rattle.policy.proofs.Relating.{by-mode}
 use Rattle.monitor.specs.Session.{labelsIn, usersIn, cardsIn, cleared, entitled, fitting}
 use Rattle.monitor.specs.Calls.{unless, ifDone}
 use Rattle.monitor.specs.Runs.{Call, opens, takes, Memory, Start, loaded, after, run, left}
-use Rattle.monitor.specs.Rules.{Session, Sessions, noSessions, entitledByFile, fittingByFile, givesByFile, openRule, takeRule, partRule, rule, sessionOf, holding, next, sessions}
+use Rattle.monitor.specs.Rules.{Session, Sessions, noSessions, entitledByFile, fittingByFile, givesByFile, openRule, takeRule, partRule, rule, sessionOf, holding, stand, begun, sessionsAfter, next, standing}
 use Rattle.monitor.specs.Rights.{canNumber, roleCould, could, Cans, canRule, couldByFile, useOf, CouldUse}
 use Rattle.monitor.proofs.Answers.{unless-done, figure-same}
 use Rattle.monitor.proofs.Orderly.{opening, opening-done, taking, gives-iff, part-done}
 use Rattle.monitor.proofs.Stands.{Stands}
 use Rattle.monitor.proofs.InFile.{test-same, test-passed, sound-file, cleared-file, entitled-file, fitting-file}
 use Rattle.monitor.proofs.Places.{put-at}
-use Rattle.monitor.proofs.Demand2.{Runs, runs-next, runs-number, loaded-runs, left-runs}
+use Rattle.monitor.proofs.Demand2.{Runs, runs-next, runs-number, loaded-runs, left-stands}
 
 -- ---- by the file
 
 -- the table of a mode says who may
-pub table-says : (f xs : List ℕ) → Describes f xs → (m : ℕ) → Among 2 m → Allows f m (tableOf m) xs
-table-says f xs tables = by-mode (λ m. Allows f m (tableOf m) xs) (tables .permitting .readers) (tables .permitting .writers)
+pub table-says : (σ : Settings) (xs : List ℕ) → Describes σ xs → (m : ℕ) → Among 2 m → Allows σ m (tableOf m) xs
+table-says σ xs tables = by-mode (λ m. Allows σ m (tableOf m) xs) (tables .permitting .readers) (tables .permitting .writers)
 
-module _ (f : List ℕ) (form : WellFormed f) (t : Sessions) (xs : List ℕ) (stands : Stands f t xs) where
-  number-by : (u l o m : ℕ) → canNumber xs u l o m ≡ canRule f u l o m
+module _ (σ : Settings) (bounded : Bounded σ) (α : Relation) (t : Sessions) (xs : List ℕ) (stands : Stands σ α t xs) where
+  number-by : (u l o m : ℕ) → canNumber xs u l o m ≡ canRule σ u l o m
   unfolding canNumber canRule
   number-by u l o m =
-      test-passed 21 (sound-file f form t xs stands)
-      ∙ test-same (among (usersIn xs) u) (among (users f) u) 25 (rw (stands .tables .counted .users)) (λ user.
-      test-same (among (labelsIn xs) l) (among (labels f) l) 25 (rw (stands .tables .counted .labels)) (λ label.
-      test-same (among (cardsIn xs) o) (among (cards f) o) 25 (rw (stands .tables .counted .cards)) (λ card.
+      test-passed 21 (sound-file σ bounded α t xs stands)
+      ∙ test-same (among (usersIn xs) u) (among (σ .users) u) 25 (rw (stands .tables .counted .users)) (λ user.
+      test-same (among (labelsIn xs) l) (among (σ .labels) l) 25 (rw (stands .tables .counted .labels)) (λ label.
+      test-same (among (cardsIn xs) o) (among (σ .cards) o) 25 (rw (stands .tables .counted .cards)) (λ card.
       test-same (among 2 m) (among 2 m) 25 refl (λ mode.
-      test-same (cleared xs u l) (dominates f (clearance f u) l) 26
-      (cleared-file f form t xs stands u l (among-iff (users f) u .0 user) (among-iff (labels f) l .0 label)) (λ dominated. refl)))))
+      test-same (cleared xs u l) (σ .dominates (σ .clearance u) l) 26
+      (cleared-file σ bounded α t xs stands u l (among-iff (σ .users) u .0 user) (among-iff (σ .labels) l .0 label)) (λ dominated. refl)))))
 
-  pub could-by : (u l o m : ℕ) → Among (users f) u → Among (cards f) o → Among 2 m → could xs u l o (tableOf m) ≡ couldByFile f u l o m
+  pub could-by : (u l o m : ℕ) → Among (σ .users) u → Among (σ .cards) o → Among 2 m → could xs u l o (tableOf m) ≡ couldByFile σ α u l o m
   unfolding could couldByFile roleCould
   could-by u l o m user card mode =
       rw (stands .tables .counted .roles)
-      (some-agree (λ r. entitled xs u r && (fitting xs l r && member xs (rowOf (tableOf m) o) r)) (λ r. entitledByFile f u r && (fittingByFile f l r && may f m r o)) (roles f)
-      (λ r w. rw (entitled-file f form t xs stands u r user w, fitting-file f form t xs stands l r w, table-says f xs (stands .tables) m mode o r (card-few f form o card) (role-few f form r w))))
+      (some-agree (λ r. entitled xs u r && (fitting xs l r && member xs (rowOf (tableOf m) o) r)) (λ r. entitledByFile σ α u r && (fittingByFile σ l r && may σ m r o)) (σ .roles)
+      (λ r w. rw (entitled-file σ bounded α t xs stands u r user w, fitting-file σ bounded α t xs stands l r w, table-says σ xs (stands .tables) m mode o r (card-few σ bounded o card) (role-few σ bounded r w))))
 
 -- ---- by the session calls
 
 -- what a question that is done tells
-pub record Able (f : List ℕ) (u l o m : ℕ) : Type 0 where
-  pub user : Among (users f) u
-  pub label : Among (labels f) l
-  pub card : Among (cards f) o
+pub record Able (σ : Settings) (u l o m : ℕ) : Type 0 where
+  pub user : Among (σ .users) u
+  pub label : Among (σ .labels) l
+  pub card : Among (σ .cards) o
   pub mode : Among 2 m
-  pub cleared : dominates f (clearance f u) l ≡ true
+  pub cleared : σ .dominates (σ .clearance u) l ≡ true
 
-can-done : (f : List ℕ) (u l o m : ℕ) → canRule f u l o m ≡ 0 → Able f u l o m
+can-done : (σ : Settings) (u l o m : ℕ) → canRule σ u l o m ≡ 0 → Able σ u l o m
 unfolding canRule
-can-done f u l o m h =
-    let (a, x) = unless-done (among (users f) u) 25 _ (omega arith) h in
-    let (b, y) = unless-done (among (labels f) l) 25 _ (omega arith) x in
-    let (c, z) = unless-done (among (cards f) o) 25 _ (omega arith) y in
+can-done σ u l o m h =
+    let (a, x) = unless-done (among (σ .users) u) 25 _ (omega arith) h in
+    let (b, y) = unless-done (among (σ .labels) l) 25 _ (omega arith) x in
+    let (c, z) = unless-done (among (σ .cards) o) 25 _ (omega arith) y in
     let (d, v) = unless-done (among 2 m) 25 _ (omega arith) z in
-    let (e, w) = unless-done (dominates f (clearance f u) l) 26 _ (omega arith) v in
+    let (e, w) = unless-done (σ .dominates (σ .clearance u) l) 26 _ (omega arith) v in
     record {
-      user = among-iff (users f) u .0 a;
-      label = among-iff (labels f) l .0 b;
-      card = among-iff (cards f) o .0 c;
+      user = among-iff (σ .users) u .0 a;
+      label = among-iff (σ .labels) l .0 b;
+      card = among-iff (σ .cards) o .0 c;
       mode = among-iff 2 m .0 d;
       cleared = e;
     }
 
-able-done : (f : List ℕ) (u l o m : ℕ) → Able f u l o m → canRule f u l o m ≡ 0
+able-done : (σ : Settings) (u l o m : ℕ) → Able σ u l o m → canRule σ u l o m ≡ 0
 unfolding canRule unless
-able-done f u l o m a =
+able-done σ u l o m a =
     rw (
-      among-iff (users f) u .1 (a .user),
-      among-iff (labels f) l .1 (a .label),
-      among-iff (cards f) o .1 (a .card),
+      among-iff (σ .users) u .1 (a .user),
+      among-iff (σ .labels) l .1 (a .label),
+      among-iff (σ .cards) o .1 (a .card),
       among-iff 2 m .1 (a .mode),
       a .cleared,
     )
 
-module _ (f : List ℕ) (size p u l : ℕ) (place : Among 64 p) (enough : 64 * cards f ≤ size) where
+module _ (σ : Settings) (α : Relation) (size p u l : ℕ) (place : Among 64 p) (enough : 64 * σ .cards ≤ size) where
   abbrev one : Sessions
-  one = next f noSessions (opens p u l)
+  one = next σ (begun α) (opens p u l) .sessions
 
   abbrev two : ℕ → Sessions
-  two r = next f one (takes p r)
+  two r = next σ (stand α one) (takes p r) .sessions
 
   -- the session at the place after the opening, and after the taking
-  module _ (opened : openRule f noSessions p u l ≡ 0) where
+  module _ (opened : openRule σ noSessions p u l ≡ 0) where
     session-one : one p ≡ some (sessionOf u l)
-    unfolding next ifDone
+    unfolding sessionsAfter ifDone
     session-one = rw opened (put-at noSessions p (some (sessionOf u l)) p refl)
 
-    session-two : (r : ℕ) → takeRule f one p r ≡ 0 → two r p ≡ some (holding r (sessionOf u l))
-    unfolding next ifDone
+    session-two : (r : ℕ) → takeRule σ α one p r ≡ 0 → two r p ≡ some (holding r (sessionOf u l))
+    unfolding sessionsAfter ifDone
     session-two r taken = rw taken (put-at one p _ p refl ∙ rw session-one)
 
   -- the use of a card
-  use-rule : (m o : ℕ) (t : Sessions) → Among 2 m → rule f size t (useOf m p o) ≡ partRule f m t size p o 0 0
+  use-rule : (m o : ℕ) (t : Sessions) → Among 2 m → rule σ size (stand α t) (useOf m p o) ≡ partRule σ m t size p o 0 0
   unfolding rule
-  use-rule m o t = by-mode (λ m. rule f size t (useOf m p o) ≡ partRule f m t size p o 0 0) refl refl m
+  use-rule m o t = by-mode (λ m. rule σ size (stand α t) (useOf m p o) ≡ partRule σ m t size p o 0 0) refl refl m
 
-  holds-one : (m o r : ℕ) → givesByFile f m (holding r (sessionOf u l)) o ≡ true → may f m r o ≡ true
+  holds-one : (m o r : ℕ) → givesByFile σ m (holding r (sessionOf u l)) o ≡ true → may σ m r o ≡ true
   holds-one m o r h =
-      let (q, w, held, gives) = gives-iff f m (holding r (sessionOf u l)) o .0 h in
+      let (q, w, held, gives) = gives-iff σ m (holding r (sessionOf u l)) o .0 h in
       ⊎-elim (λ x. absurd (false≢true x)) (λ x. rw (eqb-true q r x) at gives) (or-iff false (eqb q r) .0 held)
 
-  holds-use : (m o r : ℕ) → Among (roles f) r → may f m r o ≡ true → givesByFile f m (holding r (sessionOf u l)) o ≡ true
-  holds-use m o r w h = gives-iff f m (holding r (sessionOf u l)) o .1 (r, w, or-iff false (eqb r r) .1 (inr (eq-eqb r r refl)), h)
+  holds-use : (m o r : ℕ) → Among (σ .roles) r → may σ m r o ≡ true → givesByFile σ m (holding r (sessionOf u l)) o ≡ true
+  holds-use m o r w h = gives-iff σ m (holding r (sessionOf u l)) o .1 (r, w, or-iff false (eqb r r) .1 (inr (eq-eqb r r refl)), h)
 
   -- the three calls let through, by the rules
   record Let (o m r : ℕ) : Type 0 where
-    pub opened : openRule f noSessions p u l ≡ 0
-    pub taken : takeRule f one p r ≡ 0
-    pub used : partRule f m (two r) size p o 0 0 ≡ 0
+    pub opened : openRule σ noSessions p u l ≡ 0
+    pub taken : takeRule σ α one p r ≡ 0
+    pub used : partRule σ m (two r) size p o 0 0 ≡ 0
 
-  come : (o m : ℕ) → Able f u l o m → couldByFile f u l o m ≡ true → (r : ℕ) × Let o m r
+  come : (o m : ℕ) → Able σ u l o m → couldByFile σ α u l o m ≡ true → (r : ℕ) × Let o m r
   unfolding couldByFile takeRule partRule unless
   come o m a h =
-      let (r, w, b, x) = some-both (entitledByFile f u) (λ r. fittingByFile f l r && may f m r o) (roles f) .0 h in
-      let (s, g) = and-iff (fittingByFile f l r) (may f m r o) .0 x in
-      let opened = opening-done f noSessions p u l (record { place = place; free = refl; user = a .user; label = a .label; cleared = a .cleared }) in
-      let taken : takeRule f one p r ≡ 0 = rw (among-iff 64 p .1 place, session-one opened, among-iff (roles f) r .1 w, b, s) in (
+      let (r, w, b, x) = some-both (entitledByFile σ α u) (λ r. fittingByFile σ l r && may σ m r o) (σ .roles) .0 h in
+      let (s, g) = and-iff (fittingByFile σ l r) (may σ m r o) .0 x in
+      let opened = opening-done σ noSessions p u l (record { place = place; free = refl; user = a .user; label = a .label; cleared = a .cleared }) in
+      let taken : takeRule σ α one p r ≡ 0 = rw (among-iff 64 p .1 place, session-one opened, among-iff (σ .roles) r .1 w, b, s) in (
         r,
         record {
           opened = opened;
           taken = taken;
-          used = rw (among-iff 64 p .1 place, session-two opened r taken, among-iff (cards f) o .1 (a .card), holds-use m o r w g, le-leb (64 * cards f) size enough);
+          used = rw (among-iff 64 p .1 place, session-two opened r taken, among-iff (σ .cards) o .1 (a .card), holds-use m o r w g, le-leb (64 * σ .cards) size enough);
         },
       )
 
-  came : (o m r : ℕ) → Among 2 m → Let o m r → Able f u l o m × (couldByFile f u l o m ≡ true)
+  came : (o m r : ℕ) → Among 2 m → Let o m r → Able σ u l o m × (couldByFile σ α u l o m ≡ true)
   unfolding couldByFile takeRule
   came o m r mode x =
-      let op = opening f noSessions p u l (x .opened) in
-      let (w, b, s) = taking f r (sessionOf u l) (unless-done (among 64 p) 22 _ (omega arith) (rw (session-one (x .opened)) at (x .taken)) .1) in
-      let part = part-done f m (two r) size p o 0 0 (x .used) in
+      let op = opening σ noSessions p u l (x .opened) in
+      let (w, b, s) = taking σ α r (sessionOf u l) (unless-done (among 64 p) 22 _ (omega arith) (rw (session-one (x .opened)) at (x .taken)) .1) in
+      let part = part-done σ m (two r) size p o 0 0 (x .used) in
       let who : part .session ≡ holding r (sessionOf u l) =
       Option·some-injective (part .session) (holding r (sessionOf u l)) (sym (part .found) ∙ session-two (x .opened) r (x .taken)) in
-      let same : givesByFile f m (holding r (sessionOf u l)) o ≡ true = ap (λ (s : Session). givesByFile f m s o) (sym who) ∙ part .used in (
+      let same : givesByFile σ m (holding r (sessionOf u l)) o ≡ true = ap (λ (s : Session). givesByFile σ m s o) (sym who) ∙ part .used in (
         record { user = op .user; label = op .label; card = part .card; mode = mode; cleared = op .cleared },
-        some-both (entitledByFile f u) (λ r. fittingByFile f l r && may f m r o) (roles f) .1
-            (r, w, b, and-iff (fittingByFile f l r) (may f m r o) .1 (s, holds-one m o r same)),
+        some-both (entitledByFile σ α u) (λ r. fittingByFile σ l r && may σ m r o) (σ .roles) .1
+            (r, w, b, and-iff (fittingByFile σ l r) (may σ m r o) .1 (s, holds-one m o r same)),
       )
 
 -- a figure is 1 exactly when the question is done and the answer is yes
@@ -176,48 +178,51 @@ module _ {f : List ℕ} (accepted : Accepted f) (a : Start f) (store : List ℕ)
     abbrev end : List ℕ
     end = left a store cs .state
 
-    pub can-file : (u l o m n figure : ℕ) → Cans end u l o m n figure → (n ≡ canRule f u l o m) × (figure ≡ ifDone n (cond (couldByFile f u l o m) 1 0) 0)
+    -- who is then assigned to what
+    abbrev α : Relation
+    α = standing (settings f) (begun (assigned f)) cs .assigned
+
+    pub can-file : (u l o m n figure : ℕ) → Cans end u l o m n figure → (n ≡ canRule (settings f) u l o m) × (figure ≡ ifDone n (cond (couldByFile (settings f) α u l o m) 1 0) 0)
     can-file u l o m n figure h =
-        let form = accepted .ordered .form in
-        let stands = left-runs accepted a store cs .stands in
-        let e = h .number ∙ number-by f form t end stands u l o m in (
+        let form = bounded f (accepted .ordered .form) in
+        let stands = left-stands accepted a store cs in
+        let e = h .number ∙ number-by (settings f) form α t end stands u l o m in (
           e,
           figure-same n (h .number) (h .answer) (λ z.
-              let w = can-done f u l o m (sym e ∙ z) in could-by f form t end stands u l o m (w .user) (w .card) (w .mode)),
+              let w = can-done (settings f) u l o m (sym e ∙ z) in could-by (settings f) form α t end stands u l o m (w .user) (w .card) (w .mode)),
         )
       where
         t : Sessions
-        t = sessions f noSessions cs
+        t = standing (settings f) (begun (assigned f)) cs .sessions
 
   -- from the state that a load left, at any place and with a store that has all cards
   module _ (enough : 64 * cards f ≤ length store) (p : ℕ) (place : Among 64 p) (u l o m : ℕ) (mode : Among 2 m) where
-    runs-one : Runs f (next f noSessions (opens p u l)) (length store) (after start (opens p u l))
-    runs-one = runs-next f (accepted .ordered .form) noSessions (length store) start (loaded-runs accepted a store) (opens p u l)
+    runs-one : Runs (settings f) (next (settings f) (begun (assigned f)) (opens p u l)) (length store) (after start (opens p u l))
+    runs-one = runs-next (settings f) (begun (assigned f)) (length store) start (loaded-runs accepted a store) (opens p u l)
 
-    runs-two : (r : ℕ) → Runs f (next f (next f noSessions (opens p u l)) (takes p r)) (length store) (after (after start (opens p u l)) (takes p r))
-    runs-two r = runs-next f (accepted .ordered .form) (next f noSessions (opens p u l)) (length store) (after start (opens p u l)) runs-one (takes p r)
+    runs-two : (r : ℕ) → Runs (settings f) (next (settings f) (next (settings f) (begun (assigned f)) (opens p u l)) (takes p r)) (length store) (after (after start (opens p u l)) (takes p r))
+    runs-two r = runs-next (settings f) (next (settings f) (begun (assigned f)) (opens p u l)) (length store) (after start (opens p u l)) runs-one (takes p r)
 
-    granting : (r : ℕ) → Let f (length store) p u l place enough o m r ↔ CouldUse start p u l o m r
+    granting : (r : ℕ) → Let (settings f) (assigned f) (length store) p u l place enough o m r ↔ CouldUse start p u l o m r
     unfolding rule
     granting r =
-        let form = accepted .ordered .form in
-        let one = runs-number f form noSessions (length store) start (loaded-runs accepted a store) (opens p u l) in
-        let two = runs-number f form _ (length store) _ runs-one (takes p r) in
-        let three = runs-number f form _ (length store) _ (runs-two r) (useOf m p o) ∙ use-rule f (length store) p u l place enough m o _ mode in (
+        let one = runs-number (settings f) (begun (assigned f)) (length store) start (loaded-runs accepted a store) (opens p u l) in
+        let two = runs-number (settings f) _ (length store) _ runs-one (takes p r) in
+        let three = runs-number (settings f) _ (length store) _ (runs-two r) (useOf m p o) ∙ use-rule (settings f) (assigned f) (length store) p u l place enough m o _ mode in (
           λ x. record { opened = one ∙ x .opened; taken = two ∙ x .taken; used = three ∙ x .used },
           λ x. record { opened = sym one ∙ x .opened; taken = sym two ∙ x .taken; used = sym three ∙ x .used },
         )
 
     pub can-iff : (n figure : ℕ) → Cans (a .state) u l o m n figure → (figure ≡ 1) ↔ ((r : ℕ) × CouldUse start p u l o m r)
-    unfolding run
+    unfolding run standing
     can-iff n figure h =
         let (by, told) = can-file [] u l o m n figure h in
-        let one = figure-one n (couldByFile f u l o m) in (
+        let one = figure-one n (couldByFile (settings f) (assigned f) u l o m) in (
           λ e.
               let (z, held) = one .0 (sym told ∙ e) in
-              let (r, x) = come f (length store) p u l place enough o m (can-done f u l o m (sym by ∙ z)) held in
+              let (r, x) = come (settings f) (assigned f) (length store) p u l place enough o m (can-done (settings f) u l o m (sym by ∙ z)) held in
               (r, granting r .0 x),
           λ (r, x).
-              let (able, held) = came f (length store) p u l place enough o m r mode (granting r .1 x) in
-              told ∙ one .1 (by ∙ able-done f u l o m able, held),
+              let (able, held) = came (settings f) (assigned f) (length store) p u l place enough o m r mode (granting r .1 x) in
+              told ∙ one .1 (by ∙ able-done (settings f) u l o m able, held),
         )

@@ -12,11 +12,12 @@ use lib.Dec.{eqb}
 use borrow.Author.Tests.{eqb-true, eq-eqb, ne-eqb, not-true}
 use Rattle.search.specs.Search.{Among}
 use Rattle.search.proofs.Truth.{or-iff, and-iff, among-iff, untrue, both, eqb-swap}
-use Rattle.rolefile.specs.Said.{roles}
+use Rattle.order.specs.Closure.{Relation}
+use Rattle.policy.specs.Settings.{Settings}
 use Rattle.monitor.specs.Calls.{unless, ifDone}
 use Rattle.monitor.specs.Runs.{Call, opens, closes, takes, drops, reads, writes}
 use Rattle.monitor.specs.Places.{isFree, put}
-use Rattle.monitor.specs.Rules.{Session, Sessions, noSessions, openRule, closeRule, takeRule, dropRule, rule, sessionOf, holding, without, next, sessions}
+use Rattle.monitor.specs.Rules.{Session, Sessions, openRule, closeRule, takeRule, dropRule, rule, sessionOf, holding, without, Standing, stand, begun, sessionsAfter, next, standing}
 use Rattle.monitor.specs.Granted.{ends, NoneEnds, Since, OpenFor, Holds}
 use Rattle.monitor.proofs.Answers.{either-way}
 use Rattle.monitor.proofs.Places.{put-at, put-other}
@@ -24,15 +25,15 @@ use Rattle.monitor.proofs.Orderly.{Admitted, Orderly, no-sessions-order
 
 -- ---- lists of calls
 
-sessions-append : (f : List ℕ) (ds cs : List Call) (t : Sessions) → sessions f t (ds ++ cs) ≡ sessions f (sessions f t ds) cs
-unfolding sessions
-sessions-append f [] cs t = refl
-sessions-append f (c ∷ ds) cs t = sessions-append f ds cs (next f t c)
+standing-append : (σ : Settings) (ds cs : List Call) (now : Standing) → standing σ now (ds ++ cs) ≡ standing σ (standing σ now ds) cs
+unfolding standing
+standing-append σ [] cs now = refl
+standing-append σ (c ∷ ds) cs now = standing-append σ ds cs (next σ now c)
 
-pub orderly-sessions : (f : List ℕ) (cs : List Call) (t : Sessions) → Orderly f t → Orderly f (sessions f t cs)
-unfolding sessions
-orderly-sessions f [] t k = k
-orderly-sessions f (c ∷ cs) t k = orderly-sessions f cs (next f t c) (orderly-next f t k c)
+pub orderly-standing : (σ : Settings) (cs : List Call) (now : Standing) → Orderly σ (now .sessions) → Orderly σ (standing σ now cs .sessions)
+unfolding standing
+orderly-standing σ [] now k = k
+orderly-standing σ (c ∷ cs) now k = orderly-standing σ cs (next σ now c) (orderly-next σ (now .assigned) (now .sessions) k c)
 
 -- ---- one place
 
@@ -58,9 +59,9 @@ record Kind (p : ℕ) (set : ℕ → Bool) (call : Call) (Good : Session → Typ
   pub keeps : (r : ℕ) (s : Session) → Good s → Good (holding r s)
   pub dropped : (r : ℕ) (s : Session) → Good (without r s) → Good s × (set r ≡ false)
   pub spares : (r : ℕ) (s : Session) → Good s → set r ≡ false → Good (without r s)
-  pub role : (f : List ℕ) (s : Session) → Admitted f p s → Good s → (r : ℕ) → set r ≡ true → Among (roles f) r
+  pub role : (σ : Settings) (s : Session) → Admitted σ p s → Good s → (r : ℕ) → set r ≡ true → Among (σ .roles) r
 
-module _ (f : List ℕ) (p : ℕ) (set : ℕ → Bool) (call : Call) (Good : Session → Type 0) (kind : Kind p set call Good) (t : Sessions) where
+module _ (σ : Settings) (α : Relation) (p : ℕ) (set : ℕ → Bool) (call : Call) (Good : Session → Type 0) (kind : Kind p set call Good) (t : Sessions) where
   -- what is so at place p
   abbrev So : Sessions → Type 0
   So u = SessionWith Good (u p)
@@ -76,26 +77,26 @@ module _ (f : List ℕ) (p : ℕ) (set : ℕ → Bool) (call : Call) (Good : Ses
   back-elsewhere q s n h = rw (put-other t q s p n) at h
 
   -- it lasts through each call that does not end it
-  lasts-next : (c : Call) → So t → ends p set c ≡ false → So (next f t c)
-  unfolding next closeRule dropRule
-  lasts-next (opens q u l) h e = either-way So (openRule f t q u l) (put t q (some (sessionOf u l))) t
+  lasts-next : (c : Call) → So t → ends σ (stand α t) p set c ≡ false → So (sessionsAfter σ (stand α t) c)
+  unfolding sessionsAfter closeRule dropRule
+  lasts-next (opens q u l) h e = either-way So (openRule σ t q u l) (put t q (some (sessionOf u l))) t
       (λ z. elim (ℕ-discrete q p) [
         | yes i ↦
             let (s, found, g) = session-with Good (t p) h in
-            let free : isFree (t p) ≡ true = rw i at (opening f t q u l z .free) in
+            let free : isFree (t p) ≡ true = rw i at (opening σ t q u l z .free) in
             absurd (false≢true (rw found at free))
         | no n ↦ elsewhere q (some (sessionOf u l)) n h
       ])
       h
   lasts-next (closes q) h e = either-way So (closeRule t q) (put t q none) t
       (λ z. elsewhere q none (λ i. both (eq-eqb q p i) e) h) h
-  lasts-next (takes q r) h e = either-way So (takeRule f t q r) (put t q (Option·map (holding r) (t q))) t
+  lasts-next (takes q r) h e = either-way So (takeRule σ α t q r) (put t q (Option·map (holding r) (t q))) t
       (λ z. elim (ℕ-discrete q p) [
         | yes i ↦ rw (put-at t q (Option·map (holding r) (t q)) p i, i) (changed (holding r) (kind .keeps r) (t p) h)
         | no n ↦ elsewhere q (Option·map (holding r) (t q)) n h
       ])
       h
-  lasts-next (drops q r) h e = either-way So (dropRule f t q r) (put t q (Option·map (without r) (t q))) t
+  lasts-next (drops q r) h e = either-way So (dropRule σ t q r) (put t q (Option·map (without r) (t q))) t
       (λ z. elim (ℕ-discrete q p) [
         | yes i ↦
             let other : set r ≡ false = rw (eq-eqb q p i) at e in
@@ -108,7 +109,7 @@ module _ (f : List ℕ) (p : ℕ) (set : ℕ → Bool) (call : Call) (Good : Ses
 
   -- and where it is so after a call, it was so and the call did not end it, or the call began it
   abbrev Came : Call → Type 0
-  Came c = (So t × (ends p set c ≡ false)) ⊎ ((c ≡ call) × (rule f 0 t c ≡ 0))
+  Came c = (So t × (ends σ (stand α t) p set c ≡ false)) ⊎ ((c ≡ call) × (rule σ 0 (stand α t) c ≡ 0))
 
   back-taken : (r : ℕ) (o : Option Session) → SessionWith Good (Option·map (holding r) o) → SessionWith Good o ⊎ (takes p r ≡ call)
   back-taken r none h = inl h
@@ -118,8 +119,8 @@ module _ (f : List ℕ) (p : ℕ) (set : ℕ → Bool) (call : Call) (Good : Ses
   back-dropped r none h = absurd h
   back-dropped r (some s) h = kind .dropped r s h
 
-  back-next : Orderly f t → (c : Call) → So (next f t c) → Came c
-  unfolding next rule closeRule dropRule unless
+  back-next : Orderly σ t → (c : Call) → So (sessionsAfter σ (stand α t) c) → Came c
+  unfolding sessionsAfter rule closeRule dropRule unless
   back-next known (opens q u l) h =
       ⊎-elim
       (λ (z, g). elim (ℕ-discrete q p) [
@@ -127,7 +128,7 @@ module _ (f : List ℕ) (p : ℕ) (set : ℕ → Bool) (call : Call) (Good : Ses
         | no n ↦ inl (back-elsewhere q (some (sessionOf u l)) n g, refl)
       ])
       (λ (z, g). inl (g, refl))
-      (which-way So (openRule f t q u l) (put t q (some (sessionOf u l))) t h)
+      (which-way So (openRule σ t q u l) (put t q (some (sessionOf u l))) t h)
   back-next known (closes q) h =
       ⊎-elim
       (λ (z, g). elim (ℕ-discrete q p) [
@@ -136,7 +137,7 @@ module _ (f : List ℕ) (p : ℕ) (set : ℕ → Bool) (call : Call) (Good : Ses
       ])
       (λ (z, g).
       let (s, found, good) = session-with Good (t p) g in
-      inl (g, ne-eqb q p (λ i. z (rw i (session-granted f t known p s found (λ s. 0) refl)))))
+      inl (g, ne-eqb q p (λ i. z (rw i (session-granted σ t known p s found (λ s. 0) refl)))))
       (which-way So (closeRule t q) (put t q none) t h)
   back-next known (takes q r) h =
       ⊎-elim
@@ -147,7 +148,7 @@ module _ (f : List ℕ) (p : ℕ) (set : ℕ → Bool) (call : Call) (Good : Ses
         | no n ↦ inl (back-elsewhere q (Option·map (holding r) (t q)) n g, refl)
       ])
       (λ (z, g). inl (g, refl))
-      (which-way So (takeRule f t q r) (put t q (Option·map (holding r) (t q))) t h)
+      (which-way So (takeRule σ α t q r) (put t q (Option·map (holding r) (t q))) t h)
   back-next known (drops q r) h =
       ⊎-elim
       (λ (z, g). elim (ℕ-discrete q p) [
@@ -162,48 +163,49 @@ module _ (f : List ℕ) (p : ℕ) (set : ℕ → Bool) (call : Call) (Good : Ses
         g,
         untrue (eqb q p && set r) (λ e.
             let (i, j) = and-iff (eqb q p) (set r) .0 e in
-            z (rw (eqb-true q p i) (session-granted f t known p s found _ (rw (among-iff (roles f) r .1 (kind .role f s (admitted f t known p s found) good r j)))))),
+            z (rw (eqb-true q p i) (session-granted σ t known p s found _ (rw (among-iff (σ .roles) r .1 (kind .role σ s (admitted σ t known p s found) good r j)))))),
       ))
-      (which-way So (dropRule f t q r) (put t q (Option·map (without r) (t q))) t h)
+      (which-way So (dropRule σ t q r) (put t q (Option·map (without r) (t q))) t h)
   back-next known (reads q o k n) h = inl (h, refl)
   back-next known (writes q o k bytes) h = inl (h, refl)
 
 -- ---- along a list
 
-module _ (f : List ℕ) (p : ℕ) (set : ℕ → Bool) (call : Call) (Good : Session → Type 0) (kind : Kind p set call Good)
-    (begins : (t : Sessions) → rule f 0 t call ≡ 0 → SessionWith Good (next f t call p)) where
-  lasts-on : (cs : List Call) (t : Sessions) → SessionWith Good (t p) → NoneEnds p set cs → SessionWith Good (sessions f t cs p)
-  unfolding sessions
-  lasts-on [] t h lasting = h
-  lasts-on (c ∷ cs) t h (e, lasting) = lasts-on cs (next f t c) (lasts-next f p set call Good kind t c h e) lasting
+module _ (σ : Settings) (p : ℕ) (set : ℕ → Bool) (call : Call) (Good : Session → Type 0) (kind : Kind p set call Good)
+    (begins : (now : Standing) → rule σ 0 now call ≡ 0 → SessionWith Good (next σ now call .sessions p)) where
+  lasts-on : (cs : List Call) (now : Standing) → SessionWith Good (now .sessions p) → NoneEnds σ now p set cs → SessionWith Good (standing σ now cs .sessions p)
+  unfolding standing
+  lasts-on [] now h lasting = h
+  lasts-on (c ∷ cs) now h (e, lasting) = lasts-on cs (next σ now c) (lasts-next σ (now .assigned) p set call Good kind (now .sessions) c h e) lasting
 
-  came : (cs : List Call) (t : Sessions) → Orderly f t → SessionWith Good (sessions f t cs p) → (SessionWith Good (t p) × NoneEnds p set cs) ⊎ Since f t p set call cs
-  unfolding sessions
-  came [] t k h = inl (h, tt)
-  came (c ∷ cs) t k h =
+  came : (cs : List Call) (now : Standing) → Orderly σ (now .sessions) → SessionWith Good (standing σ now cs .sessions p)
+      → (SessionWith Good (now .sessions p) × NoneEnds σ now p set cs) ⊎ Since σ now p set call cs
+  unfolding standing
+  came [] now k h = inl (h, tt)
+  came (c ∷ cs) now k h =
       ⊎-elim
       (λ (so, lasting).
       ⊎-elim
       (λ (before, e). inl (before, (e, lasting)))
-      (λ (e, z). inr (record { earlier = []; later = cs; split = ap (λ (d : Call). d ∷ cs) e; done = rw e at z; lasts = lasting }))
-      (back-next f p set call Good kind t k c so))
+      (λ (e, z). inr (record { earlier = []; later = cs; split = ap (λ (d : Call). d ∷ cs) e; done = rw e at z; lasts = rw e at lasting }))
+      (back-next σ (now .assigned) p set call Good kind (now .sessions) k c so))
       (λ s.
       inr (record { earlier = c ∷ s .earlier; later = s .later; split = ap (λ (ds : List Call). c ∷ ds) (s .split); done = s .done; lasts = s .lasts }))
-      (came cs (next f t c) (orderly-next f t k c) h)
+      (came cs (next σ now c) (orderly-next σ (now .assigned) (now .sessions) k c) h)
 
-  since-iff : (cs : List Call) → SessionWith Good (sessions f noSessions cs p) ↔ Since f noSessions p set call cs
-  unfolding sessions
-  since-iff cs = (
-    λ h. ⊎-elim (λ (so, lasting). absurd so) (λ s. s) (came cs noSessions (no-sessions-orderly f) h),
+  since-iff : (α : Relation) (cs : List Call) → SessionWith Good (standing σ (begun α) cs .sessions p) ↔ Since σ (begun α) p set call cs
+  unfolding standing
+  since-iff α cs = (
+    λ h. ⊎-elim (λ (so, lasting). absurd so) (λ s. s) (came cs (begun α) (no-sessions-orderly σ) h),
     λ s.
-        let t = sessions f noSessions (s .earlier) in
-        rw (s .split, sessions-append f (s .earlier) (call ∷ s .later) noSessions)
-        (lasts-on (s .later) (next f t call) (begins t (s .done)) (s .lasts)),
+        let now = standing σ (begun α) (s .earlier) in
+        rw (s .split, standing-append σ (s .earlier) (call ∷ s .later) (begun α))
+        (lasts-on (s .later) (next σ now call) (begins now (s .done)) (s .lasts)),
   )
 
 -- ---- for whom a place is open, and what is held
 
-module _ (f : List ℕ) (cs : List Call) (p : ℕ) where
+module _ (σ : Settings) (α : Relation) (cs : List Call) (p : ℕ) where
   abbrev pub Opened : ℕ → ℕ → Session → Type 0
   Opened u l s = (s .user ≡ u) × (s .label ≡ l)
 
@@ -214,12 +216,12 @@ module _ (f : List ℕ) (cs : List Call) (p : ℕ) where
     keeps = λ r s g. g;
     dropped = λ r s g. (g, refl);
     spares = λ r s g e. g;
-    role = λ f s a g r e. absurd (false≢true e);
+    role = λ σ s a g r e. absurd (false≢true e);
   }
 
-  pub open-for-iff : (u l : ℕ) → SessionWith (Opened u l) (sessions f noSessions cs p) ↔ OpenFor f cs p u l
-  unfolding rule next ifDone
-  open-for-iff u l = since-iff f p (λ r. false) (opens p u l) (Opened u l) (open-kind u l) (λ t z. rw (z, eq-eqb p p refl) (refl, refl)) cs
+  pub open-for-iff : (u l : ℕ) → SessionWith (Opened u l) (standing σ (begun α) cs .sessions p) ↔ OpenFor σ α cs p u l
+  unfolding rule sessionsAfter ifDone
+  open-for-iff u l = since-iff σ p (λ r. false) (opens p u l) (Opened u l) (open-kind u l) (λ now z. rw (z, eq-eqb p p refl) (refl, refl)) α cs
 
   abbrev pub Held : ℕ → Session → Type 0
   Held r s = s .held r ≡ true
@@ -233,14 +235,14 @@ module _ (f : List ℕ) (cs : List Call) (p : ℕ) where
         let (h, n) = and-iff (s .held r) (not (eqb r q)) .0 g in
         (h, eqb-swap q r ∙ not-true (eqb r q) n);
     spares = λ q s g e. rw (g, eqb-swap r q ∙ e);
-    role = λ f s a g q e. rw (eqb-true q r e) (a .roles r g .0);
+    role = λ σ s a g q e. rw (eqb-true q r e) (a .roles r g .0);
   }
 
-  pub holds-iff : (r : ℕ) → SessionWith (Held r) (sessions f noSessions cs p) ↔ Holds f cs p r
-  unfolding rule next ifDone takeRule
-  holds-iff r = since-iff f p (λ q. eqb q r) (takes p r) (Held r) (holds-kind r) begun cs
+  pub holds-iff : (r : ℕ) → SessionWith (Held r) (standing σ (begun α) cs .sessions p) ↔ Holds σ α cs p r
+  unfolding rule sessionsAfter ifDone takeRule
+  holds-iff r = since-iff σ p (λ q. eqb q r) (takes p r) (Held r) (holds-kind r) begins α cs
     where
-      begun : (t : Sessions) → takeRule f t p r ≡ 0 → SessionWith (Held r) (next f t (takes p r) p)
-      begun t z =
-          let a = session-done t p _ z in
+      begins : (now : Standing) → takeRule σ (now .assigned) (now .sessions) p r ≡ 0 → SessionWith (Held r) (next σ now (takes p r) .sessions p)
+      begins now z =
+          let a = session-done (now .sessions) p _ z in
           rw (z, eq-eqb p p refl, a .found) (or-iff (a .session .held r) (eqb r r) .1 (inr (eq-eqb r r refl)))

@@ -2,7 +2,6 @@
 use Prim.Native.Nat.{ℕ, _+_, _*_, _≤_}
 use mathlib.Core.Path.{_≡_, refl}
 use mathlib.Core.Logic.{_↔_, ⊎-elim}
-use mathlib.Core.List.{List}
 use mathlib.Core.Bool.{Bool, true, not, false≢true}
 use mathlib.Core.Option.{Option, none, some, Option·map}
 use native.Mathlib.Omega.{arith}
@@ -11,64 +10,65 @@ use borrow.Author.Tests.{eqb-true, leb-true}
 use Rattle.search.specs.Search.{among, Among}
 use Rattle.search.proofs.Truth.{or-iff, and-iff, among-iff}
 use Rattle.search.proofs.Found.{some-both}
-use Rattle.rolefile.specs.Said.{labels, roles, users, cards, clearance}
-use Rattle.policy.specs.Policy.{dominates, may}
+use Rattle.order.specs.Closure.{Relation}
+use Rattle.policy.specs.Settings.{Settings}
+use Rattle.policy.specs.Policy.{may}
 use Rattle.monitor.specs.Calls.{unless}
 use Rattle.monitor.specs.Runs.{Call, opens, closes, takes, drops, reads, writes}
 use Rattle.monitor.specs.Places.{isFree, put}
-use Rattle.monitor.specs.Rules.{Session, Sessions, noSessions, sessionRule, atSessionByFile, entitledByFile, fittingByFile, givesByFile, openRule, closeRule, takeRule, dropRule, partRule, sessionOf, holding, without, next}
+use Rattle.monitor.specs.Rules.{Session, Sessions, noSessions, sessionRule, atSessionByFile, entitledByFile, fittingByFile, givesByFile, openRule, closeRule, takeRule, dropRule, partRule, sessionOf, holding, without, stand, sessionsAfter}
 use Rattle.monitor.proofs.Answers.{unless-done, either-way}
 use Rattle.monitor.proofs.Places.{put-everywhere}
 
-pub record Admitted (f : List ℕ) (p : ℕ) (s : Session) : Type 0 where
+pub record Admitted (σ : Settings) (p : ℕ) (s : Session) : Type 0 where
   pub place : Among 64 p
-  pub user : Among (users f) (s .user)
-  pub label : Among (labels f) (s .label)
-  pub roles : (r : ℕ) → s .held r ≡ true → Among (roles f) r × (fittingByFile f (s .label) r ≡ true)
+  pub user : Among (σ .users) (s .user)
+  pub label : Among (σ .labels) (s .label)
+  pub roles : (r : ℕ) → s .held r ≡ true → Among (σ .roles) r × (fittingByFile σ (s .label) r ≡ true)
 
-abbrev pub Known : List ℕ → ℕ → Option Session → Type 0
-Known f p none = Unit {0}
-Known f p (some s) = Admitted f p s
+abbrev pub Known : Settings → ℕ → Option Session → Type 0
+Known σ p none = Unit {0}
+Known σ p (some s) = Admitted σ p s
 
-abbrev pub Orderly : List ℕ → Sessions → Type 0
-Orderly f t = (p : ℕ) → Known f p (t p)
+abbrev pub Orderly : Settings → Sessions → Type 0
+Orderly σ t = (p : ℕ) → Known σ p (t p)
 
-pub no-sessions-orderly : (f : List ℕ) → Orderly f noSessions
-no-sessions-orderly f p = tt
+pub no-sessions-orderly : (σ : Settings) → Orderly σ noSessions
+no-sessions-orderly σ p = tt
 
-orderly-put : (f : List ℕ) (t : Sessions) (p : ℕ) (s : Option Session) → Orderly f t → Known f p s → Orderly f (put t p s)
-orderly-put f t p s known new = put-everywhere (Known f) t p s new (λ q n. known q)
+orderly-put : (σ : Settings) (t : Sessions) (p : ℕ) (s : Option Session) → Orderly σ t → Known σ p s → Orderly σ (put t p s)
+orderly-put σ t p s known new = put-everywhere (Known σ) t p s new (λ q n. known q)
 
 -- ---- what a rule that is done tells
 
-pub record Opening (f : List ℕ) (t : Sessions) (p u l : ℕ) : Type 0 where
+pub record Opening (σ : Settings) (t : Sessions) (p u l : ℕ) : Type 0 where
   pub place : Among 64 p
   pub free : isFree (t p) ≡ true
-  pub user : Among (users f) u
-  pub label : Among (labels f) l
-  pub cleared : dominates f (clearance f u) l ≡ true
+  pub user : Among (σ .users) u
+  pub label : Among (σ .labels) l
+  pub cleared : σ .dominates (σ .clearance u) l ≡ true
 
-pub opening : (f : List ℕ) (t : Sessions) (p u l : ℕ) → openRule f t p u l ≡ 0 → Opening f t p u l
+pub opening : (σ : Settings) (t : Sessions) (p u l : ℕ) → openRule σ t p u l ≡ 0 → Opening σ t p u l
 unfolding openRule
-opening f t p u l h =
+opening σ t p u l h =
     let a = unless-done (among 64 p) 22 _ (omega arith) h in
     let b = unless-done (isFree (t p)) 23 _ (omega arith) (a .1) in
-    let c = unless-done (among (users f) u) 25 _ (omega arith) (b .1) in
-    let d = unless-done (among (labels f) l) 25 _ (omega arith) (c .1) in
-    let e = unless-done (dominates f (clearance f u) l) 26 _ (omega arith) (d .1) in
+    let c = unless-done (among (σ .users) u) 25 _ (omega arith) (b .1) in
+    let d = unless-done (among (σ .labels) l) 25 _ (omega arith) (c .1) in
+    let e = unless-done (σ .dominates (σ .clearance u) l) 26 _ (omega arith) (d .1) in
     record {
       place = among-iff 64 p .0 (a .0);
       free = b .0;
-      user = among-iff (users f) u .0 (c .0);
-      label = among-iff (labels f) l .0 (d .0);
+      user = among-iff (σ .users) u .0 (c .0);
+      label = among-iff (σ .labels) l .0 (d .0);
       cleared = e .0;
     }
 
 -- the converse
-pub opening-done : (f : List ℕ) (t : Sessions) (p u l : ℕ) → Opening f t p u l → openRule f t p u l ≡ 0
+pub opening-done : (σ : Settings) (t : Sessions) (p u l : ℕ) → Opening σ t p u l → openRule σ t p u l ≡ 0
 unfolding openRule unless
-opening-done f t p u l o =
-    rw (among-iff 64 p .1 (o .place), o .free, among-iff (users f) u .1 (o .user), among-iff (labels f) l .1 (o .label), o .cleared)
+opening-done σ t p u l o =
+    rw (among-iff 64 p .1 (o .place), o .free, among-iff (σ .users) u .1 (o .user), among-iff (σ .labels) l .1 (o .label), o .cleared)
 
 -- the place has a session
 pub record At (t : Sessions) (p : ℕ) (rule : Session → ℕ) : Type 0 where
@@ -86,9 +86,9 @@ session-done t p rule h =
     there w none e d = absurd (omega arith)
     there w (some s) e d = record { place = w; session = s; found = e; done = d }
 
-module _ (f : List ℕ) (t : Sessions) (known : Orderly f t) (p : ℕ) (s : Session) (found : t p ≡ some s) where
+module _ (σ : Settings) (t : Sessions) (known : Orderly σ t) (p : ℕ) (s : Session) (found : t p ≡ some s) where
   -- a session is one that the rules have seen to
-  pub admitted : Admitted f p s
+  pub admitted : Admitted σ p s
   admitted = rw found at (known p)
 
   -- the converse of `session-done`
@@ -96,82 +96,82 @@ module _ (f : List ℕ) (t : Sessions) (known : Orderly f t) (p : ℕ) (s : Sess
   unfolding unless
   session-granted rule h = rw (among-iff 64 p .1 (admitted .place), found) h
 
-pub taking : (f : List ℕ) (r : ℕ) (s : Session) → unless (among (roles f) r) 25 (unless (entitledByFile f (s .user) r) 27 (unless (fittingByFile f (s .label) r) 28 0)) ≡ 0
-    → Among (roles f) r × (entitledByFile f (s .user) r ≡ true) × (fittingByFile f (s .label) r ≡ true)
-taking f r s h =
-    let a = unless-done (among (roles f) r) 25 _ (omega arith) h in
-    let b = unless-done (entitledByFile f (s .user) r) 27 _ (omega arith) (a .1) in
-    let c = unless-done (fittingByFile f (s .label) r) 28 _ (omega arith) (b .1) in
-    (among-iff (roles f) r .0 (a .0), b .0, c .0)
+pub taking : (σ : Settings) (α : Relation) (r : ℕ) (s : Session) → unless (among (σ .roles) r) 25 (unless (entitledByFile σ α (s .user) r) 27 (unless (fittingByFile σ (s .label) r) 28 0)) ≡ 0
+    → Among (σ .roles) r × (entitledByFile σ α (s .user) r ≡ true) × (fittingByFile σ (s .label) r ≡ true)
+taking σ α r s h =
+    let a = unless-done (among (σ .roles) r) 25 _ (omega arith) h in
+    let b = unless-done (entitledByFile σ α (s .user) r) 27 _ (omega arith) (a .1) in
+    let c = unless-done (fittingByFile σ (s .label) r) 28 _ (omega arith) (b .1) in
+    (among-iff (σ .roles) r .0 (a .0), b .0, c .0)
 
-pub dropping : (f : List ℕ) (r : ℕ) → unless (among (roles f) r) 25 0 ≡ 0 → Among (roles f) r
-dropping f r h = among-iff (roles f) r .0 (unless-done (among (roles f) r) 25 0 (omega arith) h .0)
+pub dropping : (σ : Settings) (r : ℕ) → unless (among (σ .roles) r) 25 0 ≡ 0 → Among (σ .roles) r
+dropping σ r h = among-iff (σ .roles) r .0 (unless-done (among (σ .roles) r) 25 0 (omega arith) h .0)
 
 -- the roles held give the use of a card exactly where one of them may
-pub gives-iff : (f : List ℕ) (m : ℕ) (s : Session) (o : ℕ) → (givesByFile f m s o ≡ true) ↔ ((r : ℕ) × Among (roles f) r × (s .held r ≡ true) × (may f m r o ≡ true))
+pub gives-iff : (σ : Settings) (m : ℕ) (s : Session) (o : ℕ) → (givesByFile σ m s o ≡ true) ↔ ((r : ℕ) × Among (σ .roles) r × (s .held r ≡ true) × (may σ m r o ≡ true))
 unfolding givesByFile
-gives-iff f m s o = some-both (s .held) (λ r. may f m r o) (roles f)
+gives-iff σ m s o = some-both (s .held) (λ r. may σ m r o) (σ .roles)
 
 -- a read or a write that is done
-pub record Using (f : List ℕ) (m : ℕ) (t : Sessions) (size p o k n : ℕ) : Type 0 where
+pub record Using (σ : Settings) (m : ℕ) (t : Sessions) (size p o k n : ℕ) : Type 0 where
   pub session : Session
   pub found : t p ≡ some session
-  pub card : Among (cards f) o
-  pub used : givesByFile f m session o ≡ true
+  pub card : Among (σ .cards) o
+  pub used : givesByFile σ m session o ≡ true
   pub inCard : k + n ≤ 64
-  pub inStore : 64 * cards f ≤ size
+  pub inStore : 64 * σ .cards ≤ size
 
-pub part-done : (f : List ℕ) (m : ℕ) (t : Sessions) (size p o k n : ℕ) → partRule f m t size p o k n ≡ 0 → Using f m t size p o k n
+pub part-done : (σ : Settings) (m : ℕ) (t : Sessions) (size p o k n : ℕ) → partRule σ m t size p o k n ≡ 0 → Using σ m t size p o k n
 unfolding partRule
-part-done f m t size p o k n h =
+part-done σ m t size p o k n h =
     let a = session-done t p _ h in
-    let (i, b) = unless-done (among (cards f) o) 25 _ (omega arith) (a .done) in
-    let (j, c) = unless-done (givesByFile f m (a .session) o) 29 _ (omega arith) b in
+    let (i, b) = unless-done (among (σ .cards) o) 25 _ (omega arith) (a .done) in
+    let (j, c) = unless-done (givesByFile σ m (a .session) o) 29 _ (omega arith) b in
     let (x, d) = unless-done (leb (k + n) 64) 30 _ (omega arith) c in
-    let (y, z) = unless-done (leb (64 * cards f) size) 31 _ (omega arith) d in
+    let (y, z) = unless-done (leb (64 * σ .cards) size) 31 _ (omega arith) d in
     record {
       session = a .session;
       found = a .found;
-      card = among-iff (cards f) o .0 i;
+      card = among-iff (σ .cards) o .0 i;
       used = j;
       inCard = leb-true (k + n) 64 x;
-      inStore = leb-true (64 * cards f) size y;
+      inStore = leb-true (64 * σ .cards) size y;
     }
 
 -- ---- each call keeps it so
 
 -- a session with other roles, each the file's and fitting its label
-with-roles : (f : List ℕ) (p : ℕ) (s : Session) (held : ℕ → Bool) → Admitted f p s → ((r : ℕ) → held r ≡ true → Among (roles f) r × (fittingByFile f (s .label) r ≡ true))
-    → Admitted f p (record { user = s .user; label = s .label; held = held })
-with-roles f p s held a fit = record { place = a .place; user = a .user; label = a .label; roles = fit }
+pub with-roles : (σ : Settings) (p : ℕ) (s : Session) (held : ℕ → Bool) → Admitted σ p s → ((r : ℕ) → held r ≡ true → Among (σ .roles) r × (fittingByFile σ (s .label) r ≡ true))
+    → Admitted σ p (record { user = s .user; label = s .label; held = held })
+with-roles σ p s held a fit = record { place = a .place; user = a .user; label = a .label; roles = fit }
 
-module _ (f : List ℕ) (t : Sessions) (known : Orderly f t) where
-  pub orderly-next : (c : Call) → Orderly f (next f t c)
-  unfolding next closeRule takeRule dropRule
-  orderly-next (opens p u l) = either-way (Orderly f) (openRule f t p u l) (put t p (some (sessionOf u l))) t
+module _ (σ : Settings) (α : Relation) (t : Sessions) (known : Orderly σ t) where
+  pub orderly-next : (c : Call) → Orderly σ (sessionsAfter σ (stand α t) c)
+  unfolding sessionsAfter closeRule takeRule dropRule
+  orderly-next (opens p u l) = either-way (Orderly σ) (openRule σ t p u l) (put t p (some (sessionOf u l))) t
       (λ h.
-      let o = opening f t p u l h in
-      orderly-put f t p (some (sessionOf u l)) known
+      let o = opening σ t p u l h in
+      orderly-put σ t p (some (sessionOf u l)) known
       (record { place = o .place; user = o .user; label = o .label; roles = λ r e. absurd (false≢true e) }))
       known
-  orderly-next (closes p) = either-way (Orderly f) (closeRule t p) (put t p none) t (λ h. orderly-put f t p none known tt) known
-  orderly-next (takes p r) = either-way (Orderly f) (takeRule f t p r) (put t p (Option·map (holding r) (t p))) t
+  orderly-next (closes p) = either-way (Orderly σ) (closeRule t p) (put t p none) t (λ h. orderly-put σ t p none known tt) known
+  orderly-next (takes p r) = either-way (Orderly σ) (takeRule σ α t p r) (put t p (Option·map (holding r) (t p))) t
       (λ h.
       let a = session-done t p _ h in
       let s = a .session in
-      let (w, b, c) = taking f r s (a .done) in
-      let m = admitted f t known p s (a .found) in
-      orderly-put f t p (Option·map (holding r) (t p)) known
-      (rw (a .found) (with-roles f p s (holding r s .held) m (λ q e.
+      let (w, b, c) = taking σ α r s (a .done) in
+      let m = admitted σ t known p s (a .found) in
+      orderly-put σ t p (Option·map (holding r) (t p)) known
+      (rw (a .found) (with-roles σ p s (holding r s .held) m (λ q e.
       ⊎-elim (m .roles q) (λ i. rw (eqb-true q r i) (w, c)) (or-iff (s .held q) (eqb q r) .0 e)))))
       known
-  orderly-next (drops p r) = either-way (Orderly f) (dropRule f t p r) (put t p (Option·map (without r) (t p))) t
+  orderly-next (drops p r) = either-way (Orderly σ) (dropRule σ t p r) (put t p (Option·map (without r) (t p))) t
       (λ h.
       let a = session-done t p _ h in
       let s = a .session in
-      let m = admitted f t known p s (a .found) in
-      orderly-put f t p (Option·map (without r) (t p)) known
-      (rw (a .found) (with-roles f p s (without r s .held) m (λ q e. m .roles q (and-iff (s .held q) (not (eqb q r)) .0 e .0)))))
+      let m = admitted σ t known p s (a .found) in
+      orderly-put σ t p (Option·map (without r) (t p)) known
+      (rw (a .found) (with-roles σ p s (without r s .held) m (λ q e. m .roles q (and-iff (s .held q) (not (eqb q r)) .0 e .0)))))
       known
   orderly-next (reads p o k n) = known
   orderly-next (writes p o k bytes) = known

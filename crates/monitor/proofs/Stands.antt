@@ -13,8 +13,10 @@ use Rattle.search.specs.Search.{Among}
 use Rattle.search.proofs.Truth.{among-iff}
 use Rattle.roleset.specs.Row.{member, Kept, Placed, added, removed}
 use Rattle.roleset.proofs.Rows.{kept-wider, zero-row, same-bytes}
-use Rattle.policy.specs.Image.{Describes, Image}
-use Rattle.policy.proofs.Builds.{describes-stays}
+use Rattle.order.specs.Closure.{Relation}
+use Rattle.policy.specs.Settings.{Settings}
+use Rattle.policy.specs.Image.{Describes, Assigning, Image}
+use Rattle.policy.proofs.Builds.{describes-stays, assigning-stays}
 use Rattle.monitor.specs.Session.{placeAt, userAt, labelAt, heldAt}
 use Rattle.monitor.specs.Calls.{written, sessionBytes, opened, closed, taken, dropped}
 use Rattle.monitor.specs.Places.{put}
@@ -33,16 +35,31 @@ abbrev pub PlaceIs : List ℕ → ℕ → Option Session → Type 0
 PlaceIs xs p none = getD xs (placeAt p) 0 ≡ 0
 PlaceIs xs p (some s) = SessionAt xs p s
 
-pub record Stands (f : List ℕ) (t : Sessions) (xs : List ℕ) : Type 0 where
+pub record Stands (σ : Settings) (α : Relation) (t : Sessions) (xs : List ℕ) : Type 0 where
   pub long : 65536 ≤ length xs
-  pub tables : Describes f xs
+  pub tables : Describes σ xs
+  pub assigning : Assigning α xs
   pub places : (p : ℕ) → Among 64 p → PlaceIs xs p (t p)
 
-pub image-stands : (f xs : List ℕ) → 65536 ≤ length xs → Image f xs → Stands f noSessions xs
-image-stands f xs long image = record {
+pub image-stands : (σ : Settings) (α : Relation) (xs : List ℕ) → 65536 ≤ length xs → Image σ α xs → Stands σ α noSessions xs
+image-stands σ α xs long image = record {
   long = long;
   tables = image .tables;
+  assigning = image .assigning;
   places = λ p w. image .unused (placeAt p) (omega arith, λ l. omega arith, λ l. omega arith) (omega arith);
+}
+
+-- a place whose bytes are the same
+place-same : (xs ys : List ℕ) (q : ℕ) → ((k : ℕ) → k < 20 → getD ys (placeAt q + k) 0 ≡ getD xs (placeAt q + k) 0) → (s : Option Session) → PlaceIs xs q s → PlaceIs ys q s
+unfolding userAt labelAt
+place-same xs ys q byte none e = rw add-zero at (byte 0 (omega arith)) ∙ e
+place-same xs ys q byte (some s) a = record {
+  used = rw add-zero at (byte 0 (omega arith)) ∙ a .used;
+  user = rw (byte 1 (omega arith)) (a .user);
+  label = byte 2 (omega arith) ∙ a .label;
+  held = λ r.
+      same-bytes xs ys (heldAt q) (heldAt q) (λ k l. let z : heldAt q + k ≡ placeAt q + (4 + k) = omega arith in rw z (byte (4 + k) (omega arith))) r
+      ∙ a .held r;
 }
 
 -- ---- one place is written
@@ -52,28 +69,20 @@ pub record Touched (p : ℕ) (xs ys : List ℕ) : Type 0 where
   pub same : length ys ≡ length xs
   pub rest : Kept (placeAt p) (placeAt p + 20) xs ys
 
-module _ (f : List ℕ) (t : Sessions) (xs ys : List ℕ) (p : ℕ) (stands : Stands f t xs) (w : Among 64 p) (touched : Touched p xs ys) where
+module _ (σ : Settings) (α : Relation) (t : Sessions) (xs ys : List ℕ) (p : ℕ) (stands : Stands σ α t xs) (w : Among 64 p) (touched : Touched p xs ys) where
   -- the bytes of another place
   elsewhere : (q : ℕ) → Among 64 q → (q ≡ p → ⊥) → (k : ℕ) → k < 20 → getD ys (placeAt q + k) 0 ≡ getD xs (placeAt q + k) 0
   elsewhere q v n k l =
       touched .rest (placeAt q + k) (λ m. elim (decLt q p) [ yes i ↦ absurd (omega arith) | no i ↦ elim (decLt p q) [ yes j ↦ omega arith | no j ↦ absurd (n (omega arith)) ] ])
 
   place-elsewhere : (q : ℕ) → Among 64 q → (q ≡ p → ⊥) → (s : Option Session) → PlaceIs xs q s → PlaceIs ys q s
-  unfolding userAt labelAt
-  place-elsewhere q v n none e = rw add-zero at (elsewhere q v n 0 (omega arith)) ∙ e
-  place-elsewhere q v n (some s) a = record {
-    used = rw add-zero at (elsewhere q v n 0 (omega arith)) ∙ a .used;
-    user = rw (elsewhere q v n 1 (omega arith)) (a .user);
-    label = elsewhere q v n 2 (omega arith) ∙ a .label;
-    held = λ r.
-        same-bytes xs ys (heldAt q) (heldAt q) (λ k l. let z : heldAt q + k ≡ placeAt q + (4 + k) = omega arith in rw z (elsewhere q v n (4 + k) (omega arith))) r
-        ∙ a .held r;
-  }
+  place-elsewhere q v n s e = place-same xs ys q (elsewhere q v n) s e
 
-  pub stands-put : (s : Option Session) → PlaceIs ys p s → Stands f (put t p s) ys
+  pub stands-put : (s : Option Session) → PlaceIs ys p s → Stands σ α (put t p s) ys
   stands-put s new = record {
     long = rw (touched .same) (stands .long);
-    tables = describes-stays f xs ys (λ i l m. touched .rest i (λ n. absurd (omega arith))) (stands .tables);
+    tables = describes-stays σ xs ys (λ i out l. touched .rest i (λ n. absurd (omega arith))) (stands .tables);
+    assigning = assigning-stays xs ys α (λ i l m. touched .rest i (λ n. absurd (omega arith))) (stands .assigning);
     places = put-everywhere (λ q s. Among 64 q → PlaceIs ys q s) t p s (λ v. new) (λ q n v. place-elsewhere q v n (t q) (stands .places q v));
   }
 

@@ -8,12 +8,13 @@ use mathlib.Core.Option.{Option, none, some, Option·map}
 use Rattle.rolefile.specs.declared.Verdict.{Verdict}
 use Rattle.rolefile.specs.Ascii.{ascii}
 use Rattle.rolefile.specs.Form.{fine, refusal}
+use Rattle.rolefile.specs.Said.{assigned}
+use Rattle.policy.specs.Settings.{Settings, settings}
 use Rattle.policy.specs.Policy.{rLevel, wLevel, levelNumber}
 use Rattle.policy.specs.Verdict.{verdict}
 use Rattle.policy.specs.Flow.{flows, flowCircle}
-use Rattle.rolefile.specs.Said.{cards}
 use Rattle.monitor.specs.Runs.{Call, opens, takes, reads, writes}
-use Rattle.monitor.specs.Rules.{Sessions, noSessions, rule, next}
+use Rattle.monitor.specs.Rules.{Standing, begun, rule, next}
 
 -- each text as a line: its bytes, and byte 10
 unfoldable pub bytes : List String → List ℕ
@@ -24,8 +25,8 @@ bytes (text ∷ texts) = ascii text ++ (10 ∷ bytes texts)
 abbrev pub Row : Type 0
 Row = ℕ × ℕ × ℕ
 
-abbrev pub row : List ℕ → ℕ → Row
-row f r = (r, levelNumber (rLevel f r), levelNumber (wLevel f r))
+abbrev pub row : Settings → ℕ → Row
+row s r = (r, levelNumber (rLevel s r), levelNumber (wLevel s r))
 
 -- two roles, and whether the first flows to the second: a line F or none
 abbrev pub Flow : Type 0
@@ -36,9 +37,9 @@ abbrev pub Answered : Type 0
 Answered = Call × ℕ
 
 -- the rules' number of each call in turn, for a store as long as the file's cards
-unfoldable pub numbered : List ℕ → Sessions → List Answered → List Answered
-numbered f t [] = []
-numbered f t (x ∷ xs) = (x .0, rule f (64 * cards f) t (x .0)) ∷ numbered f (next f t (x .0)) xs
+unfoldable pub numbered : Settings → Standing → List Answered → List Answered
+numbered σ now [] = []
+numbered σ now (x ∷ xs) = (x .0, rule σ (64 * σ .cards) now (x .0)) ∷ numbered σ (next σ now (x .0)) xs
 
 -- the verdict on a file; and, as far as the document gives them, the rows of its roles, the role on a circle of flow, flows, and session calls
 pub record Findings : Type 0 where
@@ -52,10 +53,10 @@ pub record Findings : Type 0 where
 unfoldable pub findings : List ℕ → Findings → Findings
 findings f a = record {
   verdict = verdict f;
-  rows = map (λ x. row f (x .0)) (a .rows);
-  circle = Option·map (λ r. flowCircle f) (a .circle);
-  flows = map (λ x. (x .0, x .1, flows f (x .0) (x .1))) (a .flows);
-  calls = numbered f noSessions (a .calls);
+  rows = map (λ x. row (settings f) (x .0)) (a .rows);
+  circle = Option·map (λ r. flowCircle (settings f)) (a .circle);
+  flows = map (λ x. (x .0, x .1, flows (settings f) (x .0) (x .1))) (a .flows);
+  calls = numbered (settings f) (begun (assigned f)) (a .calls);
 }
 
 pub record Case : Type 0 where

@@ -7,8 +7,9 @@ use mathlib.Core.Bool.{Bool, _&&_, cond}
 use lib.Dec.{eqb}
 use Rattle.search.specs.Search.{among, some}
 use Rattle.roleset.specs.Row.{member, rowOf}
-use Rattle.rolefile.specs.Said.{labels, roles, users, cards, clearance}
-use Rattle.policy.specs.Policy.{dominates, may}
+use Rattle.order.specs.Closure.{Relation}
+use Rattle.policy.specs.Settings.{Settings}
+use Rattle.policy.specs.Policy.{may}
 use Rattle.policy.specs.Tables.{tableOf}
 use Rattle.monitor.specs.Session.{sound, labelsIn, rolesIn, usersIn, cardsIn, cleared, entitled, fitting}
 use Rattle.monitor.specs.Calls.{unless, ifDone}
@@ -42,19 +43,19 @@ pub record Cans (xs : List ℕ) (u l o m n figure : ℕ) : Type 0 where
 
 -- ---- by the file
 
--- the number of `monitor_can` on a state that a load of f and any calls left
-unfoldable pub canRule : List ℕ → ℕ → ℕ → ℕ → ℕ → ℕ
-canRule f u l o m =
-    unless (among (users f) u) 25
-    (unless (among (labels f) l) 25
-    (unless (among (cards f) o) 25
+-- the number of `monitor_can` on a state that a load of σ and any calls left
+unfoldable pub canRule : Settings → ℕ → ℕ → ℕ → ℕ → ℕ
+canRule σ u l o m =
+    unless (among (σ .users) u) 25
+    (unless (among (σ .labels) l) 25
+    (unless (among (σ .cards) o) 25
     (unless (among 2 m) 25
-    (unless (dominates f (clearance f u) l) 26
+    (unless (σ .dominates (σ .clearance u) l) 26
     0))))
 
 -- a role that the user may take at the label may read (m = 1) or write (m = 2) the card
-unfoldable pub couldByFile : List ℕ → ℕ → ℕ → ℕ → ℕ → Bool
-couldByFile f u l o m = some (roles f) (λ r. entitledByFile f u r && (fittingByFile f l r && may f m r o))
+unfoldable pub couldByFile : Settings → Relation → ℕ → ℕ → ℕ → ℕ → Bool
+couldByFile σ α u l o m = some (σ .roles) (λ r. entitledByFile σ α u r && (fittingByFile σ l r && may σ m r o))
 
 -- ---- by the session calls: a use of the card, of no bytes
 

@@ -8,8 +8,9 @@ use lib.Dec.{leb, eqb}
 use lib.ListN.{length}
 use Rattle.search.specs.Search as search
 use Rattle.search.specs.Search.{among}
-use Rattle.rolefile.specs.Said.{labels, roles, users, cards, clearance, assigned}
-use Rattle.policy.specs.Policy.{dominates, senior, may, rLevel, wLevel, passes}
+use Rattle.order.specs.Closure.{Relation}
+use Rattle.policy.specs.Settings.{Settings}
+use Rattle.policy.specs.Policy.{may, rLevel, wLevel, passes}
 use Rattle.monitor.specs.Calls.{unless, ifDone}
 use Rattle.monitor.specs.Runs.{Call, opens, closes, takes, drops, reads, writes}
 use Rattle.monitor.specs.Places.{Places, allFree, isFree, put}
@@ -29,6 +30,18 @@ Sessions = Places Session
 abbrev pub noSessions : Sessions
 noSessions = allFree
 
+-- what calls change and the rules go by, beside the settings: who is assigned to which role, and the session at each place
+pub record Standing : Type 0 where
+  pub assigned : Relation
+  pub sessions : Sessions
+
+abbrev pub stand : Relation → Sessions → Standing
+stand α t = record { assigned = α; sessions = t }
+
+-- at first there is no session
+abbrev pub begun : Relation → Standing
+begun α = stand α noSessions
+
 -- 24 where the place has no session; else what the rule says of the session
 abbrev pub sessionRule : Option Session → (Session → ℕ) → ℕ
 sessionRule none rule = 24
@@ -41,59 +54,59 @@ atSessionByFile t p rule = unless (among 64 p) 22 (sessionRule (t p) rule)
 -- ---- the rules, which `entitled`, `fitting` and `gives` of Session ask by the state's bytes
 
 -- "the user is assigned to it or to a senior of it"; a role is a senior of itself
-unfoldable pub entitledByFile : List ℕ → ℕ → ℕ → Bool
-entitledByFile f u r = search.some (roles f) (λ q. assigned f u q && senior f q r)
+unfoldable pub entitledByFile : Settings → Relation → ℕ → ℕ → Bool
+entitledByFile σ α u r = search.some (σ .roles) (λ q. α u q && σ .senior q r)
 
 -- "the session's label dominates its r-level, and its w-level dominates the session's label"
-unfoldable pub fittingByFile : List ℕ → ℕ → ℕ → Bool
-fittingByFile f l r = passes (dominates f l) (rLevel f r) && passes (λ a. dominates f a l) (wLevel f r)
+unfoldable pub fittingByFile : Settings → ℕ → ℕ → Bool
+fittingByFile σ l r = passes (σ .dominates l) (rLevel σ r) && passes (λ a. σ .dominates a l) (wLevel σ r)
 
 -- "A session may use the permissions of all roles it holds, inherited ones included": to read (m = 1) or write (m = 2) card o
-unfoldable pub givesByFile : List ℕ → ℕ → Session → ℕ → Bool
-givesByFile f m s o = search.some (roles f) (λ r. s .held r && may f m r o)
+unfoldable pub givesByFile : Settings → ℕ → Session → ℕ → Bool
+givesByFile σ m s o = search.some (σ .roles) (λ r. s .held r && may σ m r o)
 
 -- ---- the number of each call
 
-unfoldable pub openRule : List ℕ → Sessions → ℕ → ℕ → ℕ → ℕ
-openRule f t p u l =
+unfoldable pub openRule : Settings → Sessions → ℕ → ℕ → ℕ → ℕ
+openRule σ t p u l =
     unless (among 64 p) 22
     (unless (isFree (t p)) 23
-    (unless (among (users f) u) 25
-    (unless (among (labels f) l) 25
-    (unless (dominates f (clearance f u) l) 26
+    (unless (among (σ .users) u) 25
+    (unless (among (σ .labels) l) 25
+    (unless (σ .dominates (σ .clearance u) l) 26
     0))))
 
 unfoldable pub closeRule : Sessions → ℕ → ℕ
 closeRule t p = atSessionByFile t p (λ s. 0)
 
-unfoldable pub takeRule : List ℕ → Sessions → ℕ → ℕ → ℕ
-takeRule f t p r =
+unfoldable pub takeRule : Settings → Relation → Sessions → ℕ → ℕ → ℕ
+takeRule σ α t p r =
     atSessionByFile t p (λ s.
-    unless (among (roles f) r) 25
-    (unless (entitledByFile f (s .user) r) 27
-    (unless (fittingByFile f (s .label) r) 28
+    unless (among (σ .roles) r) 25
+    (unless (entitledByFile σ α (s .user) r) 27
+    (unless (fittingByFile σ (s .label) r) 28
     0)))
 
-unfoldable pub dropRule : List ℕ → Sessions → ℕ → ℕ → ℕ
-dropRule f t p r = atSessionByFile t p (λ s. unless (among (roles f) r) 25 0)
+unfoldable pub dropRule : Settings → Sessions → ℕ → ℕ → ℕ
+dropRule σ t p r = atSessionByFile t p (λ s. unless (among (σ .roles) r) 25 0)
 
 -- n bytes from offset k on of card o of a store of `size` bytes, to be read or written
-unfoldable pub partRule : List ℕ → ℕ → Sessions → ℕ → ℕ → ℕ → ℕ → ℕ → ℕ
-partRule f m t size p o k n =
+unfoldable pub partRule : Settings → ℕ → Sessions → ℕ → ℕ → ℕ → ℕ → ℕ → ℕ
+partRule σ m t size p o k n =
     atSessionByFile t p (λ s.
-    unless (among (cards f) o) 25
-    (unless (givesByFile f m s o) 29
+    unless (among (σ .cards) o) 25
+    (unless (givesByFile σ m s o) 29
     (unless (leb (k + n) 64) 30
-    (unless (leb (64 * cards f) size) 31
+    (unless (leb (64 * σ .cards) size) 31
     0))))
 
-unfoldable pub rule : List ℕ → ℕ → Sessions → Call → ℕ
-rule f size t (opens p u l) = openRule f t p u l
-rule f size t (closes p) = closeRule t p
-rule f size t (takes p r) = takeRule f t p r
-rule f size t (drops p r) = dropRule f t p r
-rule f size t (reads p o k n) = partRule f 1 t size p o k n
-rule f size t (writes p o k bytes) = partRule f 2 t size p o k (length bytes)
+unfoldable pub rule : Settings → ℕ → Standing → Call → ℕ
+rule σ size now (opens p u l) = openRule σ (now .sessions) p u l
+rule σ size now (closes p) = closeRule (now .sessions) p
+rule σ size now (takes p r) = takeRule σ (now .assigned) (now .sessions) p r
+rule σ size now (drops p r) = dropRule σ (now .sessions) p r
+rule σ size now (reads p o k n) = partRule σ 1 (now .sessions) size p o k n
+rule σ size now (writes p o k bytes) = partRule σ 2 (now .sessions) size p o k (length bytes)
 
 -- ---- the session at each place after a call
 
@@ -106,15 +119,20 @@ holding r s = record { user = s .user; label = s .label; held = λ q. s .held q 
 abbrev pub without : ℕ → Session → Session
 without r s = record { user = s .user; label = s .label; held = λ q. s .held q && not (eqb q r) }
 
-unfoldable pub next : List ℕ → Sessions → Call → Sessions
-next f t (opens p u l) = ifDone (openRule f t p u l) (put t p (some (sessionOf u l))) t
-next f t (closes p) = ifDone (closeRule t p) (put t p none) t
-next f t (takes p r) = ifDone (takeRule f t p r) (put t p (Option·map (holding r) (t p))) t
-next f t (drops p r) = ifDone (dropRule f t p r) (put t p (Option·map (without r) (t p))) t
-next f t (reads p o k n) = t
-next f t (writes p o k bytes) = t
+unfoldable pub sessionsAfter : Settings → Standing → Call → Sessions
+sessionsAfter σ now (opens p u l) = ifDone (openRule σ (now .sessions) p u l) (put (now .sessions) p (some (sessionOf u l))) (now .sessions)
+sessionsAfter σ now (closes p) = ifDone (closeRule (now .sessions) p) (put (now .sessions) p none) (now .sessions)
+sessionsAfter σ now (takes p r) = ifDone (takeRule σ (now .assigned) (now .sessions) p r) (put (now .sessions) p (Option·map (holding r) (now .sessions p))) (now .sessions)
+sessionsAfter σ now (drops p r) = ifDone (dropRule σ (now .sessions) p r) (put (now .sessions) p (Option·map (without r) (now .sessions p))) (now .sessions)
+sessionsAfter σ now (reads p o k n) = now .sessions
+sessionsAfter σ now (writes p o k bytes) = now .sessions
+
+-- ---- what the rules go by after a call
+
+abbrev pub next : Settings → Standing → Call → Standing
+next σ now c = stand (now .assigned) (sessionsAfter σ now c)
 
 -- after a list of calls
-unfoldable pub sessions : List ℕ → Sessions → List Call → Sessions
-sessions f t [] = t
-sessions f t (c ∷ cs) = sessions f (next f t c) cs
+unfoldable pub standing : Settings → Standing → List Call → Standing
+standing σ now [] = now
+standing σ now (c ∷ cs) = standing σ (next σ now c) cs

@@ -15,19 +15,19 @@ use Rattle.order.specs.Bound.{converse}
 use Rattle.rolefile.specs.declared.Verdict.{Verdict}
 use Rattle.rolefile.specs.Line.{A, lineAt, lines}
 use Rattle.rolefile.specs.Form.{refusal, header, scan}
-use Rattle.rolefile.specs.Said.{labels, over, clearance}
+use Rattle.rolefile.specs.Said.{labels, clearance}
 use Rattle.rolefile.specs.Section.{part, one, two}
 use Rattle.rolefile.specs.WellFormed.{GoodCounts, GoodLines}
 use Rattle.rolefile.proofs.Verdicts.{Clean, unless-clean}
 use Rattle.rolefile.proofs.Sections.{Section, told}
 use Rattle.rolefile.proofs.Within.{scan-within}
 use Rattle.policy.specs.Policy.{Level, Free, Label, Undefined}
-use Rattle.policy.specs.Policy.{dominates, mayAt, level, rLevel, wLevel, passes, isDefined, levelNumber}
+use Rattle.policy.specs.Settings.{Inside, Settings, dominates, settings}
+use Rattle.policy.specs.Policy.{mayAt, level, rLevel, wLevel, passes, isDefined, levelNumber}
 use Rattle.policy.specs.Tables.{clearancesAt, rLevelsAt, wLevelsAt, byteOf, marked, assignByTables, passesIn, markAt}
 use Rattle.policy.specs.Image.{Labelled, Dominating, Levelled}
 use Rattle.policy.specs.Verdict.{assignVerdict, assignmentVerdict}
 use Rattle.policy.proofs.Readying.{one-within, two-within, limits-a}
-use Rattle.policy.proofs.Inside.{Between, closure-between}
 use Rattle.policy.proofs.Levels.{Tells, level-tells}
 use Rattle.policy.proofs.Checks.{assignment-clean}
 
@@ -62,63 +62,61 @@ module _ (n : ℕ) (ge : Relation) (s : ℕ → Bool) (few : n ≤ 32) where
 
 -- ---- the tables' verdict
 
-module _ (f ys : List ℕ) (counts : GoodCounts (header f)) (between : Between (labels f) (over f)) (dominating : Dominating f ys) where
+module _ (σ : Settings) (ys : List ℕ) (few : σ .labels ≤ 32) (inside : Inside (σ .labels) (σ .dominates)) (dominating : Dominating σ ys) where
   abbrev byte : ℕ → ℕ → ℕ
   byte a b = getD ys (markAt a b) 0
 
-  marks-byte : (a b : ℕ) → Among 32 a → Among 32 b → eqb (byte a b) 1 ≡ (leb a (labels f) && dominates f a b)
-  marks-byte a b v w = rw (dominating a b v w) (go (leb a (labels f) && dominates f a b))
+  marks-byte : (a b : ℕ) → Among 32 a → Among 32 b → eqb (byte a b) 1 ≡ (leb a (σ .labels) && σ .dominates a b)
+  marks-byte a b v w = rw (dominating a b v w) (go (leb a (σ .labels) && σ .dominates a b))
     where
       go : (m : Bool) → eqb (cond m 1 0) 1 ≡ m
       go true = refl
       go false = refl
 
   -- dominance by the bytes, where one of the two is a label
-  pub marked-is : (a b : ℕ) → Among (labels f) a ⊎ Among (labels f) b → marked ys a b ≡ dominates f a b
-  unfolding dominates
-  marked-is a b one = same (marked ys a b) (dominates f a b) to of
+  pub marked-is : (a b : ℕ) → Among (σ .labels) a ⊎ Among (σ .labels) b → marked ys a b ≡ σ .dominates a b
+  marked-is a b one = same (marked ys a b) (σ .dominates a b) to of
     where
-      to : marked ys a b ≡ true → dominates f a b ≡ true
+      to : marked ys a b ≡ true → σ .dominates a b ≡ true
       to h =
           let (v, g) = and-iff (among 32 a) (among 32 b && eqb (byte a b) 1) .0 h in
           let (w, e) = and-iff (among 32 b) (eqb (byte a b) 1) .0 g in
-          and-iff (leb a (labels f)) (dominates f a b) .0 (sym (marks-byte a b (among-iff 32 a .0 v) (among-iff 32 b .0 w)) ∙ e) .1
+          and-iff (leb a (σ .labels)) (σ .dominates a b) .0 (sym (marks-byte a b (among-iff 32 a .0 v) (among-iff 32 b .0 w)) ∙ e) .1
 
-      both : dominates f a b ≡ true → Among (labels f) a × Among (labels f) b
+      both : σ .dominates a b ≡ true → Among (σ .labels) a × Among (σ .labels) b
       both h =
           ⊎-elim
           (λ i. ⊎-elim (λ v. (v, rw i at v)) (λ w. (rw i w, w)) one)
           (λ vw. vw)
-          (closure-between (labels f) (over f) between a b h)
+          (inside a b h)
 
-      of : dominates f a b ≡ true → marked ys a b ≡ true
+      of : σ .dominates a b ≡ true → marked ys a b ≡ true
       of h =
           let (v, w) = both h in
-          let few = counts .labels in
           let i : Among 32 a = omega arith in
           let j : Among 32 b = omega arith in
-          rw (among-iff 32 a .1 i, among-iff 32 b .1 j, marks-byte a b i j, le-leb a (labels f) (v .1)) h
+          rw (among-iff 32 a .1 i, among-iff 32 b .1 j, marks-byte a b i j, le-leb a (σ .labels) (v .1)) h
 
   -- a role's levels by the bytes: whether the w-level is defined, and both at label l
-  defined-test : (r : ℕ) → not (eqb (levelNumber (wLevel f r)) 99) ≡ isDefined (wLevel f r)
+  defined-test : (r : ℕ) → not (eqb (levelNumber (wLevel σ r)) 99) ≡ isDefined (wLevel σ r)
   unfolding wLevel
-  defined-test r = defined-number (labels f) (converse (dominates f)) (mayAt f 2 r) (counts .labels .1)
+  defined-test r = defined-number (σ .labels) (converse (σ .dominates)) (mayAt σ 2 r) few
 
   module _ (l r : ℕ) where
-    pub reads-test : passesIn ys (levelNumber (rLevel f r)) l (levelNumber (rLevel f r)) ≡ passes (dominates f l) (rLevel f r)
+    pub reads-test : passesIn ys (levelNumber (rLevel σ r)) l (levelNumber (rLevel σ r)) ≡ passes (σ .dominates l) (rLevel σ r)
     unfolding rLevel
     reads-test =
-        passes-number (labels f) (dominates f) (mayAt f 1 r) (counts .labels .1) (marked ys l) (dominates f l)
+        passes-number (σ .labels) (σ .dominates) (mayAt σ 1 r) few (marked ys l) (σ .dominates l)
         (and-false (among 32 l)) (λ a i. marked-is l a (inr i))
 
-    pub writes-test : passesIn ys (levelNumber (wLevel f r)) (levelNumber (wLevel f r)) l ≡ passes (λ a. dominates f a l) (wLevel f r)
+    pub writes-test : passesIn ys (levelNumber (wLevel σ r)) (levelNumber (wLevel σ r)) l ≡ passes (λ a. σ .dominates a l) (wLevel σ r)
     unfolding wLevel
     writes-test =
-        passes-number (labels f) (converse (dominates f)) (mayAt f 2 r) (counts .labels .1) (λ a. marked ys a l) (λ a. dominates f a l)
+        passes-number (σ .labels) (converse (σ .dominates)) (mayAt σ 2 r) few (λ a. marked ys a l) (λ a. σ .dominates a l)
         refl (λ a i. marked-is a l (inl i))
 
-  module _ (labelled : Labelled f ys) (levelled : Levelled f ys) where
-    pub tables-verdict : (u r : ℕ) → Among 256 u → Among 128 r → assignByTables ys u r ≡ assignVerdict f u r
+  module _ (labelled : Labelled σ ys) (levelled : Levelled σ ys) where
+    pub tables-verdict : (u r : ℕ) → Among 256 u → Among 128 r → assignByTables ys u r ≡ assignVerdict σ u r
     unfolding assignByTables assignVerdict
     tables-verdict u r v w =
         rw (
@@ -126,8 +124,8 @@ module _ (f ys : List ℕ) (counts : GoodCounts (header f)) (between : Between (
           levelled .reads r w,
           levelled .writes r w,
           defined-test r,
-          reads-test (clearance f u) r,
-          writes-test (clearance f u) r,
+          reads-test (σ .clearance u) r,
+          writes-test (σ .clearance u) r,
         )
 
 -- ---- the assignments of a file, by the section of its A lines
@@ -142,7 +140,7 @@ module _ (f : List ℕ) (good : GoodLines f) (counts : GoodCounts (header f)) {j
       omega arith
 
   -- v says of a user and a role what the file does
-  pub scan-assignments : (v : ℕ → ℕ → Verdict) → ((u r : ℕ) → Among 256 u → Among 128 r → v u r ≡ assignVerdict f u r)
+  pub scan-assignments : (v : ℕ → ℕ → Verdict) → ((u r : ℕ) → Among 256 u → Among 128 r → v u r ≡ assignVerdict (settings f) u r)
       → scan m (λ i. v (one (part f j) i) (two (part f j) i)) ≡ scan (lines f) (assignmentVerdict f)
   unfolding assignmentVerdict
   scan-assignments v agree =

@@ -19,7 +19,8 @@ use Rattle.rolefile.specs.Said.{labels, clearance}
 use Rattle.rolefile.proofs.Verdicts.{Clean, unless-clean}
 use Rattle.rolefile.proofs.Decides.{Decides, Else, Fails, decides-as}
 use Rattle.rolefile.proofs.Decides.{cond-decides, fine-decides, test-decides, unless-decides, found-decides, search-decides}
-use Rattle.policy.specs.Policy.{dominates, mayAt, rLevel, wLevel, passes, isDefined}
+use Rattle.policy.specs.Settings.{Settings, dominates, settings}
+use Rattle.policy.specs.Policy.{mayAt, rLevel, wLevel, passes, isDefined}
 use Rattle.policy.specs.Verdict.{assignVerdict, assignmentVerdict, pairVerdict}
 use Rattle.policy.specs.Accepted.{ReadsUnder, WritesOver, NoWriteLevel, WithinLevels, GoodOrder, GoodAssignment, LowestOnCircle, AssignRefused, noLevel, readsMore, writesLess}
 use Rattle.policy.proofs.Levels.{defined-iff, without-bound, passing-bounded, reads-under-iff, writes-over-iff}
@@ -85,59 +86,60 @@ module _ (n : ℕ) (ge : Relation) where
 
 -- ---- 14 to 16
 
-abbrev AssignRefusal : List ℕ → ℕ → ℕ → Verdict → Type 0
-AssignRefusal f u r v = (n : ℕ) × AssignRefused f u r n × (v ≡ refusal n u r)
+abbrev AssignRefusal : Settings → ℕ → ℕ → Verdict → Type 0
+AssignRefusal σ u r v = (n : ℕ) × AssignRefused σ u r n × (v ≡ refusal n u r)
 
 -- for line i, where it is an assignment
 abbrev pub AssignmentRefusal : List ℕ → ℕ → Verdict → Type 0
-AssignmentRefusal f i v = (lineAt f i .letter ≡ A) × AssignRefusal f (lineAt f i .a) (lineAt f i .b) v
+AssignmentRefusal f i v = (lineAt f i .letter ≡ A) × AssignRefusal (settings f) (lineAt f i .a) (lineAt f i .b) v
 
-module _ (f : List ℕ) (o : PartialOrder (labels f) (dominates f)) where
-  assign-decides : (u r : ℕ) → Decides (assignVerdict f u r) (WithinLevels f u r) (AssignRefusal f u r)
+module _ (σ : Settings) (o : PartialOrder (σ .labels) (σ .dominates)) where
+  assign-decides : (u r : ℕ) → Decides (assignVerdict σ u r) (WithinLevels σ u r) (AssignRefusal σ u r)
   unfolding assignVerdict rLevel wLevel
   assign-decides u r =
       decides-as
-      (unless-decides (defined-iff (labels f) (converse (dominates f)) (mayAt f 2 r)) (refusal 14 u r) (omega arith) (λ d.
-      unless-decides (reads-under-iff f o (clearance f u) r) (refusal 15 u r) (omega arith) (λ p.
-      test-decides (writes-over-iff f o (clearance f u) r) (refusal 16 u r) (omega arith)))) (
+      (unless-decides (defined-iff (σ .labels) (converse (σ .dominates)) (mayAt σ 2 r)) (refusal 14 u r) (omega arith) (λ d.
+      unless-decides (reads-under-iff σ o (σ .clearance u) r) (refusal 15 u r) (omega arith) (λ p.
+      test-decides (writes-over-iff σ o (σ .clearance u) r) (refusal 16 u r) (omega arith)))) (
         λ (d, (p, q)). record { reads = p; writes = q },
-        λ a. (passing-bounded (labels f) (converse (dominates f)) (mayAt f 2 r) writes (a .writes), (a .reads, a .writes)),
+        λ a. (passing-bounded (σ .labels) (converse (σ .dominates)) (mayAt σ 2 r) writes (a .writes), (a .reads, a .writes)),
       )
       (λ v. (to v, λ (n, b, e). of b v e))
     where
       writes : ℕ → Bool
-      writes l = dominates f l (clearance f u)
+      writes l = σ .dominates l (σ .clearance u)
 
       Why : Verdict → Type 0
-      Why = Else (Fails (NoWriteLevel f r → ⊥) (refusal 14 u r)) (NoWriteLevel f r → ⊥)
-          (Else (Fails (ReadsUnder f (clearance f u) r) (refusal 15 u r)) (ReadsUnder f (clearance f u) r) (Fails (WritesOver f (clearance f u) r) (refusal 16 u r)))
+      Why = Else (Fails (NoWriteLevel σ r → ⊥) (refusal 14 u r)) (NoWriteLevel σ r → ⊥)
+          (Else (Fails (ReadsUnder σ (σ .clearance u) r) (refusal 15 u r)) (ReadsUnder σ (σ .clearance u) r) (Fails (WritesOver σ (σ .clearance u) r) (refusal 16 u r)))
 
-      to : (v : Verdict) → Why v → AssignRefusal f u r v
-      to v (inl (d, e)) = (14, noLevel (without-bound (labels f) (converse (dominates f)) (mayAt f 2 r) d), e)
+      to : (v : Verdict) → Why v → AssignRefusal σ u r v
+      to v (inl (d, e)) = (14, noLevel (without-bound (σ .labels) (converse (σ .dominates)) (mayAt σ 2 r) d), e)
       to v (inr (d, inl (h, e))) = (15, readsMore d h, e)
       to v (inr (d, inr (p, (h, e)))) = (16, writesLess d p h, e)
 
-      of : {n : ℕ} → AssignRefused f u r n → (v : Verdict) → v ≡ refusal n u r → Why v
+      of : {n : ℕ} → AssignRefused σ u r n → (v : Verdict) → v ≡ refusal n u r → Why v
       of (noLevel b) v e = inl (λ d. d b, e)
       of (readsMore d h) v e = inr (d, inl (h, e))
       of (writesLess d p h) v e = inr (d, inr (p, (h, e)))
 
+module _ (f : List ℕ) (o : PartialOrder (labels f) (dominates f)) where
   pub assignment-decides : (i : ℕ) → Decides (assignmentVerdict f i) (GoodAssignment f i) (AssignmentRefusal f i)
   unfolding assignmentVerdict
   assignment-decides i =
       decides-as
-      (cond-decides (assign-decides (lineAt f i .a) (lineAt f i .b)) (eqb-iff (lineAt f i .letter) A) fine-decides)
+      (cond-decides (assign-decides (settings f) o (lineAt f i .a) (lineAt f i .b)) (eqb-iff (lineAt f i .letter) A) fine-decides)
       (λ (g, u). g, λ g. (g, λ n. tt))
       (λ x. (⊎-elim (λ r. r) (λ (n, none). absurd none), inl))
 
 -- whatever dominance is, the number 0 stands with no place
+pub assign-clean : (σ : Settings) (u r : ℕ) → Clean (assignVerdict σ u r)
+unfolding assignVerdict
+assign-clean σ u r =
+    unless-clean (isDefined (wLevel σ r)) (refusal 14 u r) (omega arith)
+    (unless-clean (passes (λ l. σ .dominates (σ .clearance u) l) (rLevel σ r)) (refusal 15 u r) (omega arith)
+    (unless-clean (passes (λ l. σ .dominates l (σ .clearance u)) (wLevel σ r)) (refusal 16 u r) (omega arith) (λ e. refl)))
+
 pub assignment-clean : (f : List ℕ) (i : ℕ) → Clean (assignmentVerdict f i)
-unfolding assignmentVerdict assignVerdict
-assignment-clean f i =
-    let u = lineAt f i .a in
-    let r = lineAt f i .b in
-    either Clean (eqb (lineAt f i .letter) A) (assignVerdict f u r) fine
-    (unless-clean (isDefined (wLevel f r)) (refusal 14 u r) (omega arith)
-    (unless-clean (passes (λ l. dominates f (clearance f u) l) (rLevel f r)) (refusal 15 u r) (omega arith)
-    (unless-clean (passes (λ l. dominates f l (clearance f u)) (wLevel f r)) (refusal 16 u r) (omega arith) (λ e. refl))))
-    (λ e. refl)
+unfolding assignmentVerdict
+assignment-clean f i = either Clean (eqb (lineAt f i .letter) A) _ fine (assign-clean (settings f) (lineAt f i .a) (lineAt f i .b)) (λ e. refl)

@@ -1,41 +1,42 @@
--- Which levels of an ordered file are defined: every r-level, and the w-level of a role that writes nothing or whose labels written have a lower bound in common.
+-- Which levels of ordered settings are defined: every r-level, and the w-level of a role that writes nothing or whose labels written have a lower bound in common.
 -- Assumes nothing.
 use Prim.Native.Nat.{ℕ}
 use mathlib.Core.Path.{_≡_}
 use mathlib.Core.Logic.{_↔_, _⊎_, inl, inr, ⊎-elim}
-use mathlib.Core.List.{List}
 use mathlib.Core.Bool.{true, false≢true}
 use Rattle.search.specs.Search.{Among}
-use Rattle.order.specs.Bound.{converse, Lower}
+use Rattle.order.specs.Closure.{PartialOrder}
+use Rattle.order.specs.Bound.{converse, AllJoined, Lower}
 use Rattle.order.proofs.Lattice.{lub-of-set, glb-iff-lower}
 use Rattle.rolefile.specs.Said.{labels}
 use Rattle.policy.specs.Policy.{Level, Free, Label, Undefined}
-use Rattle.policy.specs.Policy.{dominates, mayAt, level, rLevel, wLevel, isDefined}
-use Rattle.policy.specs.Accepted.{Some, Ordered}
+use Rattle.policy.specs.Settings.{Settings, dominates}
+use Rattle.policy.specs.Policy.{mayAt, level, rLevel, wLevel, isDefined}
+use Rattle.policy.specs.Accepted.{Some}
 use Rattle.policy.proofs.Levels.{Tells, level-tells, defined-iff}
 
-module _ (f : List ℕ) (o : Ordered f) (r : ℕ) where
-  pub r-level-defined : isDefined (rLevel f r) ≡ true
+module _ (σ : Settings) (order : PartialOrder (σ .labels) (σ .dominates)) (joins : AllJoined (σ .labels) (σ .dominates)) (r : ℕ) where
+  pub r-level-defined : isDefined (rLevel σ r) ≡ true
   unfolding rLevel
   r-level-defined =
-      defined-iff (labels f) (dominates f) (mayAt f 1 r) .1 (λ ((l, w, e), none).
-      let (c, b) = lub-of-set (labels f) (dominates f) (o .dominance .order) (o .joins) (mayAt f 1 r) l w e in
+      defined-iff (σ .labels) (σ .dominates) (mayAt σ 1 r) .1 (λ ((l, w, e), none).
+      let (c, b) = lub-of-set (σ .labels) (σ .dominates) order joins (mayAt σ 1 r) l w e in
       none c b)
 
   -- a label that every label which r may write dominates
   abbrev pub WrittenOver : ℕ → Type 0
-  WrittenOver = Lower (labels f) (dominates f) (mayAt f 2 r)
+  WrittenOver = Lower (σ .labels) (σ .dominates) (mayAt σ 2 r)
 
-  pub w-level-defined : (isDefined (wLevel f r) ≡ true) ↔ ((Some (labels f) (mayAt f 2 r) → ⊥) ⊎ ((d : ℕ) × Among (labels f) d × WrittenOver d))
+  pub w-level-defined : (isDefined (wLevel σ r) ≡ true) ↔ ((Some (σ .labels) (mayAt σ 2 r) → ⊥) ⊎ ((d : ℕ) × Among (σ .labels) d × WrittenOver d))
   unfolding wLevel
   w-level-defined = (
-    bounded (level (labels f) (converse (dominates f)) (mayAt f 2 r)) (level-tells (labels f) (converse (dominates f)) (mayAt f 2 r)),
-    λ h. defined-iff (labels f) (converse (dominates f)) (mayAt f 2 r) .1 (λ (some, none).
-        ⊎-elim (λ empty. empty some) (λ d. let (c, b) = glb-iff-lower (labels f) (dominates f) (o .dominance .order) (o .joins) (mayAt f 2 r) .1 d in none c b) h),
+    bounded (level (σ .labels) (converse (σ .dominates)) (mayAt σ 2 r)) (level-tells (σ .labels) (converse (σ .dominates)) (mayAt σ 2 r)),
+    λ h. defined-iff (σ .labels) (converse (σ .dominates)) (mayAt σ 2 r) .1 (λ (some, none).
+        ⊎-elim (λ empty. empty some) (λ d. let (c, b) = glb-iff-lower (σ .labels) (σ .dominates) order joins (mayAt σ 2 r) .1 d in none c b) h),
   )
     where
-      bounded : (l : Level) → Tells (labels f) (converse (dominates f)) (mayAt f 2 r) l → isDefined l ≡ true
-          → (Some (labels f) (mayAt f 2 r) → ⊥) ⊎ ((d : ℕ) × Among (labels f) d × WrittenOver d)
+      bounded : (l : Level) → Tells (σ .labels) (converse (σ .dominates)) (mayAt σ 2 r) l → isDefined l ≡ true
+          → (Some (σ .labels) (mayAt σ 2 r) → ⊥) ⊎ ((d : ℕ) × Among (σ .labels) d × WrittenOver d)
       bounded Free t e = inl t
-      bounded (Label c) (some, b) e = inr (glb-iff-lower (labels f) (dominates f) (o .dominance .order) (o .joins) (mayAt f 2 r) .0 (c, b))
+      bounded (Label c) (some, b) e = inr (glb-iff-lower (σ .labels) (σ .dominates) order joins (mayAt σ 2 r) .0 (c, b))
       bounded Undefined t e = absurd (false≢true e)

@@ -17,7 +17,7 @@ use Rattle.rolefile.specs.Said.{labels, over}
 use Rattle.rolefile.specs.Section.{part}
 use Rattle.rolefile.proofs.Sections.{Section, says-two}
 use Rattle.rolefile.specs.WellFormed.{GoodLines}
-use Rattle.policy.specs.Policy.{dominates}
+use Rattle.policy.specs.Settings.{dominates}
 use Rattle.policy.specs.Tables.{Marking}
 use Rattle.policy.specs.Verdict.{orderVerdict, labelVerdict, pairVerdict}
 use Rattle.policy.specs.Stages.{Paths, Closed}

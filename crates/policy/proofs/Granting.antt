@@ -26,7 +26,8 @@ use Rattle.rolefile.specs.Section.{part, one, two, three}
 use Rattle.rolefile.specs.WellFormed.{GoodCounts, GoodLines}
 use Rattle.rolefile.proofs.Sections.{Section, says-three}
 use Rattle.policy.specs.declared.build.Parts.{Parts}
-use Rattle.policy.specs.Policy.{dominates, senior, may, mayAt, level, rLevel, wLevel, levelNumber}
+use Rattle.policy.specs.Settings.{dominates, senior, settings}
+use Rattle.policy.specs.Policy.{may, mayAt, level, rLevel, wLevel, levelNumber}
 use Rattle.policy.specs.Tables.{rLevelsAt, wLevelsAt, seniorsAt, readersAt, writersAt, byteOf, markAt, DominanceRows}
 use Rattle.policy.specs.Tables.{lineGrants, grantedByLines, brings, gathered, Bytes, GrantedRows}
 use Rattle.policy.specs.Image.{Labelled, Seniors, Permitting, Allows}
@@ -55,14 +56,14 @@ by-line n m x t u inside =
     let (i, v, c, d) = some-both (λ i. eqb (x i) q) u m .0 b in
     lines .1 (i, v, d, rw (eqb-true (x i) q c) a))
 
-module _ (f xs : List ℕ) (good : GoodLines f) (few : roles f ≤ 128) (seniors : Seniors f xs) {j m : ℕ} (s : Section f P j m) where
+module _ (f xs : List ℕ) (good : GoodLines f) (few : roles f ≤ 128) (seniors : Seniors (settings f) xs) {j m : ℕ} (s : Section f P j m) where
   role-within : (i : ℕ) → Among m i → Among (roles f) (one (part f j) i)
   role-within i w = rw (limits-p (header f) .0) at (one-within f good s (omega arith) i w)
 
   senior-row : (q r : ℕ) → Among (roles f) q → Among 128 r → (among 128 q && member xs (rowOf seniorsAt q) r) ≡ senior f r q
   senior-row q r v w = rw (among-iff 128 q .1 (omega arith), seniors q r (omega arith) w, le-leb q (roles f) (v .1))
 
-  may-is : (d o r : ℕ) → Among 128 r → grantedByLines xs (part f j) m d o r ≡ may f d r o
+  may-is : (d o r : ℕ) → Among 128 r → grantedByLines xs (part f j) m d o r ≡ may (settings f) d r o
   unfolding grantedByLines may
   may-is d o r w =
       some-agree
@@ -81,7 +82,7 @@ module _ (f xs : List ℕ) (good : GoodLines f) (few : roles f ≤ 128) (seniors
       line : ℕ → Bool
       line i = eqb (two p i) o && eqb (three p i) d
 
-  pub permitted : (ys : List ℕ) → GrantedRows (grantedByLines xs (part f j) m) xs ys → Zeros readersAt 28688 xs → Permitting f ys
+  pub permitted : (ys : List ℕ) → GrantedRows (grantedByLines xs (part f j) m) xs ys → Zeros readersAt 28688 xs → Permitting (settings f) ys
   permitted ys g zeros = record {
     readers = λ o r v w. unites-zeros readersAt 512 _ xs ys (g .rows 1 (omega arith)) (λ i l m. zeros i l (omega arith)) o r v w ∙ may-is 1 o r w;
     writers = λ o r v w. unites-zeros writersAt 512 _ xs ys (g .rows 2 (omega arith)) (λ i l m. zeros i (omega arith) m) o r v w ∙ may-is 2 o r w;
@@ -89,16 +90,16 @@ module _ (f xs : List ℕ) (good : GoodLines f) (few : roles f ≤ 128) (seniors
 
 -- ---- levels
 
-may-at-is : (f xs : List ℕ) → cards f ≤ 512 → Labelled f xs → (d at : ℕ) → Allows f d at xs
-    → (l r : ℕ) → Among 128 r → gathered xs at (cards f) l r ≡ mayAt f d r l
+may-at-is : (f xs : List ℕ) → cards f ≤ 512 → Labelled (settings f) xs → (d at : ℕ) → Allows (settings f) d at xs
+    → (l r : ℕ) → Among 128 r → gathered xs at (cards f) l r ≡ mayAt (settings f) d r l
 unfolding gathered mayAt
 may-at-is f xs few labelled d at allows l r w =
     some-agree
     (brings xs at l r)
-    (λ o. may f d r o && eqb (cardLabel f o) l)
+    (λ o. may (settings f) d r o && eqb (cardLabel f o) l)
     (cards f) (λ o v.
     let u : Among 512 o = omega arith in
-    rw (labelled .cards o u, allows o r u w) (and-comm (eqb (cardLabel f o) l) (may f d r o)))
+    rw (labelled .cards o u, allows o r u w) (and-comm (eqb (cardLabel f o) l) (may (settings f) d r o)))
 
 -- a number past the roles is no role's, and so may do nothing
 module _ (f : List ℕ) (between : Between (roles f) (above f)) (r : ℕ) (past : roles f < r) where
@@ -107,24 +108,24 @@ module _ (f : List ℕ) (between : Between (roles f) (above f)) (r : ℕ) (past 
   no-junior q w =
       untrue (senior f r q) (λ e. ⊎-elim (λ i. omega arith) (λ v. omega arith) (closure-between (roles f) (above f) between r q e))
 
-  no-card : (d o : ℕ) → may f d r o ≡ false
+  no-card : (d o : ℕ) → may (settings f) d r o ≡ false
   unfolding may
   no-card d o = some-none (λ q. senior f r q && permits f d q o) (roles f) .1 (λ q w. rw (no-junior q w))
 
-  no-label : (d l : ℕ) → mayAt f d r l ≡ false
+  no-label : (d l : ℕ) → mayAt (settings f) d r l ≡ false
   unfolding mayAt
-  no-label d l = some-none (λ o. may f d r o && eqb (cardLabel f o) l) (cards f) .1 (λ o w. rw (no-card d o))
+  no-label d l = some-none (λ o. may (settings f) d r o && eqb (cardLabel f o) l) (cards f) .1 (λ o w. rw (no-card d o))
 
-  free-past : (n d : ℕ) (ge : Relation) → 0 ≡ levelNumber (level n ge (mayAt f d r))
-  free-past n d ge = level-empty n ge (mayAt f d r) (some-none (mayAt f d r) n .1 (λ l w. no-label d l))
+  free-past : (n d : ℕ) (ge : Relation) → 0 ≡ levelNumber (level n ge (mayAt (settings f) d r))
+  free-past n d ge = level-empty n ge (mayAt (settings f) d r) (some-none (mayAt (settings f) d r) n .1 (λ l w. no-label d l))
 
 -- a table of levels: the roles' are stored, and the others stay 0
 module _ (f : List ℕ) (counts : GoodCounts (header f)) (between : Between (roles f) (above f)) (d at : ℕ) (ge le : Relation) (g xs ys : List ℕ) where
   levels-are : Agree (labels f) (labels f) ge le
-      → Agree 32 128 (related g 0) (λ l r. mayAt f d r l)
+      → Agree 32 128 (related g 0) (λ l r. mayAt (settings f) d r l)
       → Bytes at (roles f) (λ r. levelNumber (level (labels f) ge (λ l. member g (rowOf 0 l) r))) xs ys
       → Zeros at (at + 128) xs
-      → (r : ℕ) → Among 128 r → byteOf ys at r ≡ levelNumber (level (labels f) le (mayAt f d r))
+      → (r : ℕ) → Among 128 r → byteOf ys at r ≡ levelNumber (level (labels f) le (mayAt (settings f) d r))
   levels-are order set put zeros r w = elim (decLt (roles f) r) [
     | yes l ↦
         put .rest (at + (r - 1)) (λ m. omega arith)
@@ -132,13 +133,13 @@ module _ (f : List ℕ) (counts : GoodCounts (header f)) (between : Between (rol
         ∙ free-past f between r l (labels f) d le
     | no l ↦
         put .bytes r (omega arith)
-        ∙ ap levelNumber (level-agree (labels f) ge le (λ l. member g (rowOf 0 l) r) (mayAt f d r) order (λ l v. set l r (omega (arith, counts .labels)) w))
+        ∙ ap levelNumber (level-agree (labels f) ge le (λ l. member g (rowOf 0 l) r) (mayAt (settings f) d r) order (λ l v. set l r (omega (arith, counts .labels)) w))
   ]
 
 -- ---- the whole stage, from x₀: the table of dominance, the lines' permissions, the levels of reading and those of writing
 
 module _ (f : List ℕ) (q : Parts) (h : Line) (t up : List (List Bool)) (x₀ x₁ x₂ x₃ x₄ reading writing : List ℕ) (ready : Ready f q h)
-    (labelled : Labelled f x₀) (seniors : Seniors f x₀) (closed : Closed f t) (no-level : Zeros 1808 2064 x₀) (no-role : Zeros 12304 28688 x₀)
+    (labelled : Labelled (settings f) x₀) (seniors : Seniors (settings f) x₀) (closed : Closed f t) (no-level : Zeros 1808 2064 x₀) (no-role : Zeros 12304 28688 x₀)
     (put : DominanceRows 32 t x₀ x₁)
     (grants : GrantedRows (grantedByLines x₁ (part f (q .p .start)) (q .p .count)) x₁ x₂)
     (turns : Agree 32 32 (mark up) (converse (mark t)))
@@ -163,21 +164,21 @@ module _ (f : List ℕ) (q : Parts) (h : Line) (t up : List (List Bool)) (x₀ x
   kept₄ = kept-wider x₃ x₄ (rw (ready .head) (omega (arith, counts .roles))) (write-levels .rest)
 
   -- what stands in each state
-  permitting₂ : Permitting f x₂
+  permitting₂ : Permitting (settings f) x₂
   permitting₂ =
       permitted f x₁ (good-of f (ready .lines)) (counts .roles)
-      (seniors-stay f x₀ x₁ (λ i l m. kept i (λ n. omega arith)) seniors)
+      (seniors-stay (settings f) x₀ x₁ (λ i l m. kept i (λ n. omega arith)) seniors)
       (p-lines f q (ready .lines) (ready .laid) .0) x₂ grants
       (λ i l m. kept i (λ n. omega arith) ∙ no-role i l m)
 
-  permitting₃ : Permitting f x₃
-  permitting₃ = permitting-stays f x₂ x₃ (λ i l m. kept₃ i (λ n. omega arith)) permitting₂
+  permitting₃ : Permitting (settings f) x₃
+  permitting₃ = permitting-stays (settings f) x₂ x₃ (λ i l m. kept₃ i (λ n. omega arith)) permitting₂
 
-  labelled₂ : Labelled f x₂
-  labelled₂ = labelled-stays f x₀ x₂ (λ i l m. grants .rest i (λ n. omega arith) ∙ kept i (λ n. omega arith)) labelled
+  labelled₂ : Labelled (settings f) x₂
+  labelled₂ = labelled-stays (settings f) x₀ x₂ (λ i l m. grants .rest i (λ n. omega arith) ∙ kept i (λ n. omega arith)) labelled
 
-  labelled₃ : Labelled f x₃
-  labelled₃ = labelled-stays f x₂ x₃ (λ i l m. kept₃ i (λ n. omega arith)) labelled₂
+  labelled₃ : Labelled (settings f) x₃
+  labelled₃ = labelled-stays (settings f) x₂ x₃ (λ i l m. kept₃ i (λ n. omega arith)) labelled₂
 
   zeros₂ : Zeros 1808 2064 x₂
   zeros₂ i l m = grants .rest i (λ n. omega arith) ∙ kept i (λ n. omega arith) ∙ no-level i l m
@@ -186,7 +187,7 @@ module _ (f : List ℕ) (q : Parts) (h : Line) (t up : List (List Bool)) (x₀ x
   upward : Agree (labels f) (labels f) (converse (mark up)) (dominates f)
   upward a b v w = turns b a (omega (arith, counts .labels)) (omega (arith, counts .labels)) ∙ closed-agree f t (counts .labels .1) closed a b v w
 
-  read₃ : (r : ℕ) → Among 128 r → byteOf x₃ rLevelsAt r ≡ levelNumber (rLevel f r)
+  read₃ : (r : ℕ) → Among 128 r → byteOf x₃ rLevelsAt r ≡ levelNumber (rLevel (settings f) r)
   unfolding rLevel
   read₃ =
       levels-are f counts between 1 rLevelsAt (converse (mark up)) (dominates f) reading x₂ x₃ upward
@@ -194,7 +195,7 @@ module _ (f : List ℕ) (q : Parts) (h : Line) (t up : List (List Bool)) (x₀ x
       (rw (ready .head) at read-levels)
       (λ i l m. zeros₂ i (omega arith) (omega arith))
 
-  written₄ : (r : ℕ) → Among 128 r → byteOf x₄ wLevelsAt r ≡ levelNumber (wLevel f r)
+  written₄ : (r : ℕ) → Among 128 r → byteOf x₄ wLevelsAt r ≡ levelNumber (wLevel (settings f) r)
   unfolding wLevel
   written₄ =
       levels-are f counts between 2 wLevelsAt (converse (mark t)) (converse (dominates f)) writing x₃ x₄
@@ -212,7 +213,7 @@ module _ (f : List ℕ) (q : Parts) (h : Line) (t up : List (List Bool)) (x₀ x
         kept-since₁ (markAt a b) (λ m. omega arith) (λ m. omega arith)
         ∙ put .rows a b v w
         ∙ ap (λ m. cond m 1 0) (closed a b v w);
-    permitting = permitting-stays f x₃ x₄ (λ i l m. kept₄ i (λ n. omega arith)) permitting₃;
+    permitting = permitting-stays (settings f) x₃ x₄ (λ i l m. kept₄ i (λ n. omega arith)) permitting₃;
     levelled = record { reads = λ r w. kept₄ (rLevelsAt + (r - 1)) (λ m. omega arith) ∙ read₃ r w; writes = written₄ };
     rest = λ i out l m. kept-since₁ i l m ∙ kept i out;
   }

@@ -15,7 +15,9 @@ use Rattle.order.proofs.Closure.{ways, same-or-path}
 use Rattle.rolefile.specs.Line.{H, D, S, O, A, lineAt, lines}
 use Rattle.rolefile.specs.Form.{header, firstLimit, secondLimit, about}
 use Rattle.rolefile.specs.Said.{labels, roles, users, is, says, over, above, assigned, last, labelBy, cardLabel}
-use Rattle.rolefile.specs.WellFormed.{One, GoodLines}
+use Rattle.rolefile.specs.WellFormed.{One, GoodLines, WellFormed}
+use Rattle.rolefile.proofs.Formed.{header-counts}
+use Rattle.policy.specs.Settings.{dominates, senior, settings, Inside, Bounded}
 use Rattle.policy.proofs.Readying.{numbers-known, limits-d, limits-s, limits-o, limits-a}
 
 -- a relation between the things 1 to n alone
@@ -72,3 +74,22 @@ module _ (f : List ℕ) (good : GoodLines f) where
 
   pub card-label-known : (o : ℕ) → One f O o → Among (labels f) (cardLabel f o)
   card-label-known o one = rw (limits-o (header f) .1) at (label-known O o (omega arith) one)
+
+  pub dominates-inside : Inside (labels f) (dominates f)
+  unfolding dominates
+  dominates-inside = closure-between (labels f) (over f) over-between
+
+  senior-inside : Inside (roles f) (senior f)
+  unfolding senior
+  senior-inside = closure-between (roles f) (above f) above-between
+
+pub bounded : (f : List ℕ) → WellFormed f → Bounded (settings f)
+bounded f form = let c = header-counts f (form .sized) (form .good) in record {
+  labels = c .labels;
+  roles = c .roles;
+  users = c .users;
+  cards = c .cards;
+  dominance = dominates-inside f (form .good);
+  seniority = senior-inside f (form .good);
+  cardLabels = λ o w. card-label-known f (form .good) o (form .card o w);
+}

@@ -3,7 +3,6 @@
 use Prim.Native.Nat.{ℕ, zero, suc, _≤_}
 use mathlib.Core.Path.{_≡_, refl}
 use mathlib.Core.Logic.{_↔_, inl, inr, ⊎-elim}
-use mathlib.Core.List.{List}
 use mathlib.Core.Bool.{Bool, true, false, cond, false≢true, true≢false}
 use native.Mathlib.Omega.{arith}
 use Rattle.search.specs.Search.{some}
@@ -14,7 +13,8 @@ use Rattle.order.specs.Bound.{lub, converse, IsLub}
 use Rattle.order.proofs.Bound.{lub-none, lub-is, lub-iff}
 use Rattle.rolefile.specs.Said.{labels}
 use Rattle.policy.specs.Policy.{Level, Free, Label, Undefined}
-use Rattle.policy.specs.Policy.{dominates, mayAt, levelAt, level, rLevel, wLevel, passes, isDefined}
+use Rattle.policy.specs.Settings.{Settings, dominates}
+use Rattle.policy.specs.Policy.{mayAt, levelAt, level, rLevel, wLevel, passes, isDefined}
 use Rattle.policy.specs.Accepted.{Some, UndefinedLevel, Passing, ReadsUnder, WritesOver}
 
 converse-order : {n : ℕ} {ge : Relation} → PartialOrder n ge → PartialOrder n (converse ge)
@@ -87,11 +87,11 @@ module _ (n : ℕ) (ge : Relation) (s : ℕ → Bool) where
         go Undefined t e = absurd (false≢true e)
 
 -- a role's level limits at label l, by its levels
-module _ (f : List ℕ) (o : PartialOrder (labels f) (dominates f)) (l r : ℕ) where
-  pub reads-under-iff : (passes (dominates f l) (rLevel f r) ≡ true) ↔ ReadsUnder f l r
+module _ (σ : Settings) (o : PartialOrder (σ .labels) (σ .dominates)) (l r : ℕ) where
+  pub reads-under-iff : (passes (σ .dominates l) (rLevel σ r) ≡ true) ↔ ReadsUnder σ l r
   unfolding rLevel
-  reads-under-iff = passes-iff (labels f) (dominates f) (mayAt f 1 r) o (dominates f l)
+  reads-under-iff = passes-iff (σ .labels) (σ .dominates) (mayAt σ 1 r) o (σ .dominates l)
 
-  pub writes-over-iff : (passes (λ a. dominates f a l) (wLevel f r) ≡ true) ↔ WritesOver f l r
+  pub writes-over-iff : (passes (λ a. σ .dominates a l) (wLevel σ r) ≡ true) ↔ WritesOver σ l r
   unfolding wLevel
-  writes-over-iff = passes-iff (labels f) (converse (dominates f)) (mayAt f 2 r) (converse-order o) (λ a. dominates f a l)
+  writes-over-iff = passes-iff (σ .labels) (converse (σ .dominates)) (mayAt σ 2 r) (converse-order o) (λ a. σ .dominates a l)

@@ -2,6 +2,7 @@ pub mod Levels
 pub mod Defined
 pub mod Checks
 pub mod Outcomes
+pub mod Lawful
 pub mod Relating
 pub mod Gathering
 pub mod Noted

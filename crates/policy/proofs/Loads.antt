@@ -6,20 +6,24 @@ use native.Mathlib.Omega.{arith}
 use lib.ListN.{length, replicate, getD-replicate}
 use borrow.Author.Tests.{le-leb, lt-leb}
 use Rattle.rolefile.specs.declared.Verdict.{Verdict}
+use Rattle.order.specs.Closure.{Relation}
 use Rattle.rolefile.specs.Form.{refusal}
+use Rattle.rolefile.specs.Said.{assigned}
 use Rattle.rolefile.proofs.Verdicts.{refuses}
+use Rattle.policy.specs.Settings.{Settings, settings}
 use Rattle.policy.specs.Verdict.{verdict}
 use Rattle.policy.specs.Tables.{stateSize}
 use Rattle.policy.specs.Image.{Image, loadVerdict, Loaded}
 use Rattle.policy.specs.Stages.{Zeros, Built, Copied}
-use Rattle.policy.proofs.Builds.{describes-stays}
+use Rattle.policy.proofs.Builds.{describes-stays, assigning-stays}
 
 pub scratch-zeros : Zeros 0 65536 (replicate 65536 0)
 scratch-zeros i l m = getD-replicate 65536 i 0 0 m
 
-image-copied : (f xs ys zs : List ℕ) → Copied 65536 ys xs zs → Image f ys → Image f zs
-image-copied f xs ys zs c t = record {
-  tables = describes-stays f ys zs (λ i l m. c .done i (omega arith)) (t .tables);
+image-copied : (σ : Settings) (α : Relation) (xs ys zs : List ℕ) → Copied 65536 ys xs zs → Image σ α ys → Image σ α zs
+image-copied σ α xs ys zs c t = record {
+  tables = describes-stays σ ys zs (λ i out l. c .done i (omega arith)) (t .tables);
+  assigning = assigning-stays ys zs α (λ i l m. c .done i (omega arith)) (t .assigning);
   unused = λ i out l. c .done i l ∙ t .unused i out l;
 }
 
@@ -53,7 +57,7 @@ pub load-done : {f xs ys zs : List ℕ} {v : Verdict} → 65536 ≤ length xs �
 load-done {f} {xs} {ys} {zs} l b z c same = record {
   answer = b .answer ∙ long-verdict f xs l;
   refused = λ h. absurd (h z);
-  done = λ e. image-copied f xs ys zs c (b .done z);
+  done = λ e. image-copied (settings f) (assigned f) xs ys zs c (b .done z);
   rest = λ i m. c .rest i m;
   long = same;
 }

@@ -12,78 +12,72 @@ use Rattle.search.specs.Search.{Among}
 use Rattle.search.proofs.Found.{wider, some-agree, first-none-of, first-lowest-of}
 use Rattle.order.specs.Closure.{Agree, path, OnCircle, toItself}
 use Rattle.order.proofs.Closure.{path-iff, circle-misses, circle-agree}
-use Rattle.rolefile.specs.Form.{header}
 use Rattle.rolefile.specs.Said.{labels, roles, users, cards}
-use Rattle.rolefile.specs.WellFormed.{GoodCounts, WellFormed}
-use Rattle.rolefile.proofs.Formed.{header-counts}
-use Rattle.policy.specs.Policy.{dominates, may}
+use Rattle.policy.specs.Settings.{Bounded, Settings, dominates}
+use Rattle.policy.specs.Policy.{may}
 use Rattle.policy.specs.Flow.{flows, flowCircle}
 use Rattle.policy.specs.Tables.{stateSize, marked, flowsByCard, flowing, rolesUpTo, cardsUpTo, roleCount, flowsIn, circleIn}
 use Rattle.policy.specs.Accepted.{LowestOnCircle}
 use Rattle.policy.specs.Image.{Describes}
-use Rattle.policy.proofs.Inside.{over-between}
 use Rattle.policy.proofs.Assigning.{marked-is}
 use Rattle.policy.proofs.Flowing.{a-state}
 
-module _ (f : List ℕ) (form : WellFormed f) where
-  pub counts-known : GoodCounts (header f)
-  counts-known = header-counts f (form .sized) (form .good)
+module _ (σ : Settings) (bounded : Bounded σ) where
+  pub role-few : (r : ℕ) → Among (σ .roles) r → Among 128 r
+  role-few r w = wider (σ .roles) 128 (bounded .roles) w
 
-  pub role-few : (r : ℕ) → Among (roles f) r → Among 128 r
-  role-few r w = wider (roles f) 128 (counts-known .roles) w
+  pub user-few : (u : ℕ) → Among (σ .users) u → Among 256 u
+  user-few u w = wider (σ .users) 256 (bounded .users) w
 
-  pub user-few : (u : ℕ) → Among (users f) u → Among 256 u
-  user-few u w = wider (users f) 256 (counts-known .users) w
+  pub card-few : (o : ℕ) → Among (σ .cards) o → Among 512 o
+  card-few o w = wider (σ .cards) 512 (bounded .cards) w
 
-  pub card-few : (o : ℕ) → Among (cards f) o → Among 512 o
-  card-few o w = wider (cards f) 512 (counts-known .cards) w
-
-  module _ (xs : List ℕ) (tables : Describes f xs) where
-    pub marked-file : (a b : ℕ) → Among (labels f) a ⊎ Among (labels f) b → marked xs a b ≡ dominates f a b
-    marked-file = marked-is f xs counts-known (over-between f (form .good)) (tables .dominating)
+  module _ (xs : List ℕ) (tables : Describes σ xs) where
+    pub marked-file : (a b : ℕ) → Among (σ .labels) a ⊎ Among (σ .labels) b → marked xs a b ≡ σ .dominates a b
+    marked-file = marked-is σ xs (bounded .labels .1) (bounded .dominance) (tables .dominating)
 
     -- ---- "Role flow"
 
-    roles-file : rolesUpTo xs ≡ roles f
-    roles-file = let c = counts-known in let e = tables .counted .roles in omega (arith, c .roles)
+    roles-file : rolesUpTo xs ≡ σ .roles
+    roles-file = let e = tables .counted .roles in omega (arith, bounded .roles)
 
-    cards-file : cardsUpTo xs ≡ cards f
-    cards-file = let c = counts-known in let e = tables .counted .cards in omega (arith, c .cards)
+    cards-file : cardsUpTo xs ≡ σ .cards
+    cards-file = let e = tables .counted .cards in omega (arith, bounded .cards)
 
-    flowing-file : Agree 128 128 (flowing xs (cardsUpTo xs)) (flows f)
+    flowing-file : Agree 128 128 (flowing xs (cardsUpTo xs)) (flows σ)
     unfolding flowing flows
     flowing-file r q v w = rw cards-file (ap (λ (b : Bool). not (eqb r q) && b)
-        (some-agree (flowsByCard xs r q) (λ o. may f 2 r o && may f 1 q o) (cards f)
+        (some-agree (flowsByCard xs r q) (λ o. may σ 2 r o && may σ 1 q o) (σ .cards)
         (λ o i.
         let j = card-few o i in
         rw (tables .permitting .writers o r j v, tables .permitting .readers o q j w))))
 
     -- as a whole state tells it
     module _ (long : stateSize ≤ length xs) where
-      pub role-count-file : roleCount xs ≡ roles f
+      pub role-count-file : roleCount xs ≡ σ .roles
       role-count-file = rw (a-state xs long) roles-file
 
-      pub flow-file : Agree 128 128 (flowsIn xs) (flows f)
+      pub flow-file : Agree 128 128 (flowsIn xs) (flows σ)
       flow-file r q v w = rw (a-state xs long) (flowing-file r q v w)
 
-      pub circle-file : circleIn xs ≡ flowCircle f
+      pub circle-file : circleIn xs ≡ flowCircle σ
       unfolding flowCircle
-      circle-file = rw (a-state xs long, roles-file) (circle-agree (roles f) 128 (flowing xs (cardsUpTo xs)) (flows f) (counts-known .roles)
+      circle-file = rw (a-state xs long, roles-file) (circle-agree (σ .roles) 128 (flowing xs (cardsUpTo xs)) (flows σ) (bounded .roles)
           (λ r q v w. flowing-file r q (role-few r v) w))
 
 -- ---- the circle as a property: "the lowest role on a circle of two or more roles, or 0"
 
-module _ (f : List ℕ) where
+module _ (σ : Settings) where
   -- no role flows to itself, so a circle has two roles or more
-  pub flows-irreflexive : (r : ℕ) → flows f r r ≡ false
+  pub flows-irreflexive : (r : ℕ) → flows σ r r ≡ false
   unfolding flows
   flows-irreflexive r = rw (eq-eqb r r refl)
 
-  pub flow-circle-iff : (a : ℕ) → 1 ≤ a → (flowCircle f ≡ a) ↔ LowestOnCircle (roles f) (flows f) a
+  pub flow-circle-iff : (a : ℕ) → 1 ≤ a → (flowCircle σ ≡ a) ↔ LowestOnCircle (σ .roles) (flows σ) a
   unfolding flowCircle
   flow-circle-iff =
-      first-lowest-of (toItself (path (roles f) (flows f))) (roles f) (λ a. path-iff (flows f) (roles f) a a) (circle-misses (flows f) (roles f))
+      first-lowest-of (toItself (path (σ .roles) (flows σ))) (σ .roles) (λ a. path-iff (flows σ) (σ .roles) a a) (circle-misses (flows σ) (σ .roles))
 
-  pub no-circle-iff : (flowCircle f ≡ 0) ↔ ((a : ℕ) → Among (roles f) a → OnCircle (roles f) (flows f) a → ⊥)
+  pub no-circle-iff : (flowCircle σ ≡ 0) ↔ ((a : ℕ) → Among (σ .roles) a → OnCircle (σ .roles) (flows σ) a → ⊥)
   unfolding flowCircle
-  no-circle-iff = first-none-of (toItself (path (roles f) (flows f))) (roles f) (circle-misses (flows f) (roles f))
+  no-circle-iff = first-none-of (toItself (path (σ .roles) (flows σ))) (σ .roles) (circle-misses (flows σ) (σ .roles))

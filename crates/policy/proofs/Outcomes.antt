@@ -14,7 +14,7 @@ use Rattle.rolefile.specs.WellFormed.{WellFormed, LineRefused, noHeader, badCou
 use Rattle.rolefile.proofs.Verdicts.{then-joined}
 use Rattle.rolefile.proofs.Decides.{Decides, Else, Earliest, decides-zero, decides-fine, decides-when, then-decides, scan-decides}
 use Rattle.rolefile.proofs.Formed.{FormRefusal, form-decides}
-use Rattle.policy.specs.Policy.{dominates, senior}
+use Rattle.policy.specs.Settings.{dominates, senior, settings}
 use Rattle.policy.specs.Verdict.{orderVerdict, labelVerdict, roleVerdict, assignmentVerdict, policyVerdict, verdict, pairVerdict}
 use Rattle.policy.specs.Accepted.{GoodOrder, LabelOrder, GoodAssignment, Accepted, AssignRefused, Outcome}
 use Rattle.policy.specs.Accepted.{noLevel, readsMore, writesLess}
@@ -104,7 +104,7 @@ verdict-numbers f = of (outcome f)
     line (badNumbers i l h) = inl (omega arith)
     line (unordered i l g h) = inl (omega arith)
 
-    assignment : {u r n : ℕ} → AssignRefused f u r n → Listed n
+    assignment : {u r n : ℕ} → AssignRefused (settings f) u r n → Listed n
     assignment (noLevel b) = inr (omega arith)
     assignment (readsMore d h) = inr (omega arith)
     assignment (writesLess d p h) = inr (omega arith)

@@ -22,7 +22,7 @@ use Rattle.rolefile.specs.Said.{roles, above}
 use Rattle.rolefile.specs.Section.{part, pairs}
 use Rattle.rolefile.proofs.Sections.{says-two}
 use Rattle.rolefile.proofs.Verdicts.{refuses}
-use Rattle.policy.specs.Policy.{senior}
+use Rattle.policy.specs.Settings.{senior}
 use Rattle.policy.specs.Tables.{seniorsAt, Related}
 use Rattle.policy.specs.Verdict.{roleVerdict}
 use Rattle.policy.specs.Stages.{Ready, Zeros, PathRows, Ranking}

@@ -12,6 +12,8 @@ use Rattle.roleset.proofs.Rows.{same-row}
 use Rattle.order.specs.Closure.{Relation, Agree}
 use Rattle.order.specs.Table.{related}
 use Rattle.rolefile.specs.declared.Verdict.{Verdict}
+use Rattle.rolefile.specs.Said.{assigned}
+use Rattle.policy.specs.Settings.{Settings, settings}
 use Rattle.policy.specs.Tables.{dominanceAt, clearancesAt, cardLabelsAt, rLevelsAt, wLevelsAt, seniorsAt, assignedAt, readersAt, writersAt, markAt}
 use Rattle.policy.specs.Tables.{stateSize, word, byteOf}
 use Rattle.policy.specs.Image.{Unused, Image, Loaded}
@@ -59,7 +61,7 @@ module _ (ys zs : List ℕ) (ys-bytes : AllBytes ys) (zs-bytes : AllBytes zs) wh
         (same-row zs ys (rowOf at x) (rowOf at x) zs-bytes ys-bytes (λ r v. p x r w v ∙ sym (q x r w v)) k (omega arith));
   }
 
-  module _ (f : List ℕ) (p : Image f ys) (q : Image f zs) where
+  module _ (σ : Settings) (α : Relation) (p : Image σ α ys) (q : Image σ α zs) where
     unused-settled : (a b : ℕ) → ((i : ℕ) → a ≤ i → i < b → Unused i × (i < stateSize)) → Settled a b
     unused-settled a b h = record { byte = λ i l m. let (u, n) = h i l m in p .unused i u n ∙ sym (q .unused i u n) }
 
@@ -92,15 +94,15 @@ module _ (ys zs : List ℕ) (ys-bytes : AllBytes ys) (zs-bytes : AllBytes zs) wh
         and bytes-settled rLevelsAt 128 _ (y .levelled .reads) (z .levelled .reads)
         and bytes-settled wLevelsAt 128 _ (y .levelled .writes) (z .levelled .writes)
         and rows-settled seniorsAt 128 _ (y .seniors) (z .seniors)
-        and rows-settled assignedAt 256 _ (y .assigning) (z .assigning)
+        and rows-settled assignedAt 256 _ (p .assigning) (q .assigning)
         and unused-settled 8208 12304 (λ i l m. omega arith)
         and rows-settled readersAt 512 _ (y .permitting .readers) (z .permitting .readers)
         and rows-settled writersAt 512 _ (y .permitting .writers) (z .permitting .writers)
         and unused-settled 28688 stateSize (λ i l m. omega arith)
 
-pub image-settles : (f ys zs : List ℕ) → Image f ys → Image f zs → AllBytes ys → AllBytes zs
+pub image-settles : (σ : Settings) (α : Relation) (ys zs : List ℕ) → Image σ α ys → Image σ α zs → AllBytes ys → AllBytes zs
     → (i : ℕ) → i < 65536 → getD ys i 0 ≡ getD zs i 0
-image-settles f ys zs p q ys-bytes zs-bytes i l = state-settled ys zs ys-bytes zs-bytes f p q .byte i (omega arith) l
+image-settles σ α ys zs p q ys-bytes zs-bytes i l = state-settled ys zs ys-bytes zs-bytes σ α p q .byte i (omega arith) l
 
 pub loaded-once : (f : List ℕ) (v w : Verdict) (xs ys zs : List ℕ) → Loaded f v xs ys → Loaded f w xs zs
     → AllBytes ys → AllBytes zs → (v ≡ w) × (ys ≡ zs)
@@ -110,7 +112,7 @@ loaded-once f v w xs ys zs p q ys-bytes zs-bytes =
       same,
       elim (ℕ-discrete (v .number) 0) [
         | yes e ↦ ext-getD 0 ys zs (p .long ∙ sym (q .long)) (λ i l. elim (decLt i stateSize) [
-          | yes m ↦ image-settles f ys zs (p .done e) (q .done (sym number ∙ e)) ys-bytes zs-bytes i m
+          | yes m ↦ image-settles (settings f) (assigned f) ys zs (p .done e) (q .done (sym number ∙ e)) ys-bytes zs-bytes i m
           | no m ↦ p .rest i (omega arith) ∙ sym (q .rest i (omega arith))
         ])
         | no n ↦ p .refused n ∙ sym (q .refused (λ e. n (number ∙ e)))

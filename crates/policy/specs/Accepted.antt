@@ -11,9 +11,10 @@ use Rattle.order.specs.Bound.{converse, IsLub, AllJoined, FirstPair}
 use Rattle.rolefile.specs.declared.Verdict.{Verdict}
 use Rattle.rolefile.specs.Line.{U, O, A, lineAt, lines}
 use Rattle.rolefile.specs.Form.{fine, refusal}
-use Rattle.rolefile.specs.Said.{labels, roles, users, cards, over, above, clearance}
+use Rattle.rolefile.specs.Said.{labels, roles, users, cards, over, above}
 use Rattle.rolefile.specs.WellFormed.{Sized, GoodLine, GoodLines, OneEach, LineRefused, LowestUnlabelled, WellFormed}
-use Rattle.policy.specs.Policy.{dominates, senior, mayAt}
+use Rattle.policy.specs.Settings.{Settings, dominates, senior, settings, Bounded}
+use Rattle.policy.specs.Policy.{mayAt}
 
 -- ---- levels, 003 Definitions 6 and 7
 
@@ -30,22 +31,22 @@ abbrev pub Passing : ℕ → Relation → (ℕ → Bool) → (ℕ → Bool) → 
 Passing n ge s p = (Some n s → ⊥) ⊎ ((c : ℕ) × Some n s × IsLub n ge s c × (p c ≡ true))
 
 -- label l dominates the r-level of r: a bound of the labels read
-abbrev pub ReadsUnder : List ℕ → ℕ → ℕ → Type 0
-ReadsUnder f l r = Passing (labels f) (dominates f) (mayAt f 1 r) (dominates f l)
+abbrev pub ReadsUnder : Settings → ℕ → ℕ → Type 0
+ReadsUnder s l r = Passing (s .labels) (s .dominates) (mayAt s 1 r) (s .dominates l)
 
 -- the w-level of r dominates label l: a bound of the labels written, in the order turned round
-abbrev pub WritesOver : List ℕ → ℕ → ℕ → Type 0
-WritesOver f l r = Passing (labels f) (converse (dominates f)) (mayAt f 2 r) (λ c. dominates f c l)
+abbrev pub WritesOver : Settings → ℕ → ℕ → Type 0
+WritesOver s l r = Passing (s .labels) (converse (s .dominates)) (mayAt s 2 r) (λ c. s .dominates c l)
 
 -- 14: an undefined w-level: there are writes and no greatest lower bound
-abbrev pub NoWriteLevel : List ℕ → ℕ → Type 0
-NoWriteLevel f r = UndefinedLevel (labels f) (converse (dominates f)) (mayAt f 2 r)
+abbrev pub NoWriteLevel : Settings → ℕ → Type 0
+NoWriteLevel s r = UndefinedLevel (s .labels) (converse (s .dominates)) (mayAt s 2 r)
 
 -- 003, Theorem 3, for an A line: "the w-level must not be undefined, the clearance must dominate the r-level, and the w-level must dominate the
 -- clearance"; an undefined level does not pass
-pub record WithinLevels (f : List ℕ) (u r : ℕ) : Type 0 where
-  pub reads : ReadsUnder f (clearance f u) r
-  pub writes : WritesOver f (clearance f u) r
+pub record WithinLevels (s : Settings) (u r : ℕ) : Type 0 where
+  pub reads : ReadsUnder s (s .clearance u) r
+  pub writes : WritesOver s (s .clearance u) r
 
 -- ---- an accepted file
 
@@ -59,7 +60,7 @@ LabelOrder f = GoodOrder (labels f) (over f) (dominates f)
 
 -- line i, where it is an A line, is as Theorem 3 asks
 abbrev pub GoodAssignment : List ℕ → ℕ → Type 0
-GoodAssignment f i = lineAt f i .letter ≡ A → WithinLevels f (lineAt f i .a) (lineAt f i .b)
+GoodAssignment f i = lineAt f i .letter ≡ A → WithinLevels (settings f) (lineAt f i .a) (lineAt f i .b)
 
 -- what holds when seniority is looked at
 pub record Ordered (f : List ℕ) : Type 0 where
@@ -72,6 +73,18 @@ pub record Accepted (f : List ℕ) : Type 0 where
   pub seniority : GoodOrder (roles f) (above f) (senior f)
   pub assignments : (i : ℕ) → Among (lines f) i → GoodAssignment f i
 
+-- ---- settings that are as an accepted file's, whoever made them (`lawful` under proofs/)
+
+pub record Lawful (s : Settings) : Type 0 where
+  pub bounded : Bounded s
+  pub dominance : PartialOrder (s .labels) (s .dominates)
+  pub joins : AllJoined (s .labels) (s .dominates)
+  pub seniority : PartialOrder (s .roles) (s .senior)
+
+-- assignments that are as an accepted file's: of things that are counted, and within levels
+abbrev pub Staffed : Settings → Relation → Type 0
+Staffed s assigned = (u r : ℕ) → assigned u r ≡ true → Among (s .users) u × Among (s .roles) r × WithinLevels s u r
+
 -- ---- the outcomes
 
 -- the lowest thing on a circle
@@ -79,10 +92,10 @@ abbrev pub LowestOnCircle : ℕ → Relation → ℕ → Type 0
 LowestOnCircle n e = LowestOf n (OnCircle n e) (λ a. OnCircle n e a → ⊥)
 
 -- why the assignment of u to r is refused
-pub data AssignRefused (f : List ℕ) (u r : ℕ) : ℕ → Type 0 where
-  noLevel : NoWriteLevel f r → AssignRefused f u r 14
-  readsMore : (NoWriteLevel f r → ⊥) → (ReadsUnder f (clearance f u) r → ⊥) → AssignRefused f u r 15
-  writesLess : (NoWriteLevel f r → ⊥) → ReadsUnder f (clearance f u) r → (WritesOver f (clearance f u) r → ⊥) → AssignRefused f u r 16
+pub data AssignRefused (s : Settings) (u r : ℕ) : ℕ → Type 0 where
+  noLevel : NoWriteLevel s r → AssignRefused s u r 14
+  readsMore : (NoWriteLevel s r → ⊥) → (ReadsUnder s (s .clearance u) r → ⊥) → AssignRefused s u r 15
+  writesLess : (NoWriteLevel s r → ⊥) → ReadsUnder s (s .clearance u) r → (WritesOver s (s .clearance u) r → ⊥) → AssignRefused s u r 16
 
 pub data Outcome (f : List ℕ) : Verdict → Type 0 where
   accepted : Accepted f → Outcome f fine
@@ -95,4 +108,4 @@ pub data Outcome (f : List ℕ) : Verdict → Type 0 where
   roleCircle : {r : ℕ} → Ordered f → LowestOnCircle (roles f) (above f) r → Outcome f (refusal 13 r 0)
   badAssignment : {n i : ℕ} → Ordered f → GoodOrder (roles f) (above f) (senior f) → Among (lines f) i → lineAt f i .letter ≡ A
       → ((j : ℕ) → Among (lines f) j → j < i → GoodAssignment f j)
-      → AssignRefused f (lineAt f i .a) (lineAt f i .b) n → Outcome f (refusal n (lineAt f i .a) (lineAt f i .b))
+      → AssignRefused (settings f) (lineAt f i .a) (lineAt f i .b) n → Outcome f (refusal n (lineAt f i .a) (lineAt f i .b))

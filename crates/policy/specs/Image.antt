@@ -1,4 +1,4 @@
--- What a state holds after a load of the file f: each table says what the file says, and every other byte of the state is 0. Assumes nothing.
+-- What a state holds after a load of the file f: each table says what its settings say, and every other byte of the state is 0. Assumes nothing.
 use Prim.Native.Nat.{ℕ, _≤_, _<_}
 use mathlib.Core.Path.{_≡_}
 use mathlib.Core.List.{List}
@@ -6,12 +6,13 @@ use mathlib.Core.Bool.{_&&_, cond}
 use lib.Dec.{leb}
 use lib.ListN.{length, getD}
 use Rattle.search.specs.Search.{Among}
-use Rattle.order.specs.Closure.{Agree}
+use Rattle.order.specs.Closure.{Relation, Agree}
 use Rattle.order.specs.Table.{related}
 use Rattle.rolefile.specs.declared.Verdict.{Verdict}
 use Rattle.rolefile.specs.Form.{fine, refusal, unless, _then_}
-use Rattle.rolefile.specs.Said.{labels, roles, users, cards, clearance, cardLabel, assigned}
-use Rattle.policy.specs.Policy.{dominates, senior, may, rLevel, wLevel, levelNumber}
+use Rattle.rolefile.specs.Said.{assigned}
+use Rattle.policy.specs.Settings.{Settings, settings}
+use Rattle.policy.specs.Policy.{may, rLevel, wLevel, levelNumber}
 use Rattle.policy.specs.Tables.{labelCountAt, roleCountAt, userCountAt, cardCountAt, clearancesAt, cardLabelsAt, rLevelsAt, wLevelsAt, seniorsAt, assignedAt, readersAt, writersAt, stateSize, word, byteOf, markAt}
 use Rattle.policy.specs.Verdict.{verdict}
 
@@ -21,55 +22,55 @@ pub record Counts (a b c d : ℕ) (ys : List ℕ) : Type 0 where
   pub users : word ys userCountAt ≡ c
   pub cards : word ys cardCountAt ≡ d
 
-abbrev pub Counted : List ℕ → List ℕ → Type 0
-Counted f = Counts (labels f) (roles f) (users f) (cards f)
+abbrev pub Counted : Settings → List ℕ → Type 0
+Counted s = Counts (s .labels) (s .roles) (s .users) (s .cards)
 
 -- a number past the file's count has no line, and so no label
-pub record Labelled (f ys : List ℕ) : Type 0 where
-  pub users : (u : ℕ) → Among 256 u → byteOf ys clearancesAt u ≡ clearance f u
-  pub cards : (o : ℕ) → Among 512 o → byteOf ys cardLabelsAt o ≡ cardLabel f o
+pub record Labelled (s : Settings) (ys : List ℕ) : Type 0 where
+  pub users : (u : ℕ) → Among 256 u → byteOf ys clearancesAt u ≡ s .clearance u
+  pub cards : (o : ℕ) → Among 512 o → byteOf ys cardLabelsAt o ≡ s .cardLabel o
 
-abbrev pub Dominating : List ℕ → List ℕ → Type 0
-Dominating f ys = (a b : ℕ) → Among 32 a → Among 32 b
-    → getD ys (markAt a b) 0 ≡ cond (leb a (labels f) && dominates f a b) 1 0
+abbrev pub Dominating : Settings → List ℕ → Type 0
+Dominating s ys = (a b : ℕ) → Among 32 a → Among 32 b
+    → getD ys (markAt a b) 0 ≡ cond (leb a (s .labels) && s .dominates a b) 1 0
 
 -- the row of a role holds its seniors, itself included
-abbrev pub Seniors : List ℕ → List ℕ → Type 0
-Seniors f ys = Agree 128 128 (related ys seniorsAt) (λ q r. leb q (roles f) && senior f r q)
+abbrev pub Seniors : Settings → List ℕ → Type 0
+Seniors s ys = Agree 128 128 (related ys seniorsAt) (λ q r. leb q (s .roles) && s .senior r q)
 
 -- the row of a card, in the table at `at`, holds the roles that may read it (d = 1) or write it (d = 2)
-abbrev pub Allows : List ℕ → ℕ → ℕ → List ℕ → Type 0
-Allows f d at ys = Agree 512 128 (related ys at) (λ o r. may f d r o)
+abbrev pub Allows : Settings → ℕ → ℕ → List ℕ → Type 0
+Allows s d at ys = Agree 512 128 (related ys at) (λ o r. may s d r o)
 
-pub record Permitting (f ys : List ℕ) : Type 0 where
-  pub readers : Allows f 1 readersAt ys
-  pub writers : Allows f 2 writersAt ys
+pub record Permitting (s : Settings) (ys : List ℕ) : Type 0 where
+  pub readers : Allows s 1 readersAt ys
+  pub writers : Allows s 2 writersAt ys
 
 -- a role's two bytes are its r-level and its w-level, as `levelNumber`
-pub record Levelled (f ys : List ℕ) : Type 0 where
-  pub reads : (r : ℕ) → Among 128 r → byteOf ys rLevelsAt r ≡ levelNumber (rLevel f r)
-  pub writes : (r : ℕ) → Among 128 r → byteOf ys wLevelsAt r ≡ levelNumber (wLevel f r)
+pub record Levelled (s : Settings) (ys : List ℕ) : Type 0 where
+  pub reads : (r : ℕ) → Among 128 r → byteOf ys rLevelsAt r ≡ levelNumber (rLevel s r)
+  pub writes : (r : ℕ) → Among 128 r → byteOf ys wLevelsAt r ≡ levelNumber (wLevel s r)
 
 -- the row of a user holds the roles that the user is assigned to
-abbrev pub Assigning : List ℕ → List ℕ → Type 0
-Assigning f ys = Agree 256 128 (related ys assignedAt) (assigned f)
+abbrev pub Assigning : Relation → List ℕ → Type 0
+Assigning assigned ys = Agree 256 128 (related ys assignedAt) assigned
 
 -- byte i belongs to no table: those after the counts, those kept for later tables, and those after the last one, among them the places: "closes all sessions"
 abbrev pub Unused : ℕ → Type 0
 Unused i = (8 ≤ i) × (16 ≤ i → 8208 ≤ i) × (12304 ≤ i → 28688 ≤ i)
 
--- each table of ys says what the file f says
-pub record Describes (f ys : List ℕ) : Type 0 where
-  pub counted : Counted f ys
-  pub labelled : Labelled f ys
-  pub dominating : Dominating f ys
-  pub seniors : Seniors f ys
-  pub permitting : Permitting f ys
-  pub levelled : Levelled f ys
-  pub assigning : Assigning f ys
+-- each table of ys but that of assignments says what the settings say
+pub record Describes (s : Settings) (ys : List ℕ) : Type 0 where
+  pub counted : Counted s ys
+  pub labelled : Labelled s ys
+  pub dominating : Dominating s ys
+  pub seniors : Seniors s ys
+  pub permitting : Permitting s ys
+  pub levelled : Levelled s ys
 
-pub record Image (f ys : List ℕ) : Type 0 where
-  pub tables : Describes f ys
+pub record Image (s : Settings) (assigned : Relation) (ys : List ℕ) : Type 0 where
+  pub tables : Describes s ys
+  pub assigning : Assigning assigned ys
   pub unused : (i : ℕ) → Unused i → i < stateSize → getD ys i 0 ≡ 0
 
 -- ---- a load: "7: load with a state shorter than 65,536 bytes", then the verdict
@@ -81,6 +82,6 @@ loadVerdict n f = unless (leb stateSize n) (refusal 7 0 0) fine then verdict f
 pub record Loaded (f : List ℕ) (v : Verdict) (xs ys : List ℕ) : Type 0 where
   pub answer : v ≡ loadVerdict (length xs) f
   pub refused : (v .number ≡ 0 → ⊥) → ys ≡ xs
-  pub done : v .number ≡ 0 → Image f ys
+  pub done : v .number ≡ 0 → Image (settings f) (assigned f) ys
   pub rest : (i : ℕ) → stateSize ≤ i → getD ys i 0 ≡ getD xs i 0
   pub long : length ys ≡ length xs

@@ -1,27 +1,19 @@
--- "Orders and levels": dominance, seniority, inherited permissions, and the levels of a role. Assumes nothing.
+-- "Orders and levels": inherited permissions, and the levels of a role, of any settings. Assumes nothing.
 use Prim.Native.Nat.{ℕ, zero, suc}
-use mathlib.Core.List.{List}
 use mathlib.Core.Bool.{Bool, true, false, _&&_, cond}
 use lib.Dec.{eqb}
 use Rattle.search.specs.Search.{some}
-use Rattle.order.specs.Closure.{Relation, closure}
+use Rattle.order.specs.Closure.{Relation}
 use Rattle.order.specs.Bound.{lub, converse}
-use Rattle.rolefile.specs.Said.{labels, roles, cards, over, above, permits, cardLabel}
-
--- "Dominance is the reflexive, transitive closure of the D lines, and seniority that of the S lines"
-unfoldable pub dominates : List ℕ → Relation
-dominates f = closure (labels f) (over f)
-
-unfoldable pub senior : List ℕ → Relation
-senior f = closure (roles f) (above f)
+use Rattle.policy.specs.Settings.{Settings}
 
 -- "A role has the permissions of its own P lines and of all its juniors": r may read (m = 1) or write (m = 2) card o
-unfoldable pub may : List ℕ → ℕ → Relation
-may f m r o = some (roles f) (λ q. senior f r q && permits f m q o)
+unfoldable pub may : Settings → ℕ → Relation
+may s m r o = some (s .roles) (λ q. s .senior r q && s .permits m q o)
 
 -- r may read, or write, a card of label l
-unfoldable pub mayAt : List ℕ → ℕ → Relation
-mayAt f m r l = some (cards f) (λ o. may f m r o && eqb (cardLabel f o) l)
+unfoldable pub mayAt : Settings → ℕ → Relation
+mayAt s m r l = some (s .cards) (λ o. may s m r o && eqb (s .cardLabel o) l)
 
 -- the level of a role for reading or for writing. Free is document 01's word: with nothing to read, or to write, the level is no limit
 pub data Level : Type 0 where
@@ -39,12 +31,12 @@ unfoldable pub level : ℕ → Relation → (ℕ → Bool) → Level
 level n ge s = cond (some n s) (levelAt (lub n ge s)) Free
 
 -- "Its r-level is the least upper bound of the labels it may read"
-unfoldable pub rLevel : List ℕ → ℕ → Level
-rLevel f r = level (labels f) (dominates f) (mayAt f 1 r)
+unfoldable pub rLevel : Settings → ℕ → Level
+rLevel s r = level (s .labels) (s .dominates) (mayAt s 1 r)
 
 -- "Its w-level is the greatest lower bound of the labels it may write": the least upper bound in the order turned round
-unfoldable pub wLevel : List ℕ → ℕ → Level
-wLevel f r = level (labels f) (converse (dominates f)) (mayAt f 2 r)
+unfoldable pub wLevel : Settings → ℕ → Level
+wLevel s r = level (s .labels) (converse (s .dominates)) (mayAt s 2 r)
 
 -- "A free level always passes; an undefined one never"
 abbrev pub passes : (ℕ → Bool) → Level → Bool

@@ -11,10 +11,10 @@ use Rattle.order.specs.Table.{mark, Rows}
 use Rattle.rolefile.specs.declared.Line.{Line}
 use Rattle.rolefile.specs.declared.Verdict.{Verdict}
 use Rattle.rolefile.specs.Form.{header, linesVerdict, unlabelledVerdict}
-use Rattle.rolefile.specs.Said.{labels, over}
+use Rattle.rolefile.specs.Said.{labels, over, assigned}
 use Rattle.rolefile.specs.Section.{part, Leads}
 use Rattle.policy.specs.declared.build.Parts.{Parts}
-use Rattle.policy.specs.Policy.{dominates}
+use Rattle.policy.specs.Settings.{dominates, settings}
 use Rattle.policy.specs.Verdict.{roleVerdict, verdict}
 use Rattle.policy.specs.Image.{Labelled, Dominating, Seniors, Permitting, Levelled, Assigning, Counts, Counted, Image}
 
@@ -46,7 +46,7 @@ Zeros a b xs = (i : ℕ) → a ≤ i → i < b → getD xs i 0 ≡ 0
 -- 6
 pub record Noting (f : List ℕ) (v : Verdict) (xs ys : List ℕ) : Type 0 where
   pub answer : v ≡ unlabelledVerdict f
-  pub done : v .number ≡ 0 → Labelled f ys
+  pub done : v .number ≡ 0 → Labelled (settings f) ys
   pub rest : Kept 1040 1808 xs ys
 
 -- u has the paths of e among the things 1 to n, and nothing in the rows after
@@ -63,14 +63,14 @@ Closed f t = Agree 32 32 (mark t) (λ a b. leb a (labels f) && dominates f a b)
 -- 13
 pub record Ranking (f : List ℕ) (v : Verdict) (xs ys : List ℕ) : Type 0 where
   pub answer : v ≡ roleVerdict f
-  pub done : v .number ≡ 0 → Seniors f ys
+  pub done : v .number ≡ 0 → Seniors (settings f) ys
   pub rest : Kept 2064 4112 xs ys
 
 -- dominance, permissions and levels are in; three stretches of bytes have changed
 pub record Granting (f xs ys : List ℕ) : Type 0 where
-  pub dominating : Dominating f ys
-  pub permitting : Permitting f ys
-  pub levelled : Levelled f ys
+  pub dominating : Dominating (settings f) ys
+  pub permitting : Permitting (settings f) ys
+  pub levelled : Levelled (settings f) ys
   pub rest : (i : ℕ) → (16 ≤ i → 1040 ≤ i) → (1808 ≤ i → 2064 ≤ i) → (12304 ≤ i → 28688 ≤ i) → getD ys i 0 ≡ getD xs i 0
 
 -- the counts of h are in
@@ -80,14 +80,14 @@ pub record Counting (h : Line) (xs ys : List ℕ) : Type 0 where
 
 -- the assigned roles and the counts are in
 pub record Finishing (f xs ys : List ℕ) : Type 0 where
-  pub assigning : Assigning f ys
-  pub counted : Counted f ys
+  pub assigning : Assigning (assigned f) ys
+  pub counted : Counted (settings f) ys
   pub rest : (i : ℕ) → 8 ≤ i → (4112 ≤ i → 8208 ≤ i) → getD ys i 0 ≡ getD xs i 0
 
 -- the whole check, into bytes that were all 0; after a refusal nobody reads them
 pub record Built (f : List ℕ) (v : Verdict) (ys : List ℕ) : Type 0 where
   pub answer : v ≡ verdict f
-  pub done : v .number ≡ 0 → Image f ys
+  pub done : v .number ≡ 0 → Image (settings f) (assigned f) ys
 
 -- zs is ys with its first n bytes as in xs
 pub record Copied (n : ℕ) (xs ys zs : List ℕ) : Type 0 where

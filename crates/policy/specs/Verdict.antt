@@ -8,8 +8,9 @@ use Rattle.order.specs.Bound.{lowestWithoutBound, partnerWithoutBound}
 use Rattle.rolefile.specs.declared.Verdict.{Verdict}
 use Rattle.rolefile.specs.Line.{A, lineAt, lines}
 use Rattle.rolefile.specs.Form.{fine, refusal, unless, _then_, scan, found, formVerdict}
-use Rattle.rolefile.specs.Said.{labels, roles, over, above, clearance}
-use Rattle.policy.specs.Policy.{dominates, rLevel, wLevel, passes, isDefined}
+use Rattle.rolefile.specs.Said.{labels, roles, over, above}
+use Rattle.policy.specs.Settings.{Settings, dominates, settings}
+use Rattle.policy.specs.Policy.{rLevel, wLevel, passes, isDefined}
 
 -- 12
 abbrev pub pairVerdict : ℕ → Relation → Verdict
@@ -27,15 +28,15 @@ unfoldable pub roleVerdict : List ℕ → Verdict
 roleVerdict f = let r = circle (roles f) (above f) in found r (refusal 13 r 0)
 
 -- 14 to 16: "the w-level must not be undefined, the clearance must dominate the r-level, and the w-level must dominate the clearance"
-unfoldable pub assignVerdict : List ℕ → ℕ → ℕ → Verdict
-assignVerdict f u r =
-    unless (isDefined (wLevel f r)) (refusal 14 u r)
-    (unless (passes (λ l. dominates f (clearance f u) l) (rLevel f r)) (refusal 15 u r)
-    (unless (passes (λ l. dominates f l (clearance f u)) (wLevel f r)) (refusal 16 u r) fine))
+unfoldable pub assignVerdict : Settings → ℕ → ℕ → Verdict
+assignVerdict s u r =
+    unless (isDefined (wLevel s r)) (refusal 14 u r)
+    (unless (passes (λ l. s .dominates (s .clearance u) l) (rLevel s r)) (refusal 15 u r)
+    (unless (passes (λ l. s .dominates l (s .clearance u)) (wLevel s r)) (refusal 16 u r) fine))
 
 -- of line i, where it is an assignment
 unfoldable pub assignmentVerdict : List ℕ → ℕ → Verdict
-assignmentVerdict f i = cond (eqb (lineAt f i .letter) A) (assignVerdict f (lineAt f i .a) (lineAt f i .b)) fine
+assignmentVerdict f i = cond (eqb (lineAt f i .letter) A) (assignVerdict (settings f) (lineAt f i .a) (lineAt f i .b)) fine
 
 -- "11, 12, 13, then assignments in file order, 14 to 16 within each"
 unfoldable pub policyVerdict : List ℕ → Verdict

@@ -18,6 +18,7 @@ ghost use Rattle.rolefile.specs.Form.{scan};
 ghost use Rattle.rolefile.specs.Section.{part, Leads};
 ghost use Rattle.rolefile.specs.WellFormed.{GoodCounts};
 ghost use Rattle.policy.specs.Tables.{word};
+ghost use Rattle.policy.specs.Settings.{settings};
 ghost use Rattle.policy.specs.Image.{Labelled, Seniors, Levelled, Dominating};
 ghost use Rattle.policy.specs.Verdict.{orderVerdict, assignmentVerdict};
 ghost use Rattle.policy.specs.Stages.{Laid, Ready, Zeros, Noting, Paths, Closed, Ranking, Granting, Counting, Finishing, Built, Copied};
@@ -127,7 +128,7 @@ fn rank_roles(f: &[u8], s: &mut [u8], q: Parts, h: Line) -> Verdict
 
 // Dominance, readers, writers and levels, put into the state.
 fn grant_all(f: &[u8], s: &mut [u8], q: Parts, h: Line, t: [[bool; 32]; 32])
-    requires { ⌜ Ready (now f) q h × (65536 ≤ length (now s)) × Labelled (now f) (now s) × Seniors (now f) (now s) × Closed (now f) t × Zeros 1808 2064 (now s) × Zeros 12304 28688 (now s) ⌝ }
+    requires { ⌜ Ready (now f) q h × (65536 ≤ length (now s)) × Labelled (settings (now f)) (now s) × Seniors (settings (now f)) (now s) × Closed (now f) t × Zeros 1808 2064 (now s) × Zeros 12304 28688 (now s) ⌝ }
     ensures { λ _. ⌜ Granting (now (f .entry)) (now (s .entry)) (now (s .exit)) ⌝ }
 {
     let p = q.p;
@@ -147,7 +148,7 @@ fn grant_all(f: &[u8], s: &mut [u8], q: Parts, h: Line, t: [[bool; 32]; 32])
 
 // 14 to 16, by the tables in the state.
 fn check_assignments(f: &[u8], s: &[u8], q: Parts, h: Line) -> Verdict
-    requires { ⌜ Ready (now f) q h × (65536 ≤ length (now s)) × Labelled (now f) (now s) × Dominating (now f) (now s) × Levelled (now f) (now s) ⌝ }
+    requires { ⌜ Ready (now f) q h × (65536 ≤ length (now s)) × Labelled (settings (now f)) (now s) × Dominating (settings (now f)) (now s) × Levelled (settings (now f)) (now s) ⌝ }
     ensures { λ v. ⌜ v ≡ scan (lines (now (f .entry))) (assignmentVerdict (now (f .entry))) ⌝ }
 {
     let a = q.a;

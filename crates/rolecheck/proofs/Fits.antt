@@ -10,14 +10,13 @@ use borrow.Author.Tests.{eqb-true}
 use Rattle.search.proofs.Found.{first-within}
 use Rattle.order.specs.Closure.{Relation, path}
 use Rattle.order.specs.Bound.{converse}
-use Rattle.rolefile.specs.Said.{labels, roles}
-use Rattle.rolefile.specs.WellFormed.{WellFormed}
 use Rattle.rolefile.proofs.Written.{columns-length}
-use Rattle.policy.specs.Policy.{Level, Free, Label, Undefined, dominates, mayAt, level, rLevel, wLevel, levelNumber}
+use Rattle.policy.specs.Settings.{Settings, settings, Bounded}
+use Rattle.policy.specs.Policy.{Level, Free, Label, Undefined, mayAt, level, rLevel, wLevel, levelNumber}
 use Rattle.policy.specs.Flow.{flows, flowCircle}
 use Rattle.policy.specs.Verdict.{verdict}
+use Rattle.policy.proofs.Inside.{bounded}
 use Rattle.policy.proofs.Levels.{Tells, level-tells}
-use Rattle.policy.proofs.Meaning.{counts-known}
 use Rattle.policy.proofs.Outcomes.{accepted-iff}
 use Rattle.text.proofs.Lengths.{where-most}
 use Rattle.text.proofs.Each.{each-most, each-pair-most}
@@ -55,19 +54,18 @@ level-few n ge s few = go (level n ge s) (level-tells n ge s)
     go (Label c) (h, b) = omega (arith, b .inside)
     go Undefined t = omega arith
 
-module _ (f : List ℕ) (form : WellFormed f) where
-  file-lines-length : length (fileLines f) ≤ 363286
+module _ (σ : Settings) (bounded : Bounded σ) where
+  file-lines-length : length (fileLines σ) ≤ 363286
   unfolding policyLines rLevel wLevel flowCircle
   file-lines-length =
-      let counts = counts-known f form in
       rw (length-append, length-append)
       (omega (
         arith,
-        role-lines-most (λ r. levelNumber (rLevel f r)) (λ r. levelNumber (wLevel f r))
-            (λ r. level-few (labels f) (dominates f) (mayAt f 1 r) (counts .labels .1)) (λ r. level-few (labels f) (converse (dominates f)) (mayAt f 2 r) (counts .labels .1))
-            (roles f) (counts .roles),
-        flow-lines-most (flows f) (roles f) (counts .roles),
-        line-length 67 1 (flowCircle f) 0 0 (omega (arith, first-within (λ a. path (roles f) (flows f) a a) (roles f))) (omega arith) (omega arith),
+        role-lines-most (λ r. levelNumber (rLevel σ r)) (λ r. levelNumber (wLevel σ r))
+            (λ r. level-few (σ .labels) (σ .dominates) (mayAt σ 1 r) (bounded .labels .1)) (λ r. level-few (σ .labels) (converse (σ .dominates)) (mayAt σ 2 r) (bounded .labels .1))
+            (σ .roles) (bounded .roles),
+        flow-lines-most (flows σ) (σ .roles) (bounded .roles),
+        line-length 67 1 (flowCircle σ) 0 0 (omega (arith, first-within (λ a. path (σ .roles) (flows σ) a a) (σ .roles))) (omega arith) (omega arith),
       ))
 
 module _ (f : List ℕ) where
@@ -75,8 +73,8 @@ module _ (f : List ℕ) where
   unfolding report
   report-length =
       let v = verdict-written f in
-      let rest : length (cond (eqb (verdict f .number) 0) (fileLines f) []) ≤ 363286 =
-      where-most _ (fileLines f) (λ e. file-lines-length f (accepted-iff f .0 (eqb-true (verdict f .number) 0 e) .ordered .form)) in
+      let rest : length (cond (eqb (verdict f .number) 0) (fileLines (settings f)) []) ≤ 363286 =
+      where-most _ (fileLines (settings f)) (λ e. file-lines-length (settings f) (bounded f (accepted-iff f .0 (eqb-true (verdict f .number) 0 e) .ordered .form))) in
       rw length-append
       (omega (
         arith,

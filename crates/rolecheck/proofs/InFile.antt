@@ -6,8 +6,7 @@ use lib.ListN.{length}
 use Rattle.search.specs.Search.{Among}
 use Rattle.search.proofs.Truth.{among-iff}
 use Rattle.order.specs.Closure.{Relation}
-use Rattle.rolefile.specs.Said.{roles}
-use Rattle.rolefile.specs.WellFormed.{WellFormed}
+use Rattle.policy.specs.Settings.{Settings, Bounded}
 use Rattle.policy.specs.Policy.{rLevel, wLevel, levelNumber}
 use Rattle.policy.specs.Flow.{flows}
 use Rattle.policy.specs.Tables.{rLevelsAt, wLevelsAt, levelIn, flowsIn}
@@ -21,19 +20,19 @@ line-agrees : (flow flow₂ : Relation) (r q : ℕ) → flow r q ≡ flow₂ r q
 unfolding flowLine
 line-agrees flow flow₂ r q e = rw e
 
-module _ (f : List ℕ) (form : WellFormed f) (xs : List ℕ) (long : 65536 ≤ length xs) (tables : Describes f xs) where
-  levels-file : (r : ℕ) → Among (roles f) r → (levelIn xs rLevelsAt r ≡ levelNumber (rLevel f r)) × (levelIn xs wLevelsAt r ≡ levelNumber (wLevel f r))
+module _ (σ : Settings) (bounded : Bounded σ) (xs : List ℕ) (long : 65536 ≤ length xs) (tables : Describes σ xs) where
+  levels-file : (r : ℕ) → Among (σ .roles) r → (levelIn xs rLevelsAt r ≡ levelNumber (rLevel σ r)) × (levelIn xs wLevelsAt r ≡ levelNumber (wLevel σ r))
   levels-file r w =
-      rw (a-state xs long, among-iff 128 r .1 (role-few f form r w)) (tables .levelled .reads r (role-few f form r w), tables .levelled .writes r (role-few f form r w))
+      rw (a-state xs long, among-iff 128 r .1 (role-few σ bounded r w)) (tables .levelled .reads r (role-few σ bounded r w), tables .levelled .writes r (role-few σ bounded r w))
 
-  pub lines-file : stateLines xs ≡ fileLines f
+  pub lines-file : stateLines xs ≡ fileLines σ
   unfolding policyLines
   lines-file =
       rw (
-        role-count-file f form xs tables long,
-        circle-file f form xs tables long,
-        each-agree (roles f) (roleLine (levelIn xs rLevelsAt) (levelIn xs wLevelsAt)) (roleLine (λ r. levelNumber (rLevel f r)) (λ r. levelNumber (wLevel f r)))
+        role-count-file σ bounded xs tables long,
+        circle-file σ bounded xs tables long,
+        each-agree (σ .roles) (roleLine (levelIn xs rLevelsAt) (levelIn xs wLevelsAt)) (roleLine (λ r. levelNumber (rLevel σ r)) (λ r. levelNumber (wLevel σ r)))
             (λ r w. rw (levels-file r w .0, levels-file r w .1)),
-        each-pair-agree (roles f) (flowLine (flowsIn xs)) (flowLine (flows f))
-            (λ r q v w. line-agrees (flowsIn xs) (flows f) r q (flow-file f form xs tables long r q (role-few f form r v) (role-few f form q w))),
+        each-pair-agree (σ .roles) (flowLine (flowsIn xs)) (flowLine (flows σ))
+            (λ r q v w. line-agrees (flowsIn xs) (flows σ) r q (flow-file σ bounded xs tables long r q (role-few σ bounded r v) (role-few σ bounded q w))),
       )

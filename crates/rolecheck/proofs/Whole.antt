@@ -7,8 +7,10 @@ use lib.ListN.{length, take}
 use lib.Seq.{length-take-le}
 use borrow.Author.Tests.{eq-eqb, ne-eqb}
 use Rattle.rolefile.specs.declared.Verdict.{Verdict}
+use Rattle.policy.specs.Settings.{settings}
 use Rattle.policy.specs.Verdict.{verdict}
 use Rattle.policy.specs.Image.{Loaded}
+use Rattle.policy.proofs.Inside.{bounded}
 use Rattle.policy.proofs.Loads.{judged}
 use Rattle.policy.proofs.Outcomes.{accepted-iff}
 use Rattle.io.specs.Counts.{Counts}
@@ -32,7 +34,7 @@ module _ (f : List ℕ) {v : Verdict} {xs ys : List ℕ} (load : Loaded f v xs y
   unfolding report
   accepted-report e =
       let zero = rw (judged load long) at e in
-      rw (judged load long, eq-eqb (verdict f .number) 0 zero, lines-file f (accepted-iff f .0 zero .ordered .form) ys (rw (load .long) long) (load .done e .tables))
+      rw (judged load long, eq-eqb (verdict f .number) 0 zero, lines-file (settings f) (bounded f (accepted-iff f .0 zero .ordered .form)) ys (rw (load .long) long) (load .done e .tables))
 
 pub whole : (f : List ℕ) {r : ℕ} {xs ys : List ℕ} → 363308 ≤ length xs → Puts (report f) 0 xs r ys → Counts r ys × (take r ys ≡ report f)
 whole f {r} {xs} {ys} l puts =

@@ -5,9 +5,9 @@ use mathlib.Core.List.{List, [], _∷_, _++_}
 use mathlib.Core.Bool.{cond}
 use lib.Dec.{leb, eqb}
 use Rattle.order.specs.Closure.{Relation}
-use Rattle.rolefile.specs.Said.{roles}
 use Rattle.rolefile.specs.Decimal.{blanks, columnsOf}
 use Rattle.text.specs.Text.{each, eachPair}
+use Rattle.policy.specs.Settings.{Settings, settings}
 use Rattle.policy.specs.Policy.{rLevel, wLevel, levelNumber}
 use Rattle.policy.specs.Verdict.{verdict}
 use Rattle.policy.specs.Flow.{flows, flowCircle}
@@ -45,12 +45,12 @@ policyLines n reads writes flow role = roleLines reads writes n ++ (flowLines fl
 
 -- ---- the report; 86 is the byte of V
 
-abbrev pub fileLines : List ℕ → List ℕ
-fileLines f = policyLines (roles f) (λ r. levelNumber (rLevel f r)) (λ r. levelNumber (wLevel f r)) (flows f) (flowCircle f)
+abbrev pub fileLines : Settings → List ℕ
+fileLines s = policyLines (s .roles) (λ r. levelNumber (rLevel s r)) (λ r. levelNumber (wLevel s r)) (flows s) (flowCircle s)
 
 unfoldable pub report : List ℕ → List ℕ
 report f =
-    line 86 3 (verdict f .number) (verdict f .first) (verdict f .second) ++ cond (eqb (verdict f .number) 0) (fileLines f) []
+    line 86 3 (verdict f .number) (verdict f .first) (verdict f .second) ++ cond (eqb (verdict f .number) 0) (fileLines (settings f)) []
 
 -- ---- the same lines of a state
 

@@ -3,9 +3,10 @@ use mathlib.Core.Path.{_∙_}
 use native.Mathlib.Omega.{arith}
 use borrow.Author.Needs.{needs}
 use denote.Ref.{now}
+use Rattle.policy.specs.Settings.{settings}
 use Rattle.policy.specs.Tables.{assignByTables}
 use Rattle.policy.proofs.Readying.{good-of, counts-of, a-lines}
-use Rattle.policy.proofs.Inside.{over-between}
+use Rattle.policy.proofs.Inside.{dominates-inside}
 use Rattle.policy.proofs.Assigning.{tables-verdict, numbers-within, scan-assignments}
 use Rattle.policy.proofs.build.check_assignments.Statement.{statement}
 use Rattle.policy.proofs.build.check_assignments.Tie as tie
@@ -35,7 +36,7 @@ returns c =
     let counts = counts-of f l in
     rw (c .before .part .ensures) at (c .assign-lines .ensures)
     ∙ scan-assignments f good counts (a-lines f q l (ready .laid)) (assignByTables ys)
-    (tables-verdict f ys counts (over-between f good) dominating labelled levelled)
+    (tables-verdict (settings f) ys (counts .labels .1) (dominates-inside f good) dominating labelled levelled)
 
 pub check-assignments-spec : {M : Type 1} → statement M
 check-assignments-spec = tie.close (tie.spec (λ c κs. search needs) assign-lines-requires returns)
