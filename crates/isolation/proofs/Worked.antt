@@ -9,7 +9,7 @@ use lib.ListN.{length, getD, replicate, getD-replicate, List·getD-append, lengt
 use Rattle.search.specs.Search.{some, every, first}
 use Rattle.search.proofs.Truth.{both}
 use Rattle.order.specs.Closure.{via}
-use Rattle.order.specs.Bound.{upper, isLeast, least, lub, withoutBound, partnerWithoutBound, lowestWithoutBound}
+use Rattle.order.specs.Bound.{upper, isLeast, leastOf, lub, pairWithoutBound, partnerWithoutBound, lowestWithoutBound}
 use Rattle.rolefile.specs.Field.{column, columns}
 use Rattle.rolefile.specs.Line.{letterOf, fields, formed, lineOf, lineAt}
 use Rattle.rolefile.specs.Form.{fine, scan, sized, goodCounts, firstLimit, secondLimit, ranged, rises, headVerdict, bodyVerdict, lineVerdict}
@@ -37,7 +37,7 @@ accepted-file : verdict file ≡ fine
 unfolding file bytes
     column columns letterOf fields formed lineOf lineAt
     sized goodCounts firstLimit secondLimit ranged rises headVerdict bodyVerdict lineVerdict scan count unlabelled unlabelledVerdict linesVerdict formVerdict
-    says last labelBy some every first via upper isLeast least lub withoutBound partnerWithoutBound lowestWithoutBound
+    says last labelBy some every first via upper isLeast leastOf lub pairWithoutBound partnerWithoutBound lowestWithoutBound
     dominates senior may mayAt level rLevel wLevel orderVerdict labelVerdict roleVerdict assignVerdict assignmentVerdict policyVerdict verdict
 accepted-file = refl
 
@@ -48,7 +48,7 @@ accepted = accepted-fine file .0 accepted-file
 computed : (answersBy 2 firstStore firstRun ≡ low) × (answersBy 2 secondStore secondRun ≡ low)
     × (answersBy 4 firstStore firstRun ≡ highFirst) × (answersBy 4 secondStore secondRun ≡ highSecond)
 unfolding file bytes firstStore secondStore firstRun secondRun low highFirst highSecond
-    column columns letterOf fields formed lineOf lineAt says last labelBy some every first via upper isLeast least lub
+    column columns letterOf fields formed lineOf lineAt says last labelBy some every first via upper isLeast leastOf lub
     dominates senior may mayAt level rLevel wLevel
     unless ifDone entitledByFile fittingByFile givesByFile openRule closeRule takeRule dropRule partRule rule sessionsAfter
     grants track shared partOf storeOf shownBy

@@ -3,7 +3,7 @@ use mathlib.Core.Path.{_≡_, refl}
 use mathlib.Core.List.{List, _∷_, map, List·Memᴰ, List·Memᴰ·head, List·Memᴰ·tail}
 use Rattle.search.specs.Search.{some, every, first}
 use Rattle.order.specs.Closure.{via}
-use Rattle.order.specs.Bound.{upper, isLeast, least, lub, withoutBound, partnerWithoutBound, lowestWithoutBound}
+use Rattle.order.specs.Bound.{upper, isLeast, leastOf, lub, pairWithoutBound, partnerWithoutBound, lowestWithoutBound}
 use Rattle.rolefile.specs.Field.{column, columns}
 use Rattle.rolefile.specs.Line.{letterOf, fields, formed, lineOf, lineAt}
 use Rattle.rolefile.specs.Form.{scan, sized, goodCounts, firstLimit, secondLimit, ranged, rises, headVerdict, bodyVerdict, lineVerdict}
@@ -25,7 +25,7 @@ computed : map given cases ≡ map (λ c. c .expected) cases
 unfolding cases findings bytes
     column columns letterOf fields formed lineOf lineAt
     sized goodCounts firstLimit secondLimit ranged rises headVerdict bodyVerdict lineVerdict scan count unlabelled unlabelledVerdict linesVerdict formVerdict
-    says last labelBy some every first via upper isLeast least lub withoutBound partnerWithoutBound lowestWithoutBound
+    says last labelBy some every first via upper isLeast leastOf lub pairWithoutBound partnerWithoutBound lowestWithoutBound
     dominates senior may mayAt level rLevel wLevel orderVerdict labelVerdict roleVerdict assignVerdict assignmentVerdict policyVerdict verdict flows flowCircle
     unless ifDone entitledByFile fittingByFile givesByFile openRule takeRule partRule rule sessionsAfter numbered
 computed = refl

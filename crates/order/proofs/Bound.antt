@@ -12,7 +12,7 @@ use Rattle.search.specs.Search.{every, first, implies, Among, Lowest}
 use Rattle.search.proofs.Truth.{eqb-iff, ltb-iff, and-iff, and-both, or-both, untrue, both, other-iff, same}
 use Rattle.search.proofs.Found.{every-agree, every-in, every-cut, first-found, first-more, first-none-of, first-lowest, first-within, first-agree, first-cut}
 use Rattle.order.specs.Closure.{Relation, Agree, PartialOrder}
-use Rattle.order.specs.Bound.{upper, isLeast, least, lub, converse, pair, withoutBound, partnerWithoutBound, someWithoutBound, lowestWithoutBound, Upper, Lower, IsLub, Joined, AllJoined, FirstPair, FirstWithoutBound}
+use Rattle.order.specs.Bound.{upper, isLeast, leastOf, lub, converse, pair, pairWithoutBound, partnerWithoutBound, someWithoutBound, lowestWithoutBound, Upper, Lower, IsLub, Joined, AllJoined, FirstPair, FirstWithoutBound}
 
 module _ (n : ℕ) (ge : Relation) (s : ℕ → Bool) where
   pub upper-iff : (c : ℕ) → (upper n ge s c ≡ true) ↔ Upper n ge s c
@@ -35,14 +35,14 @@ module _ (n : ℕ) (ge : Relation) (s : ℕ → Bool) where
 
   -- 0 is answered just where there is none
   pub lub-none : (lub n ge s ≡ 0) ↔ ((c : ℕ) → IsLub n ge s c → ⊥)
-  unfolding lub least
+  unfolding lub leastOf
   lub-none =
       Iff·trans (first-none-of (isLeast n ge (upper n ge s)) n (λ c w. other-iff false (isLub-iff c w)))
       (λ none c b. none c (b .inside) b, λ none c w. none c)
 
   -- and else one
   pub lub-is : (c : ℕ) → 1 ≤ c → lub n ge s ≡ c → IsLub n ge s c
-  unfolding lub least
+  unfolding lub leastOf
   lub-is c l q = let low = first-lowest (isLeast n ge (upper n ge s)) n c l .0 q in isLub-iff c (low .inside) .0 (low .holds)
 
   lub-exists : (lub n ge s ≡ 0 → ⊥) ↔ ((c : ℕ) × IsLub n ge s c)
@@ -83,25 +83,25 @@ module _ (n : ℕ) (ge : Relation) where
       let (p, q) = and-iff (ge c a) (ge c b) .0 h in
       upper-iff n ge (pair a b) c .1 (λ x u k. ⊎-elim (λ i. rw i p) (λ i. rw i q) (pair-iff a b x .0 k)))
 
-  without-bound-iff : (a b : ℕ) → (withoutBound n ge a b ≡ true) ↔ ((a < b) × (lub n ge (pair a b) ≡ 0))
-  unfolding withoutBound
+  without-bound-iff : (a b : ℕ) → (pairWithoutBound n ge a b ≡ true) ↔ ((a < b) × (lub n ge (pair a b) ≡ 0))
+  unfolding pairWithoutBound
   without-bound-iff a b = and-both (ltb-iff a b) (eqb-iff (lub n ge (pair a b)) 0)
 
-  -- what `withoutBound` tells of two in rising order
-  together : (a b : ℕ) → a < b → withoutBound n ge a b ≡ false → Joined n ge a b
+  -- what `pairWithoutBound` tells of two in rising order
+  together : (a b : ℕ) → a < b → pairWithoutBound n ge a b ≡ false → Joined n ge a b
   together a b l q = lub-exists n ge (pair a b) .0 (λ z. both (without-bound-iff a b .1 (l, z)) q)
 
-  separate : (a b : ℕ) → withoutBound n ge a b ≡ true → Joined n ge a b → ⊥
+  separate : (a b : ℕ) → pairWithoutBound n ge a b ≡ true → Joined n ge a b → ⊥
   separate a b h j = lub-exists n ge (pair a b) .1 j (without-bound-iff a b .0 h .1)
 
   someWithoutBound-none : (a : ℕ) → (someWithoutBound n ge a ≡ false) ↔ ((b : ℕ) → Among n b → a < b → Joined n ge a b)
   unfolding partnerWithoutBound
   someWithoutBound-none a =
-      let partner = first n (withoutBound n ge a) in
+      let partner = first n (pairWithoutBound n ge a) in
       let none : (ltb 0 partner ≡ false) ↔ (partner ≡ 0) = (λ e. omega (arith, ltb-false 0 partner e), λ z. le-ltb 0 partner (omega arith)) in
-      Iff·trans none (first-none-of (withoutBound n ge a) n (λ b w. (
+      Iff·trans none (first-none-of (pairWithoutBound n ge a) n (λ b w. (
         λ q l. together a b l q,
-        λ h. untrue (withoutBound n ge a b) (λ p. separate a b p (h (without-bound-iff a b .0 p .0))),
+        λ h. untrue (pairWithoutBound n ge a b) (λ p. separate a b p (h (without-bound-iff a b .0 p .0))),
       )))
 
   -- a pair the other way round, and a thing with itself
@@ -145,7 +145,7 @@ module _ (n : ℕ) (ge : Relation) where
   unfolding lowestWithoutBound partnerWithoutBound
   lowest-without-first a l q = go (first-lowest (someWithoutBound n ge) n a l .0 q)
     where
-      pairs : Lowest n (someWithoutBound n ge) a → Lowest n (withoutBound n ge a) (partnerWithoutBound n ge a) → FirstPair n ge a (partnerWithoutBound n ge a)
+      pairs : Lowest n (someWithoutBound n ge) a → Lowest n (pairWithoutBound n ge a) (partnerWithoutBound n ge a) → FirstPair n ge a (partnerWithoutBound n ge a)
       pairs low h = record {
         lower = low .inside;
         higher = h .inside;
@@ -156,13 +156,13 @@ module _ (n : ℕ) (ge : Relation) where
       }
 
       go : Lowest n (someWithoutBound n ge) a → FirstPair n ge a (partnerWithoutBound n ge a)
-      go low = pairs low (first-lowest (withoutBound n ge a) n (partnerWithoutBound n ge a) (ltb-true 0 (partnerWithoutBound n ge a) (low .holds)) .0 refl)
+      go low = pairs low (first-lowest (pairWithoutBound n ge a) n (partnerWithoutBound n ge a) (ltb-true 0 (partnerWithoutBound n ge a) (low .holds)) .0 refl)
 
 -- ---- an order sees only its things
 
 -- among more things, a set cut to the first m has the same least
-pub least-cut : (m n : ℕ) (ge : Relation) (s t : ℕ → Bool) → m ≤ n → ((a : ℕ) → Among n a → t a ≡ (leb a m && s a)) → least n ge t ≡ least m ge s
-unfolding least isLeast upper
+pub least-cut : (m n : ℕ) (ge : Relation) (s t : ℕ → Bool) → m ≤ n → ((a : ℕ) → Among n a → t a ≡ (leb a m && s a)) → leastOf n ge t ≡ leastOf m ge s
+unfolding leastOf isLeast upper
 least-cut m n ge s t l h =
     first-cut m n l (isLeast m ge s) (isLeast n ge t) (λ c w.
     rw (every-cut m n l s t (λ x. ge x c) h, h c w) (and-assoc (leb c m) (s c) (every m (λ x. implies (s x) (ge x c)))))
@@ -170,7 +170,7 @@ least-cut m n ge s t l h =
 module _ (n : ℕ) (f g : Relation) (h : Agree n n f g) where
   -- one order, and one set, by two names
   pub lub-agree : (s t : ℕ → Bool) → ((x : ℕ) → Among n x → s x ≡ t x) → lub n f s ≡ lub n g t
-  unfolding lub least isLeast upper
+  unfolding lub leastOf isLeast upper
   lub-agree s t e =
       first-agree (isLeast n f (upper n f s)) (isLeast n g (upper n g t)) n (λ c w.
       rw (
@@ -182,8 +182,8 @@ module _ (n : ℕ) (f g : Relation) (h : Agree n n f g) where
       bounds c w = every-agree (λ x. implies (s x) (f c x)) (λ x. implies (t x) (g c x)) n (λ x v. rw (e x v, h c x w v))
 
   partnerWithoutBound-agree : (a : ℕ) → partnerWithoutBound n f a ≡ partnerWithoutBound n g a
-  unfolding partnerWithoutBound withoutBound
-  partnerWithoutBound-agree a = first-agree (withoutBound n f a) (withoutBound n g a) n (λ b w. rw (lub-agree (pair a b) (pair a b) (λ x v. refl)))
+  unfolding partnerWithoutBound pairWithoutBound
+  partnerWithoutBound-agree a = first-agree (pairWithoutBound n f a) (pairWithoutBound n g a) n (λ b w. rw (lub-agree (pair a b) (pair a b) (λ x v. refl)))
 
   lowest-without-agree : lowestWithoutBound n f ≡ lowestWithoutBound n g
   unfolding lowestWithoutBound
@@ -193,7 +193,7 @@ module _ (n : ℕ) (f g : Relation) (h : Agree n n f g) where
   first-without-agree a b h = record { lower = h .lower ∙ lowest-without-agree; higher = rw (← (partnerWithoutBound-agree a)) (h .higher) }
 
 pub lub-within : (n : ℕ) (ge : Relation) (s : ℕ → Bool) → lub n ge s ≤ n
-unfolding lub least
+unfolding lub leastOf
 lub-within n ge s = first-within (isLeast n ge (upper n ge s)) n
 
 -- what a search answers that tries the things in turn

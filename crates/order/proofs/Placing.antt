@@ -14,7 +14,7 @@ use Rattle.search.specs.Search.{Among}
 use Rattle.search.proofs.Truth.{among-iff, both, eqb-swap}
 use Rattle.roleset.specs.Row.{whole, member, added, unitedWhere, RowCopy, Placed, PlacedRows}
 use Rattle.roleset.proofs.Rows.{row-kept, other-kept, kept-wider, kept-both, row-copy, whole-true}
-use Rattle.order.specs.Closure.{Relation, via, round, reflexive}
+use Rattle.order.specs.Closure.{Relation, via, round, withItself}
 use Rattle.order.specs.Table.{Rows, related, Tabled}
 use Rattle.order.proofs.Closure.{RowSet, rows-none, rows-more, rounds-none, rounds-more}
 
@@ -76,10 +76,10 @@ module _ (at : ℕ) (xs : List ℕ) (fits : at + 2048 ≤ length xs) where
   e = related xs at
 
   -- a thing put into its own row
-  pub reflexive-row : (i b : ℕ) (ys : List ℕ) → i < 128 → Among 128 b → Tabled at i (reflexive e) xs ys
-      → added ys (at + 16 * i) (i + 1) b ≡ reflexive e (i + 1) b
-  reflexive-row i b ys l w t =
-      rw (placing-left at (reflexive e) xs fits i b ys l w t, among-iff 128 (i + 1) .1 (omega arith), eqb-swap b (i + 1), add-sub-cancel i 1)
+  pub with-itself-row : (i b : ℕ) (ys : List ℕ) → i < 128 → Among 128 b → Tabled at i (withItself e) xs ys
+      → added ys (at + 16 * i) (i + 1) b ≡ withItself e (i + 1) b
+  with-itself-row i b ys l w t =
+      rw (placing-left at (withItself e) xs fits i b ys l w t, among-iff 128 (i + 1) .1 (omega arith), eqb-swap b (i + 1), add-sub-cancel i 1)
       (or-comm (member xs (at + 16 * i) b) (eqb (i + 1) b))
 
   -- what a round of closing makes of the table, given the row `other` of thing k + 1

@@ -23,21 +23,21 @@ upper n ge s c = every n (λ x. implies (s x) (ge c x))
 unfoldable pub isLeast : ℕ → Relation → (ℕ → Bool) → ℕ → Bool
 isLeast n ge s c = s c && upper n (converse ge) s c
 
-unfoldable pub least : ℕ → Relation → (ℕ → Bool) → ℕ
-least n ge s = first n (isLeast n ge s)
+unfoldable pub leastOf : ℕ → Relation → (ℕ → Bool) → ℕ
+leastOf n ge s = first n (isLeast n ge s)
 
 unfoldable pub lub : ℕ → Relation → (ℕ → Bool) → ℕ
-lub n ge s = least n ge (upper n ge s)
+lub n ge s = leastOf n ge (upper n ge s)
 
 -- the set of a and b
 abbrev pub pair : ℕ → ℕ → ℕ → Bool
 pair a b x = eqb x a || eqb x b
 
-unfoldable pub withoutBound : ℕ → Relation → ℕ → ℕ → Bool
-withoutBound n ge a b = ltb a b && eqb (lub n ge (pair a b)) 0
+unfoldable pub pairWithoutBound : ℕ → Relation → ℕ → ℕ → Bool
+pairWithoutBound n ge a b = ltb a b && eqb (lub n ge (pair a b)) 0
 
 unfoldable pub partnerWithoutBound : ℕ → Relation → ℕ → ℕ
-partnerWithoutBound n ge a = first n (withoutBound n ge a)
+partnerWithoutBound n ge a = first n (pairWithoutBound n ge a)
 
 -- a has no least upper bound with some thing after it
 abbrev pub someWithoutBound : ℕ → Relation → ℕ → Bool

@@ -23,8 +23,8 @@ abbrev pub round : Relation → ℕ → Relation
 round e k a b = e a b || (e a k && e k b)
 
 -- each thing with itself
-abbrev pub reflexive : Relation → Relation
-reflexive e a b = eqb a b || e a b
+abbrev pub withItself : Relation → Relation
+withItself e a b = eqb a b || e a b
 
 -- a path whose inner things are among 1 to k; one thing more may be passed once
 unfoldable pub via : Relation → ℕ → Relation
@@ -35,7 +35,7 @@ abbrev pub path : ℕ → Relation → Relation
 path n e = via e n
 
 abbrev pub closure : ℕ → Relation → Relation
-closure n e = reflexive (path n e)
+closure n e = withItself (path n e)
 
 abbrev pub toItself : Relation → ℕ → Bool
 toItself e a = e a a

@@ -7,7 +7,7 @@ ghost use mathlib.Core.Bool.{_&&_};
 ghost use Prim.Native.Nat.{_+_, _≤_, _<_, min};
 ghost use Rattle.search.specs.Search.{among, every, implies};
 ghost use Rattle.order.specs.Closure.{Agree};
-ghost use Rattle.order.specs.Bound.{upper, least, converse, partnerWithoutBound, FirstWithoutBound};
+ghost use Rattle.order.specs.Bound.{upper, leastOf, converse, partnerWithoutBound, FirstWithoutBound};
 ghost use Rattle.order.specs.Table.{marks, mark, Upto, FirstThings};
 
 // The set of the first n things.
@@ -61,7 +61,7 @@ fn leads(s: [bool; 32], under: [bool; 32], among: bool) -> bool
 
 // The greatest of the set, or 0. Where several are over all of it, the lowest number of them.
 fn greatest(t: &[[bool; 32]; 32], s: &[bool; 32]) -> usize
-    ensures { λ r. ⌜ r ≡ least 32 (converse (mark (now (t .entry)))) (marks (now (s .entry))) ⌝ }
+    ensures { λ r. ⌜ r ≡ leastOf 32 (converse (mark (now (t .entry)))) (marks (now (s .entry))) ⌝ }
 {
     let set = *s;
     let mut i = 0;
@@ -104,7 +104,7 @@ fn lower_bounds(t: &[[bool; 32]; 32], n: usize, all: &[bool; 32], s: [bool; 32])
 // The greatest of the things of `all` that are under each of s, of which the first n count, or 0. Where `all` is
 // the set of the first n, this is the greatest lower bound; who asks for many makes that set once.
 pub fn greatest_lower(t: &[[bool; 32]; 32], n: usize, all: &[bool; 32], s: [bool; 32]) -> usize
-    ensures { λ r. ⌜ r ≡ least 32 (converse (mark (now (t .entry)))) (λ c. marks (now (all .entry)) c && upper (min n 32) (converse (mark (now (t .entry)))) (marks s) c) ⌝ }
+    ensures { λ r. ⌜ r ≡ leastOf 32 (converse (mark (now (t .entry)))) (λ c. marks (now (all .entry)) c && upper (min n 32) (converse (mark (now (t .entry)))) (marks s) c) ⌝ }
 {
     let bounds = lower_bounds(t, n, all, s);
     greatest(t, &bounds)
@@ -140,7 +140,7 @@ pub fn converse(t: [[bool; 32]; 32]) -> [[bool; 32]; 32]
 // The greatest of what s and the row of thing j + 1 have in common, or 0.
 fn greatest_common(t: &[[bool; 32]; 32], s: [bool; 32], j: usize) -> usize
     requires { ⌜ j < 32 ⌝ }
-    ensures { λ r. ⌜ r ≡ least 32 (converse (mark (now (t .entry)))) (λ a. marks s a && mark (now (t .entry)) (j + 1) a) ⌝ }
+    ensures { λ r. ⌜ r ≡ leastOf 32 (converse (mark (now (t .entry)))) (λ a. marks s a && mark (now (t .entry)) (j + 1) a) ⌝ }
 {
     let row = t[j];
     let both = common(s, row);

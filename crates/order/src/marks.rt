@@ -4,7 +4,7 @@ ghost use mathlib.Core.Bool.{_&&_, _||_};
 ghost use Prim.Native.Nat.{_+_, _≤_, _<_, min};
 ghost use lib.Dec.{eqb};
 ghost use lib.ListN.{length};
-ghost use Rattle.order.specs.Closure.{path, loop, round, reflexive};
+ghost use Rattle.order.specs.Closure.{path, loop, round, withItself};
 ghost use Rattle.order.specs.Table.{marks, mark, Upto, Rows};
 
 // The lesser of the two.
@@ -70,7 +70,7 @@ pub fn with_mark(row: [bool; 32], b: usize) -> [bool; 32]
 
 // Each of the first n things with itself: of paths, the closure.
 pub fn reflected(t: [[bool; 32]; 32], n: usize) -> [[bool; 32]; 32]
-    ensures { λ r. ⌜ Rows 32 (min n 32) (reflexive (mark t)) (mark t) (mark r) ⌝ }
+    ensures { λ r. ⌜ Rows 32 (min n 32) (withItself (mark t)) (mark t) (mark r) ⌝ }
 {
     let m = lesser(n, 32);
     let mut r = t;

@@ -7,7 +7,7 @@ ghost use mathlib.Core.Bool.{cond};
 ghost use Prim.Native.Nat.{_+_, _≤_, _<_, min};
 ghost use lib.Dec.{leb};
 ghost use lib.ListN.{length};
-ghost use Rattle.order.specs.Closure.{path, loop, round, reflexive};
+ghost use Rattle.order.specs.Closure.{path, loop, round, withItself};
 ghost use Rattle.order.specs.Table.{related, Tabled};
 
 // One round of closing: in the first n rows, the paths past role k + 1 too.
@@ -36,7 +36,7 @@ pub fn paths(s: &mut [u8], at: usize, n: usize)
 
 // Relates each of the first n roles to itself: of paths, this makes the closure.
 pub fn reflect(s: &mut [u8], at: usize, n: usize)
-    ensures { λ _. ⌜ Tabled at (min n 128) (reflexive (related (now (s .entry)) at)) (now (s .entry)) (now (s .exit)) ⌝ }
+    ensures { λ _. ⌜ Tabled at (min n 128) (withItself (related (now (s .entry)) at)) (now (s .entry)) (now (s .exit)) ⌝ }
 {
     if !roleset::rows_lie(s.len(), at, 128) {
         return;

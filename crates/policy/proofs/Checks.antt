@@ -8,20 +8,20 @@ use mathlib.Core.Bool.{Bool}
 use native.Mathlib.Omega.{arith}
 use lib.Dec.{eqb}
 use Rattle.search.proofs.Truth.{eqb-iff, either}
-use Rattle.order.specs.Closure.{Relation, path, closure, circle, PartialOrder, toItself}
+use Rattle.order.specs.Closure.{Relation, path, closure, PartialOrder, toItself}
 use Rattle.order.specs.Bound.{converse, lowestWithoutBound, partnerWithoutBound, AllJoined, FirstPair}
 use Rattle.order.proofs.Closure.{path-iff, circle-misses, circle-none}
 use Rattle.order.proofs.Bound.{lowest-without-none, lowest-without-first}
 use Rattle.rolefile.specs.declared.Verdict.{Verdict}
 use Rattle.rolefile.specs.Line.{A, lineAt}
-use Rattle.rolefile.specs.Form.{fine, refusal, found}
-use Rattle.rolefile.specs.Said.{labels, clearance}
+use Rattle.rolefile.specs.Form.{fine, refusal}
+use Rattle.rolefile.specs.Said.{labels}
 use Rattle.rolefile.proofs.Verdicts.{Clean, unless-clean}
 use Rattle.rolefile.proofs.Decides.{Decides, Else, Fails, decides-as}
 use Rattle.rolefile.proofs.Decides.{cond-decides, fine-decides, test-decides, unless-decides, found-decides, search-decides}
 use Rattle.policy.specs.Settings.{Settings, dominates, settings}
 use Rattle.policy.specs.Policy.{mayAt, rLevel, wLevel, passes, isDefined}
-use Rattle.policy.specs.Verdict.{assignVerdict, assignmentVerdict, pairVerdict}
+use Rattle.policy.specs.Verdict.{circleVerdict, pairVerdict, assignVerdict, assignmentVerdict}
 use Rattle.policy.specs.Accepted.{ReadsUnder, WritesOver, NoWriteLevel, WithinLevels, GoodOrder, GoodAssignment, LowestOnCircle, AssignRefused, noLevel, readsMore, writesLess}
 use Rattle.policy.proofs.Levels.{defined-iff, without-bound, passing-bounded, reads-under-iff, writes-over-iff}
 
@@ -31,7 +31,7 @@ abbrev pub CircleRefusal : ℕ → Relation → ℕ → Verdict → Type 0
 CircleRefusal n e number v = (a : ℕ) × LowestOnCircle n e a × (v ≡ refusal number a 0)
 
 pub circle-decides : (n : ℕ) (e : Relation) (number : ℕ)
-    → Decides (found (circle n e) (refusal (suc number) (circle n e) 0)) (GoodOrder n e (closure n e)) (CircleRefusal n e (suc number))
+    → Decides (circleVerdict (suc number) n (path n e)) (GoodOrder n e (closure n e)) (CircleRefusal n e (suc number))
 circle-decides n e number =
     search-decides n (toItself (path n e)) (
       λ z. let (o, i) = circle-none e n .0 z in record { order = o; strict = i },

@@ -9,7 +9,7 @@ use borrow.Author.Tests.{le-leb, lt-leb}
 use Rattle.search.specs.Search.{Among}
 use Rattle.search.proofs.Truth.{untrue}
 use Rattle.search.proofs.Found.{wider}
-use Rattle.order.specs.Closure.{Relation, Agree, path, reflexive, closure}
+use Rattle.order.specs.Closure.{Relation, Agree, path, withItself, closure}
 use Rattle.order.specs.Table.{Rows}
 use Rattle.order.proofs.Closure.{via-agree}
 use Rattle.policy.specs.Stages.{PathRows}
@@ -28,7 +28,7 @@ module _ (size n : ℕ) (e t u : Relation) where
   }
 
   -- t has the paths, and u each of the things 1 to n with itself too
-  pub closed-table : PathRows size n e t → Rows size n (reflexive t) t u → Agree size size u (λ a b. leb a n && closure n e a b)
+  pub closed-table : PathRows size n e t → Rows size n (withItself t) t u → Agree size size u (λ a b. leb a n && closure n e a b)
   closed-table paths rows a b v w = elim (decLt n a) [
     | yes l ↦ rows .left a b l (v .1) w ∙ paths .left a b l (v .1) w ∙ rw (lt-leb a n l)
     | no l ↦

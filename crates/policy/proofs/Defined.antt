@@ -8,9 +8,8 @@ use Rattle.search.specs.Search.{Among}
 use Rattle.order.specs.Closure.{PartialOrder}
 use Rattle.order.specs.Bound.{converse, AllJoined, Lower}
 use Rattle.order.proofs.Lattice.{lub-of-set, glb-iff-lower}
-use Rattle.rolefile.specs.Said.{labels}
 use Rattle.policy.specs.Policy.{Level, Free, Label, Undefined}
-use Rattle.policy.specs.Settings.{Settings, dominates}
+use Rattle.policy.specs.Settings.{Settings}
 use Rattle.policy.specs.Policy.{mayAt, level, rLevel, wLevel, isDefined}
 use Rattle.policy.specs.Accepted.{Some}
 use Rattle.policy.proofs.Levels.{Tells, level-tells, defined-iff}

@@ -6,7 +6,7 @@ use mathlib.Core.Bool.{Bool, cond}
 use native.Mathlib.Omega.{arith}
 use lib.Dec.{ltb}
 use borrow.Author.Tests.{le-leb, lt-ltb}
-use Rattle.order.specs.Closure.{Relation, Agree, path, reflexive}
+use Rattle.order.specs.Closure.{Relation, Agree, path, withItself}
 use Rattle.order.specs.Bound.{partnerWithoutBound, lowestWithoutBound, FirstWithoutBound}
 use Rattle.order.specs.Table.{mark, Rows}
 use Rattle.order.proofs.Closure.{loop-circle}
@@ -34,7 +34,7 @@ module _ (f : List ℕ) (good : GoodLines f) (few : labels f ≤ 32) {j m : ℕ}
       paths-table 32 (labels f) (over f) (mark t) (mark u) few (over-between f good) (λ a b v w. said a b v w ∙ says-two f good s refl a b)
 
 pub closed-of : (f : List ℕ) (t c : List (List Bool)) → Paths f t
-    → Rows 32 (labels f) (reflexive (mark t)) (mark t) (mark c) → Closed f c
+    → Rows 32 (labels f) (withItself (mark t)) (mark t) (mark c) → Closed f c
 unfolding dominates
 closed-of f t c = closed-table 32 (labels f) (over f) (mark t) (mark c)
 

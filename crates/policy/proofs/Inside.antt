@@ -3,22 +3,19 @@ use Prim.Native.Nat.{ℕ, zero, suc, _<_}
 use mathlib.Core.Path.{_≡_}
 use mathlib.Core.Logic.{_⊎_, inl, inr, ⊎-elim}
 use mathlib.Core.List.{List}
-use mathlib.Core.Bool.{Bool, true}
+use mathlib.Core.Bool.{true}
 use native.Mathlib.Omega.{arith}
-use lib.Dec.{eqb}
-use borrow.Author.Tests.{eqb-true}
 use Rattle.search.specs.Search.{Among}
-use Rattle.search.proofs.Truth.{eqb-iff, and-iff, and-both, either-by}
-use Rattle.search.proofs.Found.{some-iff, not-last}
 use Rattle.order.specs.Closure.{Relation, via, closure}
 use Rattle.order.proofs.Closure.{ways, same-or-path}
-use Rattle.rolefile.specs.Line.{H, D, S, O, A, lineAt, lines}
+use Rattle.rolefile.specs.Line.{H, D, S, O, lineAt, lines}
 use Rattle.rolefile.specs.Form.{header, firstLimit, secondLimit, about}
-use Rattle.rolefile.specs.Said.{labels, roles, users, is, says, over, above, assigned, last, labelBy, cardLabel}
+use Rattle.rolefile.specs.Said.{labels, roles, users, says, over, above, labelBy, cardLabel}
 use Rattle.rolefile.specs.WellFormed.{One, GoodLines, WellFormed}
 use Rattle.rolefile.proofs.Formed.{header-counts}
 use Rattle.policy.specs.Settings.{dominates, senior, settings, Inside, Bounded}
-use Rattle.policy.proofs.Readying.{numbers-known, limits-d, limits-s, limits-o, limits-a}
+use Rattle.policy.proofs.Readying.{numbers-known, limits-d, limits-s, limits-o}
+use Rattle.policy.proofs.Said.{says-iff, last-of, about-iff}
 
 -- a relation between the things 1 to n alone
 abbrev pub Between : ℕ → Relation → Type 0
@@ -35,23 +32,10 @@ module _ (n : ℕ) (e : Relation) (between : Between n e) where
   pub closure-between : (a b : ℕ) → closure n e a b ≡ true → (a ≡ b) ⊎ (Among n a × Among n b)
   closure-between a b h = ⊎-elim inl (λ q. inr (path-between n a b q)) (same-or-path e n a b .0 h)
 
--- what holds of the value at each that is so holds of the last one's
-last-of : (n : ℕ) (p : ℕ → Bool) (v : ℕ → ℕ) (Q : ℕ → Type 0) → ((i : ℕ) → Among n i → p i ≡ true → Q (v i))
-    → (i : ℕ) → Among n i → p i ≡ true → Q (last n p v)
-unfolding last
-last-of zero p v Q h i w e = absurd (omega arith)
-last-of (suc n) p v Q h i w e =
-    either-by Q (p (suc n)) (v (suc n)) (last n p v) (h (suc n) (omega arith))
-    (λ k. last-of n p v Q (λ j x. h j (omega arith)) i (not-last p n i k e w) e)
-
 module _ (f : List ℕ) (good : GoodLines f) where
   said-known : (k x y z : ℕ) → H < k → says f k x y z ≡ true → Among (firstLimit (header f) k) x × Among (secondLimit (header f) k) y
-  unfolding says
   said-known k x y z after h =
-      let (i, w, e) = some-iff (λ i. is (lineAt f i) k x y z) (lines f) .0 h in
-      let l = lineAt f i in
-      let tests = and-both (eqb-iff (l .letter) k) (and-both (eqb-iff (l .a) x) (and-both (eqb-iff (l .b) y) (eqb-iff (l .c) z))) in
-      let (letter, (a, (b, c))) = tests .0 e in
+      let (i, w, (letter, (a, (b, c)))) = says-iff f k x y z .0 h in
       let g = numbers-known f good k after i w letter in
       (rw (letter, a) at (g .one), rw (letter, b) at (g .two))
 
@@ -61,15 +45,11 @@ module _ (f : List ℕ) (good : GoodLines f) where
   pub above-between : Between (roles f) (above f)
   above-between r q h = rw (limits-s (header f) .0, limits-s (header f) .1) at (said-known S r q 0 (omega arith) h)
 
-  pub assigned-known : (u r : ℕ) → assigned f u r ≡ true → Among (users f) u × Among (roles f) r
-  assigned-known u r h = rw (limits-a (header f) .0, limits-a (header f) .1) at (said-known A u r 0 (omega arith) h)
-
   -- the label of a thing that has one line of the letter k
   label-known : (k x : ℕ) → H < k → One f k x → Among (secondLimit (header f) k) (labelBy f k x)
   unfolding labelBy
   label-known k x after one = last-of (lines f) (about f k x) (λ i. lineAt f i .b) (Among (secondLimit (header f) k))
-      (λ i w e. let l = eqb-true (lineAt f i .letter) k (and-iff (eqb (lineAt f i .letter) k) (eqb (lineAt f i .a) x) .0 e .0) in
-      rw l at (numbers-known f good k after i w l .two))
+      (λ i w e. let l = about-iff f k x i .0 e .0 in rw l at (numbers-known f good k after i w l .two))
       (one .line) (one .inside) (one .tells)
 
   pub card-label-known : (o : ℕ) → One f O o → Among (labels f) (cardLabel f o)
@@ -79,7 +59,7 @@ module _ (f : List ℕ) (good : GoodLines f) where
   unfolding dominates
   dominates-inside = closure-between (labels f) (over f) over-between
 
-  senior-inside : Inside (roles f) (senior f)
+  pub senior-inside : Inside (roles f) (senior f)
   unfolding senior
   senior-inside = closure-between (roles f) (above f) above-between
 

@@ -11,9 +11,8 @@ use Rattle.search.proofs.Found.{some-iff}
 use Rattle.order.specs.Closure.{Relation, PartialOrder}
 use Rattle.order.specs.Bound.{lub, converse, IsLub}
 use Rattle.order.proofs.Bound.{lub-none, lub-is, lub-iff}
-use Rattle.rolefile.specs.Said.{labels}
 use Rattle.policy.specs.Policy.{Level, Free, Label, Undefined}
-use Rattle.policy.specs.Settings.{Settings, dominates}
+use Rattle.policy.specs.Settings.{Settings}
 use Rattle.policy.specs.Policy.{mayAt, levelAt, level, rLevel, wLevel, passes, isDefined}
 use Rattle.policy.specs.Accepted.{Some, UndefinedLevel, Passing, ReadsUnder, WritesOver}
 
@@ -64,7 +63,7 @@ module _ (n : ℕ) (ge : Relation) (s : ℕ → Bool) where
   without-bound h = undefined-iff .0 (other-iff false defined-iff .1 h)
 
   pub passing-bounded : (p : ℕ → Bool) → Passing n ge s p → UndefinedLevel n ge s → ⊥
-  passing-bounded p h (some, none) = ⊎-elim (λ empty. empty some) (λ (c, i, b, e). none c b) h
+  passing-bounded p h (some, none) = ⊎-elim (λ empty. empty some) (λ (c, b, e). none c b) h
 
   module _ (o : PartialOrder n ge) where
     pub level-label : (c : ℕ) → (level n ge s ≡ Label c) ↔ (Some n s × IsLub n ge s c)
@@ -76,15 +75,16 @@ module _ (n : ℕ) (ge : Relation) (s : ℕ → Bool) where
         at (suc c) l = refl
 
     pub passes-iff : (p : ℕ → Bool) → (passes p (level n ge s) ≡ true) ↔ Passing n ge s p
-    passes-iff p = (
-      go (level n ge s) level-tells,
-      ⊎-elim (λ none. rw (level-free .1 none)) (λ (c, h, b, e). rw (level-label c .1 (h, b)) e),
-    )
+    passes-iff p = (go (level n ge s) level-tells, ⊎-elim (λ none. rw (level-free .1 none)) (λ (c, b, e). bound c b e (some n s) refl))
       where
         go : (l : Level) → Tells l → passes p l ≡ true → Passing n ge s p
         go Free t e = inl t
-        go (Label c) (h, b) e = inr (c, h, b, e)
+        go (Label c) (h, b) e = inr (c, b, e)
         go Undefined t e = absurd (false≢true e)
+
+        bound : (c : ℕ) → IsLub n ge s c → p c ≡ true → (b : Bool) → some n s ≡ b → passes p (level n ge s) ≡ true
+        bound c b e true h = rw (level-label c .1 (some-iff s n .0 h, b)) e
+        bound c b e false h = rw (level-free .1 (other-iff false (some-iff s n) .0 h))
 
 -- a role's level limits at label l, by its levels
 module _ (σ : Settings) (o : PartialOrder (σ .labels) (σ .dominates)) (l r : ℕ) where

@@ -2,7 +2,6 @@ pub mod Levels
 pub mod Defined
 pub mod Checks
 pub mod Outcomes
-pub mod Lawful
 pub mod Relating
 pub mod Gathering
 pub mod Noted
@@ -11,6 +10,7 @@ pub mod Assigning
 pub mod Readying
 pub mod Ranks
 pub mod Finishes
+pub mod Said
 pub mod Inside
 pub mod Closing
 pub mod Granting
@@ -21,3 +21,4 @@ pub mod Builds
 pub mod Loads
 pub mod Meaning
 pub mod Settled
+pub mod Same

@@ -1,6 +1,7 @@
 -- A load: a state that is too short is refused first; the image is copied from a scratch state that began as zeros. Assumes nothing.
 use Prim.Native.Nat.{ℕ, _≤_, _<_}
 use mathlib.Core.Path.{_≡_, refl, sym, _∙_}
+use mathlib.Core.Logic.{_↔_}
 use mathlib.Core.List.{List}
 use native.Mathlib.Omega.{arith}
 use lib.ListN.{length, replicate, getD-replicate}
@@ -12,9 +13,11 @@ use Rattle.rolefile.specs.Said.{assigned}
 use Rattle.rolefile.proofs.Verdicts.{refuses}
 use Rattle.policy.specs.Settings.{Settings, settings}
 use Rattle.policy.specs.Verdict.{verdict}
+use Rattle.policy.specs.Accepted.{Accepted}
 use Rattle.policy.specs.Tables.{stateSize}
 use Rattle.policy.specs.Image.{Image, loadVerdict, Loaded}
 use Rattle.policy.specs.Stages.{Zeros, Built, Copied}
+use Rattle.policy.proofs.Outcomes.{accepted-iff}
 use Rattle.policy.proofs.Builds.{describes-stays, assigning-stays}
 
 pub scratch-zeros : Zeros 0 65536 (replicate 65536 0)
@@ -48,6 +51,10 @@ long-verdict f xs l = rw (le-leb stateSize (length xs) l)
 
 pub judged : {f xs ys : List ℕ} {v : Verdict} → Loaded f v xs ys → 65536 ≤ length xs → v ≡ verdict f
 judged {f} {xs} load l = load .answer ∙ sym (long-verdict f xs l)
+
+-- a load is done exactly when the file is accepted
+pub load-iff : {f xs ys : List ℕ} {v : Verdict} → Loaded f v xs ys → 65536 ≤ length xs → (v .number ≡ 0) ↔ Accepted f
+load-iff {f} load l = rw (judged load l) (accepted-iff f)
 
 pub load-refused : {f xs ys : List ℕ} {v : Verdict} → 65536 ≤ length xs → Built f v ys → (v .number ≡ 0 → ⊥) → Loaded f v xs xs
 load-refused {f} {xs} l b h = record { answer = b .answer ∙ long-verdict f xs l; refused = λ h. refl; done = λ z. absurd (h z); rest = λ i m. refl; long = refl }

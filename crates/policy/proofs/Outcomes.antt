@@ -4,21 +4,22 @@ use mathlib.Core.Path.{_≡_, refl, sym}
 use mathlib.Core.Logic.{_↔_, _⊎_, inl, inr, ⊎-elim}
 use mathlib.Core.List.{List}
 use native.Mathlib.Omega.{arith}
-use Rattle.order.specs.Closure.{circle}
+use Rattle.order.specs.Closure.{path}
 use Rattle.order.specs.Bound.{AllJoined}
 use Rattle.rolefile.specs.declared.Verdict.{Verdict}
 use Rattle.rolefile.specs.Line.{lines}
-use Rattle.rolefile.specs.Form.{fine, refusal, _then_, scan, found}
+use Rattle.rolefile.specs.Form.{fine, _then_, scan}
 use Rattle.rolefile.specs.Said.{labels, roles, over, above}
 use Rattle.rolefile.specs.WellFormed.{WellFormed, LineRefused, noHeader, badCounts, malformed, badNumbers, unordered}
 use Rattle.rolefile.proofs.Verdicts.{then-joined}
 use Rattle.rolefile.proofs.Decides.{Decides, Else, Earliest, decides-zero, decides-fine, decides-when, then-decides, scan-decides}
 use Rattle.rolefile.proofs.Formed.{FormRefusal, form-decides}
 use Rattle.policy.specs.Settings.{dominates, senior, settings}
-use Rattle.policy.specs.Verdict.{orderVerdict, labelVerdict, roleVerdict, assignmentVerdict, policyVerdict, verdict, pairVerdict}
-use Rattle.policy.specs.Accepted.{GoodOrder, LabelOrder, GoodAssignment, Accepted, AssignRefused, Outcome}
+use Rattle.policy.specs.Verdict.{circleVerdict, pairVerdict, orderVerdict, labelVerdict, roleVerdict, assignmentVerdict, policyVerdict, verdict}
+use Rattle.policy.specs.Accepted.{LabelOrder, RoleOrder, GoodAssignment, Accepted, AssignRefused, Outcome}
 use Rattle.policy.specs.Accepted.{noLevel, readsMore, writesLess}
 use Rattle.policy.specs.Accepted.{accepted, badSize, badLine, badUser, badCard, labelCircle, noBound, roleCircle, badAssignment}
+use Rattle.policy.proofs.Said.{assignments-iff}
 use Rattle.policy.proofs.Checks.{CircleRefusal, PairRefusal, AssignmentRefusal}
 use Rattle.policy.proofs.Checks.{circle-decides, pair-decides, assignment-decides}
 
@@ -30,14 +31,13 @@ Refusal f =
     Else (FormRefusal f) (WellFormed f)
     (Else (CircleRefusal (labels f) (over f) 11) (LabelOrder f)
     (Else (PairRefusal (labels f) (dominates f)) (AllJoined (labels f) (dominates f))
-    (Else (CircleRefusal (roles f) (above f) 13) (GoodOrder (roles f) (above f) (senior f))
+    (Else (CircleRefusal (roles f) (above f) 13) (RoleOrder f)
     (Earliest (GoodAssignment f) (AssignmentRefusal f) (lines f)))))
 
 verdict-decides : (f : List ℕ) → Decides (verdict f) (Accepted f) (Refusal f)
 unfolding verdict policyVerdict labelVerdict orderVerdict roleVerdict dominates senior
 verdict-decides f =
-    let a = circle (labels f) (over f) in
-    rw (then-joined (found a (refusal 11 a 0)) (pairVerdict (labels f) (dominates f))
+    rw (then-joined (circleVerdict 11 (labels f) (path (labels f) (over f))) (pairVerdict (labels f) (dominates f))
     (roleVerdict f then scan (lines f) (assignmentVerdict f)))
     (decides-when
     (then-decides (form-decides f) (λ w.
@@ -45,8 +45,18 @@ verdict-decides f =
     then-decides (pair-decides (labels f) (dominates f) (d .order)) (λ j.
     then-decides (circle-decides (roles f) (above f) 12) (λ s.
     scan-decides (assignment-decides f (d .order)) (lines f)))))) (
-      λ (w, (d, (j, (s, a)))). record { ordered = record { form = w; dominance = d; joins = j }; seniority = s; assignments = a },
-      λ a. let o = a .ordered in (o .form, (o .dominance, (o .joins, (a .seniority, a .assignments)))),
+      λ (w, (d, (j, (s, a)))). record {
+        form = w;
+        lawful = record { dominance = d .order; joins = j; seniority = s .order };
+        assignments = assignments-iff f .0 a;
+        noLabelItself = d .strict;
+        noRoleItself = s .strict;
+      },
+      λ a.
+          let o = a .lawful in
+          let d : LabelOrder f = record { order = o .dominance; strict = a .noLabelItself } in
+          let s : RoleOrder f = record { order = o .seniority; strict = a .noRoleItself } in
+          (a .form, (d, (o .joins, (s, assignments-iff f .1 (a .assignments))))),
     ))
 
 module _ (f : List ℕ) where
@@ -91,25 +101,25 @@ module _ (f : List ℕ) where
 -- ---- the numbers
 
 -- 0, the supplier's 1 to 6, or the officer's 11 to 16
-abbrev pub Listed : ℕ → Type 0
-Listed n = (n ≤ 6) ⊎ ((11 ≤ n) × (n ≤ 16))
+abbrev pub FileNumber : ℕ → Type 0
+FileNumber n = (n ≤ 6) ⊎ ((11 ≤ n) × (n ≤ 16))
 
-pub verdict-numbers : (f : List ℕ) → Listed (verdict f .number)
+pub verdict-numbers : (f : List ℕ) → FileNumber (verdict f .number)
 verdict-numbers f = of (outcome f)
   where
-    line : {k n : ℕ} → LineRefused f k n → Listed n
+    line : {k n : ℕ} → LineRefused f k n → FileNumber n
     line (noHeader i h) = inl (omega arith)
     line (badCounts i l h) = inl (omega arith)
     line (malformed i h) = inl (omega arith)
     line (badNumbers i l h) = inl (omega arith)
     line (unordered i l g h) = inl (omega arith)
 
-    assignment : {u r n : ℕ} → AssignRefused (settings f) u r n → Listed n
+    assignment : {u r n : ℕ} → AssignRefused (settings f) u r n → FileNumber n
     assignment (noLevel b) = inr (omega arith)
     assignment (readsMore d h) = inr (omega arith)
     assignment (writesLess d p h) = inr (omega arith)
 
-    of : {v : Verdict} → Outcome f v → Listed (v .number)
+    of : {v : Verdict} → Outcome f v → FileNumber (v .number)
     of (accepted a) = inl (omega arith)
     of (badSize h) = inl (omega arith)
     of (badLine s w low l) = line l

@@ -11,7 +11,7 @@ use Rattle.search.proofs.Truth.{eqb-swap}
 use Rattle.roleset.specs.Row.{Kept}
 use Rattle.roleset.proofs.Rows.{kept-both}
 use Rattle.order.specs.Bound.{converse}
-use Rattle.order.specs.Closure.{Agree, path, loop, circle, reflexive}
+use Rattle.order.specs.Closure.{Agree, path, loop, circle, withItself}
 use Rattle.order.specs.Table.{related, Tabled}
 use Rattle.order.proofs.Closure.{via-converse, circle-converse, loop-circle}
 use Rattle.rolefile.specs.declared.Line.{Line}
@@ -89,7 +89,7 @@ module _ {f : List ℕ} {h : Line} {xs zs : List ℕ} {r : ℕ} (p : Pathed f h 
     rest = p .rest;
   }
 
-  pub ranked : {ws : List ℕ} → v ≡ fine → r ≡ 0 → Tabled 2064 (min (h .b) 128) (reflexive (related zs 2064)) zs ws → Ranking f v xs ws
+  pub ranked : {ws : List ℕ} → v ≡ fine → r ≡ 0 → Tabled 2064 (min (h .b) 128) (withItself (related zs 2064)) zs ws → Ranking f v xs ws
   unfolding roleVerdict senior
   ranked {ws} e z closed =
       let c = rw (p .count) at closed in

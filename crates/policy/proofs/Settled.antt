@@ -1,6 +1,6 @@
 -- A load's outcome is one state: every byte below 65,536 is of a count, of a table or unused, and `Image` says each of these. Assumes nothing.
 use Prim.Native.Nat.{ℕ, _+_, _-_, _*_, _/_, _%_, _≤_, _<_}
-use mathlib.Core.Path.{_≡_, sym, ap, _∙_}
+use mathlib.Core.Path.{_≡_, refl, sym, ap, subst, _∙_}
 use mathlib.Core.List.{List}
 use native.Mathlib.Omega.{arith}
 use native.Mathlib.Decide.{decLt, ℕ-discrete}
@@ -16,7 +16,8 @@ use Rattle.rolefile.specs.Said.{assigned}
 use Rattle.policy.specs.Settings.{Settings, settings}
 use Rattle.policy.specs.Tables.{dominanceAt, clearancesAt, cardLabelsAt, rLevelsAt, wLevelsAt, seniorsAt, assignedAt, readersAt, writersAt, markAt}
 use Rattle.policy.specs.Tables.{stateSize, word, byteOf}
-use Rattle.policy.specs.Image.{Unused, Image, Loaded}
+use Rattle.policy.specs.Verdict.{verdict}
+use Rattle.policy.specs.Image.{Unused, Image, loadVerdict, Loaded}
 use Rattle.policy.proofs.Builds.{Same}
 
 module _ (ys zs : List ℕ) (ys-bytes : AllBytes ys) (zs-bytes : AllBytes zs) where
@@ -104,17 +105,25 @@ pub image-settles : (σ : Settings) (α : Relation) (ys zs : List ℕ) → Image
     → (i : ℕ) → i < 65536 → getD ys i 0 ≡ getD zs i 0
 image-settles σ α ys zs p q ys-bytes zs-bytes i l = state-settled ys zs ys-bytes zs-bytes σ α p q .byte i (omega arith) l
 
-pub loaded-once : (f : List ℕ) (v w : Verdict) (xs ys zs : List ℕ) → Loaded f v xs ys → Loaded f w xs zs
-    → AllBytes ys → AllBytes zs → (v ≡ w) × (ys ≡ zs)
-loaded-once f v w xs ys zs p q ys-bytes zs-bytes =
-    let same : v ≡ w = p .answer ∙ sym (q .answer) in
-    let number : v .number ≡ w .number = ap (λ (u : Verdict). u .number) same in (
+-- two loads over the same bytes, of files that cannot be told apart
+pub loads-settle : (f g : List ℕ) → verdict f ≡ verdict g → settings f ≡ settings g → assigned f ≡ assigned g
+    → (v w : Verdict) (xs ys zs : List ℕ) → Loaded f v xs ys → Loaded g w xs zs → AllBytes ys → AllBytes zs → (v ≡ w) × (ys ≡ zs)
+unfolding loadVerdict
+loads-settle f g judged said staffed v w xs ys zs p q ys-bytes zs-bytes =
+    let same : v ≡ w = p .answer ∙ rw judged (sym (q .answer)) in
+    let number : v .number ≡ w .number = ap (λ (u : Verdict). u .number) same in
+    let image : w .number ≡ 0 → Image (settings f) (assigned f) zs =
+    λ e. subst (λ σ. Image σ (assigned f) zs) (sym said) (subst (λ α. Image (settings g) α zs) (sym staffed) (q .done e)) in (
       same,
       elim (ℕ-discrete (v .number) 0) [
         | yes e ↦ ext-getD 0 ys zs (p .long ∙ sym (q .long)) (λ i l. elim (decLt i stateSize) [
-          | yes m ↦ image-settles (settings f) (assigned f) ys zs (p .done e) (q .done (sym number ∙ e)) ys-bytes zs-bytes i m
+          | yes m ↦ image-settles (settings f) (assigned f) ys zs (p .done e) (image (sym number ∙ e)) ys-bytes zs-bytes i m
           | no m ↦ p .rest i (omega arith) ∙ sym (q .rest i (omega arith))
         ])
         | no n ↦ p .refused n ∙ sym (q .refused (λ e. n (number ∙ e)))
       ],
     )
+
+pub loaded-once : (f : List ℕ) (v w : Verdict) (xs ys zs : List ℕ) → Loaded f v xs ys → Loaded f w xs zs
+    → AllBytes ys → AllBytes zs → (v ≡ w) × (ys ≡ zs)
+loaded-once f = loads-settle f f refl refl refl

@@ -1,5 +1,5 @@
--- What an accepted file is, as properties: `Accepted`. `Outcome f v` says what each verdict v on the file f means, place included; each file has
--- just one outcome, its verdict (`Outcomes` under proofs/). Assumes nothing.
+-- What an accepted file is, as properties: `Accepted`. What it asks of settings and assignments is of any, whoever made them. `Outcome f v` says what each verdict v on the file f
+-- means, place included; each file has just one outcome, its verdict (`Outcomes` under proofs/). Assumes nothing.
 use Prim.Native.Nat.{ℕ, _<_}
 use mathlib.Core.Path.{_≡_}
 use mathlib.Core.Logic.{_⊎_}
@@ -11,9 +11,9 @@ use Rattle.order.specs.Bound.{converse, IsLub, AllJoined, FirstPair}
 use Rattle.rolefile.specs.declared.Verdict.{Verdict}
 use Rattle.rolefile.specs.Line.{U, O, A, lineAt, lines}
 use Rattle.rolefile.specs.Form.{fine, refusal}
-use Rattle.rolefile.specs.Said.{labels, roles, users, cards, over, above}
+use Rattle.rolefile.specs.Said.{labels, roles, users, cards, over, above, assigned}
 use Rattle.rolefile.specs.WellFormed.{Sized, GoodLine, GoodLines, OneEach, LineRefused, LowestUnlabelled, WellFormed}
-use Rattle.policy.specs.Settings.{Settings, dominates, senior, settings, Bounded}
+use Rattle.policy.specs.Settings.{Settings, dominates, senior, settings}
 use Rattle.policy.specs.Policy.{mayAt}
 
 -- ---- levels, 003 Definitions 6 and 7
@@ -26,31 +26,53 @@ Some n s = (l : ℕ) × Among n l × (s l ≡ true)
 abbrev pub UndefinedLevel : ℕ → Relation → (ℕ → Bool) → Type 0
 UndefinedLevel n ge s = Some n s × ((c : ℕ) → IsLub n ge s c → ⊥)
 
--- s is empty, a free level, or its least upper bound has p
+-- s is empty, a free level, or has a least upper bound, and p holds of it
 abbrev pub Passing : ℕ → Relation → (ℕ → Bool) → (ℕ → Bool) → Type 0
-Passing n ge s p = (Some n s → ⊥) ⊎ ((c : ℕ) × Some n s × IsLub n ge s c × (p c ≡ true))
+Passing n ge s p = (Some n s → ⊥) ⊎ ((c : ℕ) × IsLub n ge s c × (p c ≡ true))
 
 -- label l dominates the r-level of r: a bound of the labels read
 abbrev pub ReadsUnder : Settings → ℕ → ℕ → Type 0
-ReadsUnder s l r = Passing (s .labels) (s .dominates) (mayAt s 1 r) (s .dominates l)
+ReadsUnder σ l r = Passing (σ .labels) (σ .dominates) (mayAt σ 1 r) (σ .dominates l)
 
 -- the w-level of r dominates label l: a bound of the labels written, in the order turned round
 abbrev pub WritesOver : Settings → ℕ → ℕ → Type 0
-WritesOver s l r = Passing (s .labels) (converse (s .dominates)) (mayAt s 2 r) (λ c. s .dominates c l)
+WritesOver σ l r = Passing (σ .labels) (converse (σ .dominates)) (mayAt σ 2 r) (λ c. σ .dominates c l)
 
 -- 14: an undefined w-level: there are writes and no greatest lower bound
 abbrev pub NoWriteLevel : Settings → ℕ → Type 0
-NoWriteLevel s r = UndefinedLevel (s .labels) (converse (s .dominates)) (mayAt s 2 r)
+NoWriteLevel σ r = UndefinedLevel (σ .labels) (converse (σ .dominates)) (mayAt σ 2 r)
 
 -- 003, Theorem 3, for an A line: "the w-level must not be undefined, the clearance must dominate the r-level, and the w-level must dominate the
 -- clearance"; an undefined level does not pass
-pub record WithinLevels (s : Settings) (u r : ℕ) : Type 0 where
-  pub reads : ReadsUnder s (s .clearance u) r
-  pub writes : WritesOver s (s .clearance u) r
+pub record WithinLevels (σ : Settings) (u r : ℕ) : Type 0 where
+  pub reads : ReadsUnder σ (σ .clearance u) r
+  pub writes : WritesOver σ (σ .clearance u) r
+
+-- ---- what acceptance asks of settings and of assignments
+
+-- "Both must be partial orders. Every two labels must have a least upper bound."
+pub record Lawful (σ : Settings) : Type 0 where
+  pub dominance : PartialOrder (σ .labels) (σ .dominates)
+  pub joins : AllJoined (σ .labels) (σ .dominates)
+  pub seniority : PartialOrder (σ .roles) (σ .senior)
+
+-- each assignment is as Theorem 3 asks
+abbrev pub AllWithinLevels : Settings → Relation → Type 0
+AllWithinLevels σ α = (u r : ℕ) → α u r ≡ true → WithinLevels σ u r
 
 -- ---- an accepted file
 
--- "Both must be partial orders", and no thing is said to be over itself
+pub record Accepted (f : List ℕ) : Type 0 where
+  pub form : WellFormed f
+  pub lawful : Lawful (settings f)
+  pub assignments : AllWithinLevels (settings f) (assigned f)
+  -- "a line D a a included", and the same for roles: no line says that a thing is over itself
+  pub noLabelItself : Irreflexive (labels f) (over f)
+  pub noRoleItself : Irreflexive (roles f) (above f)
+
+-- ---- the outcomes
+
+-- what holds of an order when its circles have been looked for
 pub record GoodOrder (n : ℕ) (e ge : Relation) : Type 0 where
   pub order : PartialOrder n ge
   pub strict : Irreflexive n e
@@ -58,9 +80,8 @@ pub record GoodOrder (n : ℕ) (e ge : Relation) : Type 0 where
 abbrev pub LabelOrder : List ℕ → Type 0
 LabelOrder f = GoodOrder (labels f) (over f) (dominates f)
 
--- line i, where it is an A line, is as Theorem 3 asks
-abbrev pub GoodAssignment : List ℕ → ℕ → Type 0
-GoodAssignment f i = lineAt f i .letter ≡ A → WithinLevels (settings f) (lineAt f i .a) (lineAt f i .b)
+abbrev pub RoleOrder : List ℕ → Type 0
+RoleOrder f = GoodOrder (roles f) (above f) (senior f)
 
 -- what holds when seniority is looked at
 pub record Ordered (f : List ℕ) : Type 0 where
@@ -68,34 +89,19 @@ pub record Ordered (f : List ℕ) : Type 0 where
   pub dominance : LabelOrder f
   pub joins : AllJoined (labels f) (dominates f)
 
-pub record Accepted (f : List ℕ) : Type 0 where
-  pub ordered : Ordered f
-  pub seniority : GoodOrder (roles f) (above f) (senior f)
-  pub assignments : (i : ℕ) → Among (lines f) i → GoodAssignment f i
-
--- ---- settings that are as an accepted file's, whoever made them (`lawful` under proofs/)
-
-pub record Lawful (s : Settings) : Type 0 where
-  pub bounded : Bounded s
-  pub dominance : PartialOrder (s .labels) (s .dominates)
-  pub joins : AllJoined (s .labels) (s .dominates)
-  pub seniority : PartialOrder (s .roles) (s .senior)
-
--- assignments that are as an accepted file's: of things that are counted, and within levels
-abbrev pub Staffed : Settings → Relation → Type 0
-Staffed s assigned = (u r : ℕ) → assigned u r ≡ true → Among (s .users) u × Among (s .roles) r × WithinLevels s u r
-
--- ---- the outcomes
+-- line i, where it is an A line, is as Theorem 3 asks
+abbrev pub GoodAssignment : List ℕ → ℕ → Type 0
+GoodAssignment f i = lineAt f i .letter ≡ A → WithinLevels (settings f) (lineAt f i .a) (lineAt f i .b)
 
 -- the lowest thing on a circle
 abbrev pub LowestOnCircle : ℕ → Relation → ℕ → Type 0
 LowestOnCircle n e = LowestOf n (OnCircle n e) (λ a. OnCircle n e a → ⊥)
 
 -- why the assignment of u to r is refused
-pub data AssignRefused (s : Settings) (u r : ℕ) : ℕ → Type 0 where
-  noLevel : NoWriteLevel s r → AssignRefused s u r 14
-  readsMore : (NoWriteLevel s r → ⊥) → (ReadsUnder s (s .clearance u) r → ⊥) → AssignRefused s u r 15
-  writesLess : (NoWriteLevel s r → ⊥) → ReadsUnder s (s .clearance u) r → (WritesOver s (s .clearance u) r → ⊥) → AssignRefused s u r 16
+pub data AssignRefused (σ : Settings) (u r : ℕ) : ℕ → Type 0 where
+  noLevel : NoWriteLevel σ r → AssignRefused σ u r 14
+  readsMore : (NoWriteLevel σ r → ⊥) → (ReadsUnder σ (σ .clearance u) r → ⊥) → AssignRefused σ u r 15
+  writesLess : (NoWriteLevel σ r → ⊥) → ReadsUnder σ (σ .clearance u) r → (WritesOver σ (σ .clearance u) r → ⊥) → AssignRefused σ u r 16
 
 pub data Outcome (f : List ℕ) : Verdict → Type 0 where
   accepted : Accepted f → Outcome f fine
@@ -106,6 +112,6 @@ pub data Outcome (f : List ℕ) : Verdict → Type 0 where
   labelCircle : {a : ℕ} → WellFormed f → LowestOnCircle (labels f) (over f) a → Outcome f (refusal 11 a 0)
   noBound : {a b : ℕ} → WellFormed f → LabelOrder f → FirstPair (labels f) (dominates f) a b → Outcome f (refusal 12 a b)
   roleCircle : {r : ℕ} → Ordered f → LowestOnCircle (roles f) (above f) r → Outcome f (refusal 13 r 0)
-  badAssignment : {n i : ℕ} → Ordered f → GoodOrder (roles f) (above f) (senior f) → Among (lines f) i → lineAt f i .letter ≡ A
+  badAssignment : {n i : ℕ} → Ordered f → RoleOrder f → Among (lines f) i → lineAt f i .letter ≡ A
       → ((j : ℕ) → Among (lines f) j → j < i → GoodAssignment f j)
       → AssignRefused (settings f) (lineAt f i .a) (lineAt f i .b) n → Outcome f (refusal n (lineAt f i .a) (lineAt f i .b))

@@ -9,8 +9,8 @@ use Rattle.policy.specs.Policy.{may}
 
 -- "Role r flows to another role q where a card that r may write is a card that q may read"
 unfoldable pub flows : Settings → Relation
-flows s r q = not (eqb r q) && some (s .cards) (λ o. may s 2 r o && may s 1 q o)
+flows σ r q = not (eqb r q) && some (σ .cards) (λ o. may σ 2 r o && may σ 1 q o)
 
 -- "the lowest role on a circle of two or more roles, or 0": no role flows to itself, so a circle has two or more
 unfoldable pub flowCircle : Settings → ℕ
-flowCircle s = circle (s .roles) (flows s)
+flowCircle σ = circle (σ .roles) (flows σ)

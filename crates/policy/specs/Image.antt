@@ -1,4 +1,4 @@
--- What a state holds after a load of the file f: each table says what its settings say, and every other byte of the state is 0. Assumes nothing.
+-- What a state holds after a load: each table says what the file's settings and assignments say, and every other byte of the state is 0. Assumes nothing.
 use Prim.Native.Nat.{ℕ, _≤_, _<_}
 use mathlib.Core.Path.{_≡_}
 use mathlib.Core.List.{List}
@@ -23,54 +23,54 @@ pub record Counts (a b c d : ℕ) (ys : List ℕ) : Type 0 where
   pub cards : word ys cardCountAt ≡ d
 
 abbrev pub Counted : Settings → List ℕ → Type 0
-Counted s = Counts (s .labels) (s .roles) (s .users) (s .cards)
+Counted σ = Counts (σ .labels) (σ .roles) (σ .users) (σ .cards)
 
--- a number past the file's count has no line, and so no label
-pub record Labelled (s : Settings) (ys : List ℕ) : Type 0 where
-  pub users : (u : ℕ) → Among 256 u → byteOf ys clearancesAt u ≡ s .clearance u
-  pub cards : (o : ℕ) → Among 512 o → byteOf ys cardLabelsAt o ≡ s .cardLabel o
+-- a number past a file's count has no line, and so no label
+pub record Labelled (σ : Settings) (ys : List ℕ) : Type 0 where
+  pub users : (u : ℕ) → Among 256 u → byteOf ys clearancesAt u ≡ σ .clearance u
+  pub cards : (o : ℕ) → Among 512 o → byteOf ys cardLabelsAt o ≡ σ .cardLabel o
 
 abbrev pub Dominating : Settings → List ℕ → Type 0
-Dominating s ys = (a b : ℕ) → Among 32 a → Among 32 b
-    → getD ys (markAt a b) 0 ≡ cond (leb a (s .labels) && s .dominates a b) 1 0
+Dominating σ ys = (a b : ℕ) → Among 32 a → Among 32 b
+    → getD ys (markAt a b) 0 ≡ cond (leb a (σ .labels) && σ .dominates a b) 1 0
 
 -- the row of a role holds its seniors, itself included
 abbrev pub Seniors : Settings → List ℕ → Type 0
-Seniors s ys = Agree 128 128 (related ys seniorsAt) (λ q r. leb q (s .roles) && s .senior r q)
+Seniors σ ys = Agree 128 128 (related ys seniorsAt) (λ q r. leb q (σ .roles) && σ .senior r q)
 
 -- the row of a card, in the table at `at`, holds the roles that may read it (d = 1) or write it (d = 2)
 abbrev pub Allows : Settings → ℕ → ℕ → List ℕ → Type 0
-Allows s d at ys = Agree 512 128 (related ys at) (λ o r. may s d r o)
+Allows σ d at ys = Agree 512 128 (related ys at) (λ o r. may σ d r o)
 
-pub record Permitting (s : Settings) (ys : List ℕ) : Type 0 where
-  pub readers : Allows s 1 readersAt ys
-  pub writers : Allows s 2 writersAt ys
+pub record Permitting (σ : Settings) (ys : List ℕ) : Type 0 where
+  pub readers : Allows σ 1 readersAt ys
+  pub writers : Allows σ 2 writersAt ys
 
 -- a role's two bytes are its r-level and its w-level, as `levelNumber`
-pub record Levelled (s : Settings) (ys : List ℕ) : Type 0 where
-  pub reads : (r : ℕ) → Among 128 r → byteOf ys rLevelsAt r ≡ levelNumber (rLevel s r)
-  pub writes : (r : ℕ) → Among 128 r → byteOf ys wLevelsAt r ≡ levelNumber (wLevel s r)
+pub record Levelled (σ : Settings) (ys : List ℕ) : Type 0 where
+  pub reads : (r : ℕ) → Among 128 r → byteOf ys rLevelsAt r ≡ levelNumber (rLevel σ r)
+  pub writes : (r : ℕ) → Among 128 r → byteOf ys wLevelsAt r ≡ levelNumber (wLevel σ r)
 
 -- the row of a user holds the roles that the user is assigned to
 abbrev pub Assigning : Relation → List ℕ → Type 0
-Assigning assigned ys = Agree 256 128 (related ys assignedAt) assigned
+Assigning α ys = Agree 256 128 (related ys assignedAt) α
 
 -- byte i belongs to no table: those after the counts, those kept for later tables, and those after the last one, among them the places: "closes all sessions"
 abbrev pub Unused : ℕ → Type 0
 Unused i = (8 ≤ i) × (16 ≤ i → 8208 ≤ i) × (12304 ≤ i → 28688 ≤ i)
 
 -- each table of ys but that of assignments says what the settings say
-pub record Describes (s : Settings) (ys : List ℕ) : Type 0 where
-  pub counted : Counted s ys
-  pub labelled : Labelled s ys
-  pub dominating : Dominating s ys
-  pub seniors : Seniors s ys
-  pub permitting : Permitting s ys
-  pub levelled : Levelled s ys
+pub record Describes (σ : Settings) (ys : List ℕ) : Type 0 where
+  pub counted : Counted σ ys
+  pub labelled : Labelled σ ys
+  pub dominating : Dominating σ ys
+  pub seniors : Seniors σ ys
+  pub permitting : Permitting σ ys
+  pub levelled : Levelled σ ys
 
-pub record Image (s : Settings) (assigned : Relation) (ys : List ℕ) : Type 0 where
-  pub tables : Describes s ys
-  pub assigning : Assigning assigned ys
+pub record Image (σ : Settings) (α : Relation) (ys : List ℕ) : Type 0 where
+  pub tables : Describes σ ys
+  pub assigning : Assigning α ys
   pub unused : (i : ℕ) → Unused i → i < stateSize → getD ys i 0 ≡ 0
 
 -- ---- a load: "7: load with a state shorter than 65,536 bytes", then the verdict

@@ -9,11 +9,11 @@ use Rattle.policy.specs.Settings.{Settings}
 
 -- "A role has the permissions of its own P lines and of all its juniors": r may read (m = 1) or write (m = 2) card o
 unfoldable pub may : Settings → ℕ → Relation
-may s m r o = some (s .roles) (λ q. s .senior r q && s .permits m q o)
+may σ m r o = some (σ .roles) (λ q. σ .senior r q && σ .permits m q o)
 
 -- r may read, or write, a card of label l
 unfoldable pub mayAt : Settings → ℕ → Relation
-mayAt s m r l = some (s .cards) (λ o. may s m r o && eqb (s .cardLabel o) l)
+mayAt σ m r l = some (σ .cards) (λ o. may σ m r o && eqb (σ .cardLabel o) l)
 
 -- the level of a role for reading or for writing. Free is document 01's word: with nothing to read, or to write, the level is no limit
 pub data Level : Type 0 where
@@ -32,11 +32,11 @@ level n ge s = cond (some n s) (levelAt (lub n ge s)) Free
 
 -- "Its r-level is the least upper bound of the labels it may read"
 unfoldable pub rLevel : Settings → ℕ → Level
-rLevel s r = level (s .labels) (s .dominates) (mayAt s 1 r)
+rLevel σ r = level (σ .labels) (σ .dominates) (mayAt σ 1 r)
 
 -- "Its w-level is the greatest lower bound of the labels it may write": the least upper bound in the order turned round
 unfoldable pub wLevel : Settings → ℕ → Level
-wLevel s r = level (s .labels) (converse (s .dominates)) (mayAt s 2 r)
+wLevel σ r = level (σ .labels) (converse (σ .dominates)) (mayAt σ 2 r)
 
 -- "A free level always passes; an undefined one never"
 abbrev pub passes : (ℕ → Bool) → Level → Bool

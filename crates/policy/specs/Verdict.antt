@@ -3,7 +3,7 @@ use Prim.Native.Nat.{ℕ}
 use mathlib.Core.List.{List}
 use mathlib.Core.Bool.{cond}
 use lib.Dec.{eqb}
-use Rattle.order.specs.Closure.{Relation, path, loop, circle}
+use Rattle.order.specs.Closure.{Relation, path, loop}
 use Rattle.order.specs.Bound.{lowestWithoutBound, partnerWithoutBound}
 use Rattle.rolefile.specs.declared.Verdict.{Verdict}
 use Rattle.rolefile.specs.Line.{A, lineAt, lines}
@@ -12,27 +12,30 @@ use Rattle.rolefile.specs.Said.{labels, roles, over, above}
 use Rattle.policy.specs.Settings.{Settings, dominates, settings}
 use Rattle.policy.specs.Policy.{rLevel, wLevel, passes, isDefined}
 
+-- 11 and 13, by the paths over a relation between n things
+abbrev pub circleVerdict : ℕ → ℕ → Relation → Verdict
+circleVerdict number n paths = let a = loop n paths in found a (refusal number a 0)
+
 -- 12
 abbrev pub pairVerdict : ℕ → Relation → Verdict
 pairVerdict n ge = let a = lowestWithoutBound n ge in found a (refusal 12 a (partnerWithoutBound n ge a))
 
 -- 11 and 12, of the paths over a relation and of the order that they close it to
 unfoldable pub orderVerdict : ℕ → Relation → Relation → Verdict
-orderVerdict n paths ge = let a = loop n paths in found a (refusal 11 a 0) then pairVerdict n ge
+orderVerdict n paths ge = circleVerdict 11 n paths then pairVerdict n ge
 
 unfoldable pub labelVerdict : List ℕ → Verdict
 labelVerdict f = orderVerdict (labels f) (path (labels f) (over f)) (dominates f)
 
--- 13
 unfoldable pub roleVerdict : List ℕ → Verdict
-roleVerdict f = let r = circle (roles f) (above f) in found r (refusal 13 r 0)
+roleVerdict f = circleVerdict 13 (roles f) (path (roles f) (above f))
 
--- 14 to 16: "the w-level must not be undefined, the clearance must dominate the r-level, and the w-level must dominate the clearance"
+-- 14 to 16, of the assignment of user u to role r: "the w-level must not be undefined, the clearance must dominate the r-level, and the w-level must dominate the clearance"
 unfoldable pub assignVerdict : Settings → ℕ → ℕ → Verdict
-assignVerdict s u r =
-    unless (isDefined (wLevel s r)) (refusal 14 u r)
-    (unless (passes (λ l. s .dominates (s .clearance u) l) (rLevel s r)) (refusal 15 u r)
-    (unless (passes (λ l. s .dominates l (s .clearance u)) (wLevel s r)) (refusal 16 u r) fine))
+assignVerdict σ u r =
+    unless (isDefined (wLevel σ r)) (refusal 14 u r)
+    (unless (passes (λ l. σ .dominates (σ .clearance u) l) (rLevel σ r)) (refusal 15 u r)
+    (unless (passes (λ l. σ .dominates l (σ .clearance u)) (wLevel σ r)) (refusal 16 u r) fine))
 
 -- of line i, where it is an assignment
 unfoldable pub assignmentVerdict : List ℕ → ℕ → Verdict

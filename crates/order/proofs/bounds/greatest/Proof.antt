@@ -9,7 +9,7 @@ use borrow.Author.Needs.{needs}
 use denote.Ref.{now}
 use Rattle.search.specs.Search.{first}
 use Rattle.search.proofs.Found.{first-yet, first-found, first-more, first-vain}
-use Rattle.order.specs.Bound.{upper, converse, isLeast, least}
+use Rattle.order.specs.Bound.{upper, converse, isLeast, leastOf}
 use Rattle.order.specs.Table.{marks, mark}
 use Rattle.order.proofs.bounds.greatest.Statement.{statement}
 use Rattle.order.proofs.bounds.greatest.Tie as tie
@@ -24,7 +24,7 @@ abbrev μ-loop : tie.MeasureT-loop
 μ-loop t s set i₀ i = 32 - i
 
 returns : tie.Need-returns Inv-loop μ-loop
-unfolding least isLeast upper
+unfolding leastOf isLeast upper
 returns c =
     let a = c .before .before .before .before .before .before .before .args in
     let w = c .before .before .before .before .before .loop in
@@ -38,7 +38,7 @@ loop-again c =
     (search needs, first-more (leader (now (a .t)) (now (a .s))) (w .i) (w .inv .1) (rw (add-sub-cancel (w .i) 1) (sym (c .before .leads .ensures) ∙ c .if1 .left)))
 
 returns-2 : tie.Need-returns-2 Inv-loop μ-loop
-unfolding least
+unfolding leastOf
 returns-2 c = first-vain _ (omega arith) (c .before .loop .inv .1)
 
 pub greatest-spec : {M : Type 1} → statement M

@@ -12,7 +12,7 @@ use lib.Dec.{leb, eqb}
 use lib.ListN.{getD}
 use Rattle.search.specs.Search.{first}
 use Rattle.search.proofs.Found.{first-none, first-found, first-more, first-vain}
-use Rattle.order.specs.Bound.{converse, withoutBound, partnerWithoutBound, lub, least, pair, upper}
+use Rattle.order.specs.Bound.{converse, pairWithoutBound, partnerWithoutBound, lub, leastOf, pair, upper}
 use Rattle.order.specs.Table.{mark, Upto, marks}
 use Rattle.order.proofs.Bound.{least-cut, upper-pair}
 use Rattle.order.proofs.bounds.partner.Statement.{statement}
@@ -20,17 +20,17 @@ use Rattle.order.proofs.bounds.partner.Tie as tie
 
 module _ (up : List (List Bool)) (m i : ℕ) where
   abbrev lone : ℕ → Bool
-  lone = withoutBound m (converse (mark up)) (i + 1)
+  lone = pairWithoutBound m (converse (mark up)) (i + 1)
 
   -- no thing up to i + 1 comes after it
   none-before : first (i + 1) lone ≡ 0
-  unfolding withoutBound
+  unfolding pairWithoutBound
   none-before = first-none lone (i + 1) .1 (λ b w. rw (le-ltb (i + 1) b (w .1)))
 
   -- what the test of a turn tells, with the bounds of thing i + 1
   tells : (s : List Bool) (j : ℕ) → m ≤ 32 → i < j → j < m → Upto 32 (λ a. leb a m && marks (getD up i []) a) s
-      → eqb (least 32 (converse (mark up)) (λ a. marks s a && mark up (j + 1) a)) 0 ≡ lone (j + 1)
-  unfolding withoutBound lub
+      → eqb (leastOf 32 (converse (mark up)) (λ a. marks s a && mark up (j + 1) a)) 0 ≡ lone (j + 1)
+  unfolding pairWithoutBound lub
   tells s j l v w h =
       let order = converse (mark up) in
       rw (
@@ -46,7 +46,7 @@ Inv-loop up m i bounds j₀ j = (i < j) × (j ≤ m) × (first j (lone up m i) �
 abbrev μ-loop : tie.MeasureT-loop
 μ-loop up m i bounds j₀ j = m - j
 
--- the test of one turn, as `withoutBound`
+-- the test of one turn, as `pairWithoutBound`
 tested : (c : tie.After-greatest-common Inv-loop μ-loop) → let a = c .before .before .before .before .before .before .args in
     eqb (c .greatest-common .result) 0 ≡ lone (now (a .up)) (a .m) (a .i) (c .before .before .loop .j + 1)
 tested c =

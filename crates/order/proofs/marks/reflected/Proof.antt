@@ -5,7 +5,7 @@ use native.Mathlib.Nat.{add-sub-cancel}
 use native.Mathlib.Omega.{arith}
 use borrow.Author.Needs.{needs}
 use lib.ListN.{length}
-use Rattle.order.specs.Closure.{reflexive}
+use Rattle.order.specs.Closure.{withItself}
 use Rattle.order.specs.Table.{mark, Rows}
 use Rattle.order.proofs.Closure.{rows-none, rows-more}
 use Rattle.order.proofs.Stored.{set-row}
@@ -13,7 +13,7 @@ use Rattle.order.proofs.marks.reflected.Statement.{statement}
 use Rattle.order.proofs.marks.reflected.Tie as tie
 
 abbrev Inv-loop : tie.InvT-loop
-Inv-loop n t m r₀ i₀ r i = (m ≤ 32) × (i ≤ m) × (length r ≡ 32) × Rows 32 i (reflexive (mark t)) (mark t) (mark r)
+Inv-loop n t m r₀ i₀ r i = (m ≤ 32) × (i ≤ m) × (length r ≡ 32) × Rows 32 i (withItself (mark t)) (mark t) (mark r)
 
 abbrev μ-loop : tie.MeasureT-loop
 μ-loop n t m r₀ i₀ r i = m - i

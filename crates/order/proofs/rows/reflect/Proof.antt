@@ -6,15 +6,15 @@ use borrow.Author.Needs.{needs}
 use borrow.Author.Tests.{leb-true}
 use lib.ListN.{length}
 use Rattle.search.proofs.Truth.{passed, failed}
-use Rattle.order.specs.Closure.{reflexive}
+use Rattle.order.specs.Closure.{withItself}
 use Rattle.order.specs.Table.{related, Tabled}
-use Rattle.order.proofs.Placing.{no-table, placing-none, placing-more, reflexive-row}
+use Rattle.order.proofs.Placing.{no-table, placing-none, placing-more, with-itself-row}
 use Rattle.order.proofs.rows.reflect.Statement.{statement}
 use Rattle.order.proofs.rows.reflect.Tie as tie
 
 abbrev Inv-loop : tie.InvT-loop
 Inv-loop s₀ at n m i₀ s i =
-    (m ≤ 128) × (i ≤ m) × (at + 2048 ≤ length s₀) × (length s ≡ length s₀) × Tabled at i (reflexive (related s₀ at)) s₀ s
+    (m ≤ 128) × (i ≤ m) × (at + 2048 ≤ length s₀) × (length s ≡ length s₀) × Tabled at i (withItself (related s₀ at)) s₀ s
 
 abbrev μ-loop : tie.MeasureT-loop
 μ-loop s₀ at n m i₀ s i = m - i
@@ -27,7 +27,7 @@ loop-again c =
       search needs,
       search needs,
       placing-more _ _ _ (w .inv .2) (w .i) _ (w .s) _ (search needs) (w .inv .3) (w .inv .4) (c .before .before .add .ensures)
-          (λ b v. reflexive-row _ _ (w .inv .2) (w .i) b (w .s) (search needs) v (w .inv .4)),
+          (λ b v. with-itself-row _ _ (w .inv .2) (w .i) b (w .s) (search needs) v (w .inv .4)),
     )
 
 returns-2 : tie.Need-returns-2 Inv-loop μ-loop
