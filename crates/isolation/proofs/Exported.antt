@@ -1,6 +1,6 @@
--- A contract leaves its function one answer and one outcome, so a run of the exported functions is the run of the definitions. Assumes nothing.
+-- A contract leaves its function one answer and one outcome, and there is one for every call, so a run of the exported functions is the run of the definitions. Assumes nothing.
 use Prim.Native.Nat.{ℕ}
-use mathlib.Core.Path.{_≡_, ap, _∙_}
+use mathlib.Core.Path.{_≡_, refl, ap, _∙_}
 use mathlib.Core.List.{List, [], _∷_}
 use Rattle.policy.specs.Settings.{Settings, settings}
 use Rattle.monitor.specs.Runs.{Call, opens, closes, takes, drops, reads, writes, Memory, number, partOf, part, stateAfter, storeOf, storeAfter, after, run}
@@ -30,6 +30,25 @@ makes-run σ L (c ∷ cs) t m e xs (a, n, ys, made, rest, shows) =
     let (x, y) = made-once m c a n made in
     let (z, w) = makes-run σ L cs (track σ t c) n e ys rest in
     (shows ∙ rw (z, x, y), w ∙ rw y)
+
+-- ---- and there is one
+
+pub made : (m : Memory) (c : Call) → Made m c (answer m c) (after m c)
+unfolding number partOf stateAfter storeOf
+made m (opens p u l) = (record { number = refl; state = refl }, refl, refl)
+made m (closes p) = (record { number = refl; state = refl }, refl, refl)
+made m (takes p r) = (record { number = refl; state = refl }, refl, refl)
+made m (drops p r) = (record { number = refl; state = refl }, refl, refl)
+made m (reads p o k n) = (refl, refl, refl)
+made m (writes p o k bytes) = (record { number = refl; store = refl }, refl, refl)
+
+pub makes : (σ : Settings) (L : ℕ) (cs : List Call) (t : Open) (m : Memory) → Makes σ L t m cs (shown σ L t m cs) (run m cs)
+unfolding shown run
+makes σ L [] t m = (refl, refl)
+makes σ L (c ∷ cs) t m =
+    (answer m c, after m c, shown σ L (track σ t c) (after m c) cs, made m c, makes σ L cs (track σ t c) (after m c), refl)
+
+-- ---- demand 3, of the exported functions
 
 pub exported : (f : List ℕ) → IsolatedExports f
 exported f accepted a b L label s₁ s₂ long same cs₁ cs₂ same-shared xs₁ xs₂ e₁ e₂ makes₁ makes₂ =

@@ -9,11 +9,9 @@ use native.Mathlib.Decide.{decLt}
 use lib.ListN.{length, take, drop}
 use Rattle.search.specs.Search.{Among}
 use Rattle.search.proofs.Truth.{both}
-use Rattle.order.specs.Closure.{Relation}
+use Rattle.order.specs.Closure.{Relation, PartialOrder}
 use Rattle.rolefile.specs.Said.{assigned}
-use Rattle.policy.specs.Settings.{Settings, settings}
-use Rattle.policy.specs.Accepted.{Lawful}
-use Rattle.policy.proofs.Lawful.{lawful}
+use Rattle.policy.specs.Settings.{Settings, settings, Bounded}
 use Rattle.monitor.specs.Calls.{written, partAt}
 use Rattle.monitor.specs.Runs.{Call, opens, closes, takes, drops, reads, writes, Memory, loaded, partOf, storeOf}
 use Rattle.monitor.specs.Rules.{Sessions, Standing, begun, partRule, rule, next}
@@ -21,10 +19,10 @@ use Rattle.monitor.proofs.Answers.{both-ways, either-way}
 use Rattle.monitor.proofs.Frames.{length-written, written-out}
 use Rattle.monitor.proofs.Orderly.{Orderly, no-sessions-orderly, part-done, orderly-next}
 use Rattle.monitor.proofs.Demand2.{Runs, loaded-runs}
-use Rattle.isolation.specs.TwoRuns.{Open, noneOpen, track, under, shared, sharedCalls, Shown, SameCards, Alike, Claim, Isolated}
+use Rattle.isolation.specs.TwoRuns.{Open, noneOpen, track, under, shared, sharedCalls, Shown, SameCards, Alike, SameFor, Claim, Isolated}
 use Rattle.isolation.proofs.Tracking.{Fits, none-fits, placeOf, next-other, fits-track}
 use Rattle.isolation.proofs.Low.{SameSessions, same-number, next-same, written-same, bytes-same, read-under, write-over}
-use Rattle.isolation.proofs.ByFile.{storeBy, shownBy, endBy, shown-by, end-by}
+use Rattle.isolation.proofs.ByRules.{storeBy, shownBy, endBy, shown-by, end-by}
 
 -- ---- stores
 
@@ -60,7 +58,7 @@ cards-after σ size L n₁ n₂ st₁ st₂ e₁ e₂ (writes p o k bytes) e h =
     written-same st₁ st₂ bytes at (in-store σ size 2 p o k (length bytes) s st₁ e₁ z) (in-store σ size 2 p o k (length bytes) s st₂ e₂ z) (partAt d i) (h d i w u l))
     h)
 
-module _ (σ : Settings) (lawful : Lawful σ) (L : ℕ) (label : Among (σ .labels) L) (size : ℕ) where
+module _ (σ : Settings) (bounded : Bounded σ) (order : PartialOrder (σ .labels) (σ .dominates)) (L : ℕ) (label : Among (σ .labels) L) (size : ℕ) where
   -- two runs at one moment, alike as far as L can tell
   pub record Pair (t : Open) (n₁ n₂ : Standing) (st₁ st₂ : List ℕ) : Type 0 where
     pub long₁ : length st₁ ≡ size
@@ -69,7 +67,7 @@ module _ (σ : Settings) (lawful : Lawful σ) (L : ℕ) (label : Among (σ .labe
     pub known₂ : Orderly σ (n₂ .sessions)
     pub fits₁ : Fits t (n₁ .sessions)
     pub fits₂ : Fits t (n₂ .sessions)
-    pub staff : n₁ .assigned ≡ n₂ .assigned
+    pub assigned : n₁ .assigned ≡ n₂ .assigned
     pub sessions : SameSessions σ L t (n₁ .sessions) (n₂ .sessions)
     pub cards : SameCards σ L st₁ st₂
 
@@ -77,7 +75,7 @@ module _ (σ : Settings) (lawful : Lawful σ) (L : ℕ) (label : Among (σ .labe
 
   module _ (t : Open) (n₁ n₂ : Standing) (st₁ st₂ : List ℕ) (pair : Pair t n₁ n₂ st₁ st₂) where
     pub numbers : (c : Call) → shared σ L t c ≡ true → rule σ size n₁ c ≡ rule σ size n₂ c
-    numbers c h = same-number σ L t n₁ n₂ (pair .staff) (pair .fits₁) (pair .fits₂) (pair .sessions) size c h
+    numbers c h = same-number σ L t n₁ n₂ (pair .assigned) (pair .fits₁) (pair .fits₂) (pair .sessions) size c h
 
     pub parts : (c : Call) → shared σ L t c ≡ true → partOf (rule σ size n₂ c) st₁ c ≡ partOf (rule σ size n₂ c) st₂ c
     unfolding partOf rule shared
@@ -90,7 +88,7 @@ module _ (σ : Settings) (lawful : Lawful σ) (L : ℕ) (label : Among (σ .labe
         both-ways (λ a b. a ≡ b) (partRule σ 1 s size p o k n) (take n (drop (partAt o k) st₁)) [] (take n (drop (partAt o k) st₂)) []
         (λ z.
         let u = part-done σ 1 s size p o k n z in
-        let d = read-under σ lawful L label t s (pair .known₂) (pair .fits₂) size p o k n z h in
+        let d = read-under σ bounded order L label t s (pair .known₂) (pair .fits₂) size p o k n z h in
         bytes-same st₁ st₂ (partAt o k) n (in-store σ size 1 p o k n s st₁ (pair .long₁) z) (in-store σ size 1 p o k n s st₂ (pair .long₂) z)
         (λ i l.
         let w = u .inCard in
@@ -107,8 +105,8 @@ module _ (σ : Settings) (lawful : Lawful σ) (L : ℕ) (label : Among (σ .labe
       known₂ = orderly-next σ (n₂ .assigned) (n₂ .sessions) (pair .known₂) c;
       fits₁ = fits-track σ t (n₁ .sessions) (pair .fits₁) (n₁ .assigned) (pair .known₁) c;
       fits₂ = fits-track σ t (n₂ .sessions) (pair .fits₂) (n₂ .assigned) (pair .known₂) c;
-      staff = pair .staff;
-      sessions = next-same σ L t n₁ n₂ (pair .staff) (pair .fits₁) (pair .fits₂) (pair .sessions) c h;
+      assigned = pair .assigned;
+      sessions = next-same σ L t n₁ n₂ (pair .assigned) (pair .fits₁) (pair .fits₂) (pair .sessions) c h;
       cards = cards-after σ size L n₁ n₂ st₁ st₂ (pair .long₁) (pair .long₂) c (numbers c h) (pair .cards);
     }
 
@@ -136,7 +134,7 @@ module _ (σ : Settings) (lawful : Lawful σ) (L : ℕ) (label : Among (σ .labe
       let s = now .sessions in
       either-way (λ x. SameCards σ L x st) (partRule σ 2 s size p o k (length bytes)) (written st (partAt o k) bytes) st
       (λ z.
-      let high = write-over σ lawful L label t s known fits size p o k (length bytes) z h in
+      let high = write-over σ bounded order L label t s known fits size p o k (length bytes) z h in
       let x = part-done σ 2 s size p o k (length bytes) z in
       λ d i w low l.
       written-out st (partAt o k) bytes (in-store σ size 2 p o k (length bytes) s st e z) (partAt d i)
@@ -160,20 +158,15 @@ module _ (σ : Settings) (lawful : Lawful σ) (L : ℕ) (label : Among (σ .labe
         known₂ = pair .known₂;
         fits₁ = rw same at (fits-track σ t (n₁ .sessions) (pair .fits₁) (n₁ .assigned) (pair .known₁) c);
         fits₂ = pair .fits₂;
-        staff = pair .staff;
+        assigned = pair .assigned;
         sessions = λ p k. next-other σ (n₁ .assigned) (n₁ .sessions) c p (λ e. both k (rw e at high)) ∙ pair .sessions p k;
         cards = λ o i w d l. other-cards t n₁ st₁ (pair .fits₁) (pair .known₁) (pair .long₁) c high o i w d l ∙ pair .cards o i w d l;
       }
 
   -- ---- a run, and the run of its shared calls
 
-  -- alike, by what each run shows and by its store at the end
-  record AlikeBy (xs₁ xs₂ : List Shown) (end₁ end₂ : List ℕ) : Type 0 where
-    pub answers : Alike σ L xs₁ xs₂
-    pub cards : SameCards σ L end₁ end₂
-
   abbrev ClaimBy : Open → Standing → Standing → List ℕ → List ℕ → List Call → List Call → Type 0
-  ClaimBy t n₁ n₂ st₁ st₂ cs₁ cs₂ = AlikeBy (shownBy σ L size t n₁ st₁ cs₁) (shownBy σ L size t n₂ st₂ cs₂) (endBy σ size n₁ st₁ cs₁) (endBy σ size n₂ st₂ cs₂)
+  ClaimBy t n₁ n₂ st₁ st₂ cs₁ cs₂ = SameFor σ L (shownBy σ L size t n₁ st₁ cs₁) (shownBy σ L size t n₂ st₂ cs₂) (endBy σ size n₁ st₁ cs₁) (endBy σ size n₂ st₂ cs₂)
 
   turn : (b : Bool) (t : Open) (n₁ n₂ : Standing) (st₁ st₂ : List ℕ) (c : Call) (cs : List Call) → shared σ L t c ≡ b → Pair t n₁ n₂ st₁ st₂
       → ((u : Open) (k₁ k₂ : Standing) (r₁ r₂ : List ℕ) → Pair u k₁ k₂ r₁ r₂ → ClaimBy u k₁ k₂ r₁ r₂ cs (sharedCalls σ L u cs))
@@ -205,11 +198,11 @@ alike-both σ L (x ∷ xs) (y ∷ ys) [] h k = absurd h
 alike-both σ L (x ∷ xs) (y ∷ ys) (z ∷ zs) (a, c, h) (b, d, k) =
     (a ∙ sym b, λ o i w u l. c o i w u l ∙ sym (d o i w u l), alike-both σ L xs ys zs h k)
 
--- of any lawful settings and any assignments, from two memories that stand for them with no session
-pub isolates : (σ : Settings) → Lawful σ → (L : ℕ) → Among (σ .labels) L → (α : Relation) (size : ℕ) (m₁ m₂ : Memory) → Runs σ (begun α) size m₁ → Runs σ (begun α) size m₂
+-- of any settings whose dominance is a partial order, and any assignments, from two memories that stand for them with no session
+pub isolates : (σ : Settings) → PartialOrder (σ .labels) (σ .dominates) → (L : ℕ) → Among (σ .labels) L → (α : Relation) (size : ℕ) (m₁ m₂ : Memory) → Runs σ (begun α) size m₁ → Runs σ (begun α) size m₂
     → SameCards σ L (m₁ .store) (m₂ .store) → (cs₁ cs₂ : List Call) → sharedCalls σ L noneOpen cs₁ ≡ sharedCalls σ L noneOpen cs₂ → Claim σ L noneOpen m₁ m₂ cs₁ cs₂
-isolates σ lawful L label α size m₁ m₂ r₁ r₂ same cs₁ cs₂ same-shared =
-    let begins : (m : Memory) → Runs σ (begun α) size m → SameCards σ L (m .store) (m₁ .store) → Pair σ lawful L label size noneOpen (begun α) (begun α) (m .store) (m₁ .store) =
+isolates σ order L label α size m₁ m₂ r₁ r₂ same cs₁ cs₂ same-shared =
+    let begins : (m : Memory) → Runs σ (begun α) size m → SameCards σ L (m .store) (m₁ .store) → Pair σ (r₁ .bounded) order L label size noneOpen (begun α) (begun α) (m .store) (m₁ .store) =
     λ m r c. record {
       long₁ = r .stored;
       long₂ = r₁ .stored;
@@ -217,11 +210,11 @@ isolates σ lawful L label α size m₁ m₂ r₁ r₂ same cs₁ cs₂ same-sha
       known₂ = no-sessions-orderly σ;
       fits₁ = none-fits;
       fits₂ = none-fits;
-      staff = refl;
+      assigned = refl;
       sessions = λ p k. refl;
       cards = c;
     } in
-    let like = like-shared σ lawful L label size in
+    let like = like-shared σ (r₁ .bounded) order L label size in
     let x = like cs₁ noneOpen (begun α) (begun α) (m₁ .store) (m₁ .store) (begins m₁ r₁ (λ o i w d l. refl)) in
     let y = rw (sym same-shared) at (like cs₂ noneOpen (begun α) (begun α) (m₂ .store) (m₁ .store) (begins m₂ r₂ (λ o i w d l. sym (same o i w d l)))) in
     let by : Memory → List Call → List Shown = λ m cs. shownBy σ L size noneOpen (begun α) (m .store) cs in
@@ -233,5 +226,5 @@ isolates σ lawful L label α size m₁ m₂ r₁ r₂ same cs₁ cs₂ same-sha
 -- demand 3
 pub isolation : (f : List ℕ) → Isolated f
 isolation f accepted a b L label s₁ s₂ long same cs₁ cs₂ same-shared =
-    isolates (settings f) (lawful f accepted) L label (assigned f) (length s₁) (loaded a s₁) (loaded b s₂)
+    isolates (settings f) (accepted .lawful .dominance) L label (assigned f) (length s₁) (loaded a s₁) (loaded b s₂)
     (loaded-runs accepted a s₁) (rw (← long) at (loaded-runs accepted b s₂)) same cs₁ cs₂ same-shared

@@ -4,5 +4,5 @@ pub mod Low
 pub mod Isolation
 pub mod Exported
 pub mod Begins
-pub mod ByFile
+pub mod ByRules
 pub mod Worked

@@ -11,19 +11,19 @@ use lib.ListN.{length, getD, take, drop, length-drop}
 use lib.Seq.{length-take-le, getD-take, getD-drop, ext-getD}
 use Rattle.search.specs.Search.{Among}
 use Rattle.search.proofs.Truth.{untrue, both, other-iff}
-use Rattle.policy.specs.Settings.{Settings}
+use Rattle.order.specs.Closure.{PartialOrder}
+use Rattle.policy.specs.Settings.{Settings, Bounded}
 use Rattle.policy.specs.Policy.{may}
-use Rattle.policy.specs.Accepted.{Lawful}
 use Rattle.monitor.specs.Calls.{ifDone, written}
 use Rattle.monitor.specs.Runs.{Call, opens, closes, takes, drops, reads, writes}
 use Rattle.monitor.specs.Places.{isFree, put}
-use Rattle.monitor.specs.Rules.{Session, Sessions, sessionRule, fittingByFile, openRule, closeRule, takeRule, dropRule, partRule, rule, sessionOf, holding, without, sessionsAfter, Standing}
+use Rattle.monitor.specs.Rules.{Session, Sessions, sessionRule, fittingBy, openRule, closeRule, takeRule, dropRule, partRule, rule, sessionOf, holding, without, sessionsAfter, Standing}
 use Rattle.monitor.proofs.Answers.{both-ways}
 use Rattle.monitor.proofs.Frames.{written-in, written-out}
 use Rattle.monitor.proofs.Orderly.{Orderly, admitted, gives-iff, part-done}
 use Rattle.monitor.proofs.Places.{put-at}
 use Rattle.isolation.specs.TwoRuns.{Open, track, under, shared}
-use Rattle.isolation.proofs.Levels.{label-of-card, reads-below, writes-above}
+use Rattle.isolation.proofs.Levels.{reads-below, writes-above}
 use Rattle.isolation.proofs.Tracking.{labelOf, Fits, free, placeOf, next-other, track-other, grants-iff}
 
 -- ---- numbers
@@ -36,7 +36,7 @@ session-const (some s) = refl
 abbrev pub SameSessions : Settings → ℕ → Open → Sessions → Sessions → Type 0
 SameSessions σ L t s₁ s₂ = (p : ℕ) → under σ L (t p) ≡ true → s₁ p ≡ s₂ p
 
-module _ (σ : Settings) (L : ℕ) (t : Open) (n₁ n₂ : Standing) (staff : n₁ .assigned ≡ n₂ .assigned)
+module _ (σ : Settings) (L : ℕ) (t : Open) (n₁ n₂ : Standing) (same-assigned : n₁ .assigned ≡ n₂ .assigned)
     (fits₁ : Fits t (n₁ .sessions)) (fits₂ : Fits t (n₂ .sessions)) (same : SameSessions σ L t (n₁ .sessions) (n₂ .sessions)) where
   abbrev s₁ : Sessions
   s₁ = n₁ .sessions
@@ -51,7 +51,7 @@ module _ (σ : Settings) (L : ℕ) (t : Open) (n₁ n₂ : Standing) (staff : n�
   unfolding rule shared openRule closeRule takeRule dropRule partRule
   same-number size (opens p u l) h = rw (free-same p)
   same-number size (closes p) h = rw (session-const (s₁ p), session-const (s₂ p), free-same p)
-  same-number size (takes p r) h = rw (staff, same p h)
+  same-number size (takes p r) h = rw (same-assigned, same p h)
   same-number size (drops p r) h = rw (same p h)
   same-number size (reads p o k n) h = rw (same p h)
   same-number size (writes p o k bytes) h = rw (same p h)
@@ -116,14 +116,14 @@ bytes-same a b at n fits-a fits-b h = ext-getD 0 (take n (drop at a)) (take n (d
     byte : (c : List ℕ) (i : ℕ) → i < n → getD (take n (drop at c)) i 0 ≡ getD c (at + i) 0
     byte c i l = getD-take n (drop at c) i 0 l ∙ getD-drop at c i 0
 
-module _ (σ : Settings) (lawful : Lawful σ) (L : ℕ) (label : Among (σ .labels) L) (t : Open) (s : Sessions) (known : Orderly σ s) (fits : Fits t s) where
+module _ (σ : Settings) (bounded : Bounded σ) (order : PartialOrder (σ .labels) (σ .dominates)) (L : ℕ) (label : Among (σ .labels) L) (t : Open) (s : Sessions) (known : Orderly σ s) (fits : Fits t s) where
   -- a use of card o at place p, by a role that fits the session's label there
   record Use (mode p o : ℕ) : Type 0 where
     pub card : Among (σ .cards) o
     pub level : ℕ
     pub inside : Among (σ .labels) level
     pub tracked : t p ≡ some level
-    pub role : (r : ℕ) × (may σ mode r o ≡ true) × (fittingByFile σ level r ≡ true)
+    pub role : (r : ℕ) × (may σ mode r o ≡ true) × (fittingBy σ level r ≡ true)
 
   use-of : (mode size p o k n : ℕ) → partRule σ mode s size p o k n ≡ 0 → Use mode p o
   use-of mode size p o k n z =
@@ -137,8 +137,8 @@ module _ (σ : Settings) (lawful : Lawful σ) (L : ℕ) (label : Among (σ .labe
   read-under size p o k n z h =
       let u = use-of 1 size p o k n z in
       let (r, gives, suited) = u .role in
-      lawful .dominance .transitive L (u .level) (σ .cardLabel o) label (u .inside) (label-of-card σ lawful o (u .card))
-      (rw (u .tracked) at h) (reads-below σ lawful (u .level) r o (u .inside) (u .card) suited gives)
+      order .transitive L (u .level) (σ .cardLabel o) label (u .inside) (bounded .cardLabels o (u .card))
+      (rw (u .tracked) at h) (reads-below σ bounded order (u .level) r o (u .inside) (u .card) suited gives)
 
   pub write-over : (size p o k n : ℕ) → partRule σ 2 s size p o k n ≡ 0 → under σ L (t p) ≡ false → σ .dominates L (σ .cardLabel o) ≡ false
   write-over size p o k n z h =
@@ -146,6 +146,6 @@ module _ (σ : Settings) (lawful : Lawful σ) (L : ℕ) (label : Among (σ .labe
       let (r, gives, suited) = u .role in
       untrue (σ .dominates L (σ .cardLabel o)) (λ d.
       both
-      (lawful .dominance .transitive L (σ .cardLabel o) (u .level) label (label-of-card σ lawful o (u .card)) (u .inside)
-      d (writes-above σ lawful (u .level) r o (u .inside) (u .card) suited gives))
+      (order .transitive L (σ .cardLabel o) (u .level) label (bounded .cardLabels o (u .card)) (u .inside)
+      d (writes-above σ bounded order (u .level) r o (u .inside) (u .card) suited gives))
       (rw (u .tracked) at h))

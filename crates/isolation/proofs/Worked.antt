@@ -22,13 +22,13 @@ use Rattle.policy.specs.Accepted.{Accepted}
 use Rattle.policy.proofs.Outcomes.{accepted-fine}
 use Rattle.monitor.specs.Calls.{unless, ifDone, partAt}
 use Rattle.monitor.specs.Runs.{Call, Start, loaded, partOf, storeOf}
-use Rattle.monitor.specs.Rules.{begun, entitledByFile, fittingByFile, givesByFile, openRule, closeRule, takeRule, dropRule, partRule, rule, sessionsAfter}
+use Rattle.monitor.specs.Rules.{begun, entitledBy, fittingBy, givesBy, openRule, closeRule, takeRule, dropRule, partRule, rule, sessionsAfter}
 use Rattle.monitor.specs.Cases.{bytes}
 use Rattle.monitor.proofs.Demand2.{loaded-runs}
 use Rattle.isolation.specs.TwoRuns.{Answer, noneOpen, grants, track, shared, sharedCalls, shown, SameCards}
 use Rattle.isolation.specs.Worked.{file, firstStore, secondStore, firstRun, secondRun, done, low, highFirst, highSecond}
 use Rattle.isolation.proofs.Begins.{start}
-use Rattle.isolation.proofs.ByFile.{shownBy, shown-by}
+use Rattle.isolation.proofs.ByRules.{shownBy, shown-by}
 
 abbrev answersBy : ℕ → List ℕ → List Call → List Answer
 answersBy L store cs = map (λ x. x .answer) (shownBy (settings file) L 192 noneOpen (begun (assigned file)) store cs)
@@ -50,7 +50,7 @@ computed : (answersBy 2 firstStore firstRun ≡ low) × (answersBy 2 secondStore
 unfolding file bytes firstStore secondStore firstRun secondRun low highFirst highSecond
     column columns letterOf fields formed lineOf lineAt says last labelBy some every first via upper isLeast leastOf lub
     dominates senior may mayAt level rLevel wLevel
-    unless ifDone entitledByFile fittingByFile givesByFile openRule closeRule takeRule dropRule partRule rule sessionsAfter
+    unless ifDone entitledBy fittingBy givesBy openRule closeRule takeRule dropRule partRule rule sessionsAfter
     grants track shared partOf storeOf shownBy
 computed = (refl, refl, refl, refl)
 

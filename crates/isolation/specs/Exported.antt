@@ -28,4 +28,4 @@ abbrev pub IsolatedExports : List ℕ → Type 0
 IsolatedExports f =
     OfTwoRuns f (λ L m₁ m₂ cs₁ cs₂.
     (xs₁ xs₂ : List Shown) (e₁ e₂ : Memory) → Makes (settings f) L noneOpen m₁ cs₁ xs₁ e₁ → Makes (settings f) L noneOpen m₂ cs₂ xs₂ e₂
-    → SameFor (settings f) L xs₁ xs₂ e₁ e₂)
+    → SameFor (settings f) L xs₁ xs₂ (e₁ .store) (e₂ .store))

@@ -21,7 +21,7 @@ pub record Answer : Type 0 where
 abbrev pub answer : Memory → Call → Answer
 answer m c = record { number = number m c; bytes = part m c }
 
--- ---- "the file and the calls alone tell which places are open, and at which label"
+-- ---- "the file and the calls alone tell which places are open, and at which label": the file by its settings
 
 -- the label of the session at each place; a place is open where it is not free
 abbrev pub Open : Type 0
@@ -91,16 +91,16 @@ Alike σ L [] (y ∷ ys) = ⊥
 Alike σ L (x ∷ xs) [] = ⊥
 Alike σ L (x ∷ xs) (y ∷ ys) = (x .answer ≡ y .answer) × SameCards σ L (x .store) (y .store) × Alike σ L xs ys
 
--- two runs alike for L, by what each shows and by the memory at its end
-pub record SameFor (σ : Settings) (L : ℕ) (xs₁ xs₂ : List Shown) (e₁ e₂ : Memory) : Type 0 where
+-- two runs alike for L, by what each shows and by the store at its end
+pub record SameFor (σ : Settings) (L : ℕ) (xs₁ xs₂ : List Shown) (end₁ end₂ : List ℕ) : Type 0 where
   pub answers : Alike σ L xs₁ xs₂
-  pub cards : SameCards σ L (e₁ .store) (e₂ .store)
+  pub cards : SameCards σ L end₁ end₂
 
 -- ---- the claim, "about two whole lists of calls": each shared call gets the same number and bytes, and the cards under L are the same after each shared call and at the end
 
 -- of two memories and the calls on them; t tells which places are open at first, and at which label
 abbrev pub Claim : Settings → ℕ → Open → Memory → Memory → List Call → List Call → Type 0
-Claim σ L t m₁ m₂ cs₁ cs₂ = SameFor σ L (shown σ L t m₁ cs₁) (shown σ L t m₂ cs₂) (run m₁ cs₁) (run m₂ cs₂)
+Claim σ L t m₁ m₂ cs₁ cs₂ = SameFor σ L (shown σ L t m₁ cs₁) (shown σ L t m₂ cs₂) (run m₁ cs₁ .store) (run m₂ cs₂ .store)
 
 -- what is claimed of the label, the memories and the calls holds of every two runs of the file that fall under demand 3; each may start from a load of its own
 abbrev pub OfTwoRuns : (f : List ℕ) → (ℕ → Memory → Memory → List Call → List Call → Type 0) → Type 0

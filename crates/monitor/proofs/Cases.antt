@@ -14,7 +14,7 @@ use Rattle.policy.specs.Policy.{may, mayAt, level, rLevel, wLevel}
 use Rattle.policy.specs.Verdict.{orderVerdict, labelVerdict, roleVerdict, assignVerdict, assignmentVerdict, policyVerdict, verdict}
 use Rattle.policy.specs.Flow.{flows, flowCircle}
 use Rattle.monitor.specs.Calls.{unless, ifDone}
-use Rattle.monitor.specs.Rules.{entitledByFile, fittingByFile, givesByFile, openRule, takeRule, partRule, rule, sessionsAfter}
+use Rattle.monitor.specs.Rules.{entitledBy, fittingBy, givesBy, openRule, takeRule, partRule, rule, sessionsAfter}
 use Rattle.monitor.specs.Cases.{bytes, numbered, Findings, findings, Case, cases}
 
 -- what the definitions find of a case's file
@@ -27,7 +27,7 @@ unfolding cases findings bytes
     sized goodCounts firstLimit secondLimit ranged rises headVerdict bodyVerdict lineVerdict scan count unlabelled unlabelledVerdict linesVerdict formVerdict
     says last labelBy some every first via upper isLeast leastOf lub pairWithoutBound partnerWithoutBound lowestWithoutBound
     dominates senior may mayAt level rLevel wLevel orderVerdict labelVerdict roleVerdict assignVerdict assignmentVerdict policyVerdict verdict flows flowCircle
-    unless ifDone entitledByFile fittingByFile givesByFile openRule takeRule partRule rule sessionsAfter numbered
+    unless ifDone entitledBy fittingBy givesBy openRule takeRule partRule rule sessionsAfter numbered
 computed = refl
 
 of-each : (cs : List Case) → map given cs ≡ map (λ c. c .expected) cs → (c : Case) → List·Memᴰ c cs → given c ≡ c .expected

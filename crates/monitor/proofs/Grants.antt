@@ -19,16 +19,16 @@ use Rattle.policy.proofs.Levels.{reads-under-iff, writes-over-iff}
 use Rattle.monitor.specs.Calls.{unless}
 use Rattle.monitor.specs.Runs.{Call, opens, closes, takes, drops, reads, writes, Start, number, left}
 use Rattle.monitor.specs.Places.{isFree}
-use Rattle.monitor.specs.Rules.{Session, Sessions, entitledByFile, fittingByFile, givesByFile, openRule, closeRule, takeRule, dropRule, partRule, begun, rule, standing}
+use Rattle.monitor.specs.Rules.{Session, Sessions, entitledBy, fittingBy, givesBy, openRule, closeRule, takeRule, dropRule, partRule, begun, rule, standing}
 use Rattle.monitor.specs.Granted.{OpenFor, Holds, MayOpen, OpenPlace, MayTake, MayDrop, MayUse, assignedBy, Granted}
 use Rattle.monitor.proofs.Orderly.{Orderly, no-sessions-orderly, opening, opening-done, session-done, admitted, session-granted, taking, dropping, gives-iff, part-done}
 use Rattle.monitor.proofs.History.{orderly-standing, session-with, Opened, open-for-iff, holds-iff}
 use Rattle.monitor.proofs.Demand2.{answers}
 
 -- a role fits a label exactly where it reads under the label and writes over it
-pub fitting-by-file-iff : (σ : Settings) → PartialOrder (σ .labels) (σ .dominates) → (l r : ℕ) → (fittingByFile σ l r ≡ true) ↔ (ReadsUnder σ l r × WritesOver σ l r)
-unfolding fittingByFile
-fitting-by-file-iff σ order l r = and-both (reads-under-iff σ order l r) (writes-over-iff σ order l r)
+pub fitting-by-iff : (σ : Settings) → PartialOrder (σ .labels) (σ .dominates) → (l r : ℕ) → (fittingBy σ l r ≡ true) ↔ (ReadsUnder σ l r × WritesOver σ l r)
+unfolding fittingBy
+fitting-by-iff σ order l r = and-both (reads-under-iff σ order l r) (writes-over-iff σ order l r)
 
 module _ (σ : Settings) (α : Relation) (cs : List Call) where
   abbrev now : Sessions
@@ -87,9 +87,9 @@ module _ (σ : Settings) (α : Relation) (cs : List Call) where
         session-granted σ now known p s e _ (rw (among-iff (σ .roles) r .1 (g .role))),
   )
 
-  entitled-by-file-iff : (u r : ℕ) → (entitledByFile σ (assignedBy σ α cs) u r ≡ true) ↔ ((q : ℕ) × Among (σ .roles) q × (assignedBy σ α cs u q ≡ true) × (σ .senior q r ≡ true))
-  unfolding entitledByFile
-  entitled-by-file-iff u r = some-both (assignedBy σ α cs u) (λ q. σ .senior q r) (σ .roles)
+  entitled-by-iff : (u r : ℕ) → (entitledBy σ (assignedBy σ α cs) u r ≡ true) ↔ ((q : ℕ) × Among (σ .roles) q × (assignedBy σ α cs u q ≡ true) × (σ .senior q r ≡ true))
+  unfolding entitledBy
+  entitled-by-iff u r = some-both (assignedBy σ α cs u) (λ q. σ .senior q r) (σ .roles)
 
   take-iff : PartialOrder (σ .labels) (σ .dominates) → (p r : ℕ) → (takeRule σ (assignedBy σ α cs) now p r ≡ 0) ↔ MayTake σ α cs p r
   unfolding takeRule unless
@@ -98,19 +98,19 @@ module _ (σ : Settings) (α : Relation) (cs : List Call) where
         let a = session-done now p _ h in
         let s = a .session in
         let (w, b, c) = taking σ (assignedBy σ α cs) r s (a .done) in
-        let (i, j) = fitting-by-file-iff σ order (s .label) r .0 c in
-        record { session = there p s (a .found); role = w; member = entitled-by-file-iff (s .user) r .0 b; reads = i; writes = j },
+        let (i, j) = fitting-by-iff σ order (s .label) r .0 c in
+        record { session = there p s (a .found); role = w; member = entitled-by-iff (s .user) r .0 b; reads = i; writes = j },
     λ g.
         let (s, e, (u, l)) = session-of p (g .session) in
-        let b = entitled-by-file-iff (g .session .user) r .1 (g .member) in
-        let c = fitting-by-file-iff σ order (g .session .label) r .1 (g .reads, g .writes) in
+        let b = entitled-by-iff (g .session .user) r .1 (g .member) in
+        let c = fitting-by-iff σ order (g .session .label) r .1 (g .reads, g .writes) in
         session-granted σ now known p s e _ (rw (among-iff (σ .roles) r .1 (g .role), u, l, b, c)),
   )
 
   -- ---- read and write
 
-  gives-by-file-iff : (m p o : ℕ) (s : Session) → now p ≡ some s → (givesByFile σ m s o ≡ true) ↔ ((r : ℕ) × Holds σ α cs p r × (may σ m r o ≡ true))
-  gives-by-file-iff m p o s e = (
+  gives-by-iff : (m p o : ℕ) (s : Session) → now p ≡ some s → (givesBy σ m s o ≡ true) ↔ ((r : ℕ) × Holds σ α cs p r × (may σ m r o ≡ true))
+  gives-by-iff m p o s e = (
     λ h. let (r, w, a, b) = gives-iff σ m s o .0 h in (r, holds-iff σ α cs p r .0 (rw e a), b),
     λ (r, k, b).
         let a : s .held r ≡ true = rw e at (holds-iff σ α cs p r .1 k) in
@@ -125,7 +125,7 @@ module _ (σ : Settings) (α : Relation) (cs : List Call) where
         record {
           session = there p (a .session) (a .found);
           card = a .card;
-          role = gives-by-file-iff m p o (a .session) (a .found) .0 (a .used);
+          role = gives-by-iff m p o (a .session) (a .found) .0 (a .used);
           inCard = a .inCard;
           inStore = a .inStore;
         },
@@ -134,7 +134,7 @@ module _ (σ : Settings) (α : Relation) (cs : List Call) where
         session-granted σ now known p s e _
         (rw (
           among-iff (σ .cards) o .1 (g .card),
-          gives-by-file-iff m p o s e .1 (g .role),
+          gives-by-iff m p o s e .1 (g .role),
           le-leb (k + n) 64 (g .inCard),
           le-leb (64 * σ .cards) size (g .inStore),
         )),
@@ -156,5 +156,5 @@ pub done-iff : {f : List ℕ} → Accepted f → (a : Start f) (store : List ℕ
     → (number (record { state = left a store cs .state; store = lent }) c ≡ 0) ↔ Granted (settings f) (assigned f) (length lent) cs c
 done-iff {f} accepted a store cs lent c =
     let e = answers accepted a store cs lent c in
-    let i = rule-iff (settings f) (assigned f) (accepted .ordered .dominance .order) (length lent) cs c in
+    let i = rule-iff (settings f) (assigned f) (accepted .lawful .dominance) (length lent) cs c in
     (λ h. i .0 (sym e ∙ h), λ g. e ∙ i .1 g)

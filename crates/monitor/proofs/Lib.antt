@@ -7,10 +7,11 @@ pub mod Wrote
 pub mod Places
 pub mod Orderly
 pub mod Stands
-pub mod InFile
+pub mod ByRules
 pub mod Demand2
 pub mod History
 pub mod Grants
 pub mod Cases
 pub mod Able
 pub mod Reviewed
+pub mod Same

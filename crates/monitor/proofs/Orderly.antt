@@ -1,4 +1,4 @@
--- What the rules have seen to of every session: its place, user, label and roles are the file's, and each role held fits its label. Assumes nothing.
+-- What the rules have seen to of every session: its place, user, label and roles are in range, and each role held fits its label. Assumes nothing.
 use Prim.Native.Nat.{ℕ, _+_, _*_, _≤_}
 use mathlib.Core.Path.{_≡_, refl}
 use mathlib.Core.Logic.{_↔_, ⊎-elim}
@@ -16,7 +16,7 @@ use Rattle.policy.specs.Policy.{may}
 use Rattle.monitor.specs.Calls.{unless}
 use Rattle.monitor.specs.Runs.{Call, opens, closes, takes, drops, reads, writes}
 use Rattle.monitor.specs.Places.{isFree, put}
-use Rattle.monitor.specs.Rules.{Session, Sessions, noSessions, sessionRule, atSessionByFile, entitledByFile, fittingByFile, givesByFile, openRule, closeRule, takeRule, dropRule, partRule, sessionOf, holding, without, stand, sessionsAfter}
+use Rattle.monitor.specs.Rules.{Session, Sessions, noSessions, sessionRule, atSessionBy, entitledBy, fittingBy, givesBy, openRule, closeRule, takeRule, dropRule, partRule, sessionOf, holding, without, stand, sessionsAfter}
 use Rattle.monitor.proofs.Answers.{unless-done, either-way}
 use Rattle.monitor.proofs.Places.{put-everywhere}
 
@@ -24,7 +24,7 @@ pub record Admitted (σ : Settings) (p : ℕ) (s : Session) : Type 0 where
   pub place : Among 64 p
   pub user : Among (σ .users) (s .user)
   pub label : Among (σ .labels) (s .label)
-  pub roles : (r : ℕ) → s .held r ≡ true → Among (σ .roles) r × (fittingByFile σ (s .label) r ≡ true)
+  pub roles : (r : ℕ) → s .held r ≡ true → Among (σ .roles) r × (fittingBy σ (s .label) r ≡ true)
 
 abbrev pub Known : Settings → ℕ → Option Session → Type 0
 Known σ p none = Unit {0}
@@ -77,7 +77,7 @@ pub record At (t : Sessions) (p : ℕ) (rule : Session → ℕ) : Type 0 where
   pub found : t p ≡ some session
   pub done : rule session ≡ 0
 
-pub session-done : (t : Sessions) (p : ℕ) (rule : Session → ℕ) → atSessionByFile t p rule ≡ 0 → At t p rule
+pub session-done : (t : Sessions) (p : ℕ) (rule : Session → ℕ) → atSessionBy t p rule ≡ 0 → At t p rule
 session-done t p rule h =
     let a = unless-done (among 64 p) 22 (sessionRule (t p) rule) (omega arith) h in
     there (among-iff 64 p .0 (a .0)) (t p) refl (a .1)
@@ -92,24 +92,24 @@ module _ (σ : Settings) (t : Sessions) (known : Orderly σ t) (p : ℕ) (s : Se
   admitted = rw found at (known p)
 
   -- the converse of `session-done`
-  pub session-granted : (rule : Session → ℕ) → rule s ≡ 0 → atSessionByFile t p rule ≡ 0
+  pub session-granted : (rule : Session → ℕ) → rule s ≡ 0 → atSessionBy t p rule ≡ 0
   unfolding unless
   session-granted rule h = rw (among-iff 64 p .1 (admitted .place), found) h
 
-pub taking : (σ : Settings) (α : Relation) (r : ℕ) (s : Session) → unless (among (σ .roles) r) 25 (unless (entitledByFile σ α (s .user) r) 27 (unless (fittingByFile σ (s .label) r) 28 0)) ≡ 0
-    → Among (σ .roles) r × (entitledByFile σ α (s .user) r ≡ true) × (fittingByFile σ (s .label) r ≡ true)
+pub taking : (σ : Settings) (α : Relation) (r : ℕ) (s : Session) → unless (among (σ .roles) r) 25 (unless (entitledBy σ α (s .user) r) 27 (unless (fittingBy σ (s .label) r) 28 0)) ≡ 0
+    → Among (σ .roles) r × (entitledBy σ α (s .user) r ≡ true) × (fittingBy σ (s .label) r ≡ true)
 taking σ α r s h =
     let a = unless-done (among (σ .roles) r) 25 _ (omega arith) h in
-    let b = unless-done (entitledByFile σ α (s .user) r) 27 _ (omega arith) (a .1) in
-    let c = unless-done (fittingByFile σ (s .label) r) 28 _ (omega arith) (b .1) in
+    let b = unless-done (entitledBy σ α (s .user) r) 27 _ (omega arith) (a .1) in
+    let c = unless-done (fittingBy σ (s .label) r) 28 _ (omega arith) (b .1) in
     (among-iff (σ .roles) r .0 (a .0), b .0, c .0)
 
 pub dropping : (σ : Settings) (r : ℕ) → unless (among (σ .roles) r) 25 0 ≡ 0 → Among (σ .roles) r
 dropping σ r h = among-iff (σ .roles) r .0 (unless-done (among (σ .roles) r) 25 0 (omega arith) h .0)
 
 -- the roles held give the use of a card exactly where one of them may
-pub gives-iff : (σ : Settings) (m : ℕ) (s : Session) (o : ℕ) → (givesByFile σ m s o ≡ true) ↔ ((r : ℕ) × Among (σ .roles) r × (s .held r ≡ true) × (may σ m r o ≡ true))
-unfolding givesByFile
+pub gives-iff : (σ : Settings) (m : ℕ) (s : Session) (o : ℕ) → (givesBy σ m s o ≡ true) ↔ ((r : ℕ) × Among (σ .roles) r × (s .held r ≡ true) × (may σ m r o ≡ true))
+unfolding givesBy
 gives-iff σ m s o = some-both (s .held) (λ r. may σ m r o) (σ .roles)
 
 -- a read or a write that is done
@@ -117,7 +117,7 @@ pub record Using (σ : Settings) (m : ℕ) (t : Sessions) (size p o k n : ℕ) :
   pub session : Session
   pub found : t p ≡ some session
   pub card : Among (σ .cards) o
-  pub used : givesByFile σ m session o ≡ true
+  pub used : givesBy σ m session o ≡ true
   pub inCard : k + n ≤ 64
   pub inStore : 64 * σ .cards ≤ size
 
@@ -126,7 +126,7 @@ unfolding partRule
 part-done σ m t size p o k n h =
     let a = session-done t p _ h in
     let (i, b) = unless-done (among (σ .cards) o) 25 _ (omega arith) (a .done) in
-    let (j, c) = unless-done (givesByFile σ m (a .session) o) 29 _ (omega arith) b in
+    let (j, c) = unless-done (givesBy σ m (a .session) o) 29 _ (omega arith) b in
     let (x, d) = unless-done (leb (k + n) 64) 30 _ (omega arith) c in
     let (y, z) = unless-done (leb (64 * σ .cards) size) 31 _ (omega arith) d in
     record {
@@ -140,8 +140,8 @@ part-done σ m t size p o k n h =
 
 -- ---- each call keeps it so
 
--- a session with other roles, each the file's and fitting its label
-pub with-roles : (σ : Settings) (p : ℕ) (s : Session) (held : ℕ → Bool) → Admitted σ p s → ((r : ℕ) → held r ≡ true → Among (σ .roles) r × (fittingByFile σ (s .label) r ≡ true))
+-- a session with other roles, each in range and fitting its label
+pub with-roles : (σ : Settings) (p : ℕ) (s : Session) (held : ℕ → Bool) → Admitted σ p s → ((r : ℕ) → held r ≡ true → Among (σ .roles) r × (fittingBy σ (s .label) r ≡ true))
     → Admitted σ p (record { user = s .user; label = s .label; held = held })
 with-roles σ p s held a fit = record { place = a .place; user = a .user; label = a .label; roles = fit }
 

@@ -1,4 +1,4 @@
--- The review functions in the file's own terms, for every state that a load of an accepted file and any calls left: `review-…`. What a user's roles at a label give is what
+-- The review functions by the settings, for every state that stands for them, as each that a load of an accepted file and any calls left does: `review-…`. What a user's roles at a label give is what
 -- `monitor_can` answers (`review-can`). Assumes nothing.
 use Prim.Native.Nat.{ℕ}
 use mathlib.Core.Path.{_≡_, _∙_}
@@ -15,13 +15,13 @@ use Rattle.order.specs.Closure.{Relation}
 use Rattle.policy.specs.Settings.{Settings, Bounded}
 use Rattle.policy.specs.Policy.{may}
 use Rattle.policy.specs.Tables.{labelCountAt, roleCountAt, userCountAt, cardCountAt, word, tableOf}
-use Rattle.policy.proofs.Meaning.{role-few, user-few, card-few, marked-file}
+use Rattle.policy.proofs.Meaning.{role-few, user-few, card-few, marked-by}
 use Rattle.monitor.specs.Session.{entitled, fitting}
-use Rattle.monitor.specs.Rules.{Sessions, entitledByFile, fittingByFile}
-use Rattle.monitor.specs.Rights.{roleCould, could, couldByFile}
+use Rattle.monitor.specs.Rules.{Sessions, entitledBy, fittingBy}
+use Rattle.monitor.specs.Rights.{roleCould, could, couldBy}
 use Rattle.monitor.specs.Review.{knownLabels, knownRoles, knownUsers, knownCards, known, isLabel, isRole, isUser, isCard, clearanceOf, dominatesIn, seniorTo, assignedTo, entitledTo, mayOpen, mayTake, giveCard}
 use Rattle.monitor.proofs.Stands.{Stands}
-use Rattle.monitor.proofs.InFile.{some-first, sound-file, cleared-file, entitled-file, fitting-file}
+use Rattle.monitor.proofs.ByRules.{some-first, sound-by, cleared-by, entitled-by, fitting-by}
 use Rattle.monitor.proofs.Known.{may-role, may-known}
 use Rattle.monitor.proofs.Able.{table-says, could-by}
 
@@ -29,19 +29,19 @@ module _ (σ : Settings) (bounded : Bounded σ) (α : Relation) (t : Sessions) (
   -- ---- counts and ranges
 
   pub review-labels : knownLabels xs ≡ σ .labels
-  review-labels = rw (sound-file σ bounded α t xs stands) (stands .tables .counted .labels)
+  review-labels = rw (sound-by σ bounded α t xs stands) (stands .tables .counted .labels)
 
   pub review-roles : knownRoles xs ≡ σ .roles
-  review-roles = rw (sound-file σ bounded α t xs stands) (stands .tables .counted .roles)
+  review-roles = rw (sound-by σ bounded α t xs stands) (stands .tables .counted .roles)
 
   pub review-users : knownUsers xs ≡ σ .users
-  review-users = rw (sound-file σ bounded α t xs stands) (stands .tables .counted .users)
+  review-users = rw (sound-by σ bounded α t xs stands) (stands .tables .counted .users)
 
   pub review-cards : knownCards xs ≡ σ .cards
-  review-cards = rw (sound-file σ bounded α t xs stands) (stands .tables .counted .cards)
+  review-cards = rw (sound-by σ bounded α t xs stands) (stands .tables .counted .cards)
 
   thing : (at n x : ℕ) → word xs at ≡ n → Among n x → known xs at x ≡ true
-  thing at n x e w = rw (sound-file σ bounded α t xs stands, e) (among-iff n x .1 w)
+  thing at n x e w = rw (sound-by σ bounded α t xs stands, e) (among-iff n x .1 w)
 
   label : (l : ℕ) → Among (σ .labels) l → isLabel xs l ≡ true
   label l = thing labelCountAt (σ .labels) l (stands .tables .counted .labels)
@@ -55,7 +55,7 @@ module _ (σ : Settings) (bounded : Bounded σ) (α : Relation) (t : Sessions) (
   card : (o : ℕ) → Among (σ .cards) o → isCard xs o ≡ true
   card o = thing cardCountAt (σ .cards) o (stands .tables .counted .cards)
 
-  -- ---- users, labels, roles and cards of the file
+  -- ---- users, labels, roles and cards
 
   pub review-clearance : (u : ℕ) → Among (σ .users) u → clearanceOf xs u ≡ σ .clearance u
   unfolding clearanceOf
@@ -63,7 +63,7 @@ module _ (σ : Settings) (bounded : Bounded σ) (α : Relation) (t : Sessions) (
 
   pub review-dominates : (a b : ℕ) → Among (σ .labels) a → Among (σ .labels) b → dominatesIn xs a b ≡ σ .dominates a b
   unfolding dominatesIn
-  review-dominates a b v w = rw (label a v, label b w) (marked-file σ bounded xs (stands .tables) a b (inl v))
+  review-dominates a b v w = rw (label a v, label b w) (marked-by σ bounded xs (stands .tables) a b (inl v))
 
   pub review-senior : (q r : ℕ) → Among (σ .roles) q → Among (σ .roles) r → seniorTo xs q r ≡ σ .senior q r
   unfolding seniorTo
@@ -74,26 +74,26 @@ module _ (σ : Settings) (bounded : Bounded σ) (α : Relation) (t : Sessions) (
   unfolding assignedTo
   review-assigned u r v w = rw (user u v, role r w) (stands .assigning u r (user-few σ bounded u v) (role-few σ bounded r w))
 
-  pub review-entitled : (u r : ℕ) → Among (σ .users) u → Among (σ .roles) r → entitledTo xs u r ≡ entitledByFile σ α u r
+  pub review-entitled : (u r : ℕ) → Among (σ .users) u → Among (σ .roles) r → entitledTo xs u r ≡ entitledBy σ α u r
   unfolding entitledTo
-  review-entitled u r v w = rw (user u v, role r w) (entitled-file σ bounded α t xs stands u r v w)
+  review-entitled u r v w = rw (user u v, role r w) (entitled-by σ bounded α t xs stands u r v w)
 
   pub review-opens : (u l : ℕ) → Among (σ .users) u → Among (σ .labels) l → mayOpen xs u l ≡ σ .dominates (σ .clearance u) l
   unfolding mayOpen
-  review-opens u l v w = rw (user u v, label l w) (cleared-file σ bounded α t xs stands u l v w)
+  review-opens u l v w = rw (user u v, label l w) (cleared-by σ bounded α t xs stands u l v w)
 
   pub review-takes : (u l r : ℕ) → Among (σ .users) u → Among (σ .labels) l → Among (σ .roles) r
-      → mayTake xs u l r ≡ (σ .dominates (σ .clearance u) l && (entitledByFile σ α u r && fittingByFile σ l r))
+      → mayTake xs u l r ≡ (σ .dominates (σ .clearance u) l && (entitledBy σ α u r && fittingBy σ l r))
   unfolding mayTake
-  review-takes u l r v w i = rw (review-opens u l v w, review-entitled u r v i, fitting-file σ bounded α t xs stands l r i)
+  review-takes u l r v w i = rw (review-opens u l v w, review-entitled u r v i, fitting-by σ bounded α t xs stands l r i)
 
-  -- ---- what a set of the file's roles gives
+  -- ---- what a set of roles gives
 
   module _ (o m : ℕ) (held : ℕ → Bool) (i : Among (σ .cards) o) (j : Among 2 m) (known : (r : ℕ) → held r ≡ true → Among (σ .roles) r) where
     abbrev gives : ℕ → Bool
     gives r = member xs (rowOf (tableOf m) o) r && held r
 
-    -- it is enough to look at the file's roles
+    -- it is enough to look at the roles that are counted
     gives-by : (p : ℕ → Bool) → ((r : ℕ) → Among (σ .roles) r → gives r ≡ p r) → giveCard xs m o held ≡ search.some (σ .roles) p
     unfolding giveCard
     gives-by p agree =
@@ -124,5 +124,5 @@ module _ (σ : Settings) (bounded : Bounded σ) (α : Relation) (t : Sessions) (
     unfolding could
     review-can = rw (stands .tables .counted .roles) (gives-by o m (mayTake xs u l) i j taken-known (roleCould xs u l o (tableOf m)) role-could-as)
 
-    pub review-could : giveCard xs m o (mayTake xs u l) ≡ couldByFile σ α u l o m
+    pub review-could : giveCard xs m o (mayTake xs u l) ≡ couldBy σ α u l o m
     review-could = review-can ∙ could-by σ bounded α t xs stands u l o m v i j

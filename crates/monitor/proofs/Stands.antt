@@ -1,4 +1,4 @@
--- A state stands for the sessions that the calls left: its tables describe the file, and each place's bytes are its session's. A call that writes one place and no
+-- A state stands for the sessions that the calls left: its tables describe the settings and the assignments, and each place's bytes are its session's. A call that writes one place and no
 -- more keeps it so. Assumes nothing.
 use Prim.Native.Nat.{ℕ, suc, _+_, _≤_, _<_}
 use mathlib.Core.Path.{_≡_, refl, ap, _∙_}

@@ -36,7 +36,7 @@ Flow = ℕ × ℕ × Bool
 abbrev pub Answered : Type 0
 Answered = Call × ℕ
 
--- the rules' number of each call in turn, for a store as long as the file's cards
+-- the rules' number of each call in turn, for a store as long as the cards
 unfoldable pub numbered : Settings → Standing → List Answered → List Answered
 numbered σ now [] = []
 numbered σ now (x ∷ xs) = (x .0, rule σ (64 * σ .cards) now (x .0)) ∷ numbered σ (next σ now (x .0)) xs

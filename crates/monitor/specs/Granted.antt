@@ -1,5 +1,5 @@
--- Demand 2's session half as properties: when a call is done, by the file f and the calls cs since its load. `done-iff` under proofs/ shows that these are exactly the
--- calls that the rules, and so the exported functions, answer with 0. Assumes nothing.
+-- Demand 2's session half as properties: when a call is done, by the settings, the assignments at the load and the calls cs since. `done-iff` under proofs/ shows that these are exactly
+-- the calls that the rules, and so the exported functions, answer with 0. Assumes nothing.
 use Prim.Native.Nat.{ℕ, _+_, _*_, _≤_}
 use mathlib.Core.Path.{_≡_}
 use mathlib.Core.List.{List, [], _∷_, _++_}

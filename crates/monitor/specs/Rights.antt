@@ -1,5 +1,5 @@
 -- What a user could do at a label: whether some role that the user may take there gives a read or a write of a card. By the state's bytes, as `monitor_can` answers, and by the
--- file. `can-file` and `can-iff` under proofs/ tie the two, and the session calls. Assumes nothing.
+-- settings. `can-answers` and `can-iff` under proofs/ tie the two, and the session calls. Assumes nothing.
 use Prim.Native.Nat.{ℕ}
 use mathlib.Core.Path.{_≡_}
 use mathlib.Core.List.{List, []}
@@ -14,7 +14,7 @@ use Rattle.policy.specs.Tables.{tableOf}
 use Rattle.monitor.specs.Session.{sound, labelsIn, rolesIn, usersIn, cardsIn, cleared, entitled, fitting}
 use Rattle.monitor.specs.Calls.{unless, ifDone}
 use Rattle.monitor.specs.Runs.{Call, opens, takes, reads, writes, Memory, number, after}
-use Rattle.monitor.specs.Rules.{entitledByFile, fittingByFile}
+use Rattle.monitor.specs.Rules.{entitledBy, fittingBy}
 
 -- ---- by the state's bytes
 
@@ -41,9 +41,9 @@ pub record Cans (xs : List ℕ) (u l o m n figure : ℕ) : Type 0 where
   pub number : n ≡ canNumber xs u l o m
   pub answer : figure ≡ ifDone (canNumber xs u l o m) (cond (could xs u l o (tableOf m)) 1 0) 0
 
--- ---- by the file
+-- ---- by the settings
 
--- the number of `monitor_can` on a state that a load of σ and any calls left
+-- the number of `monitor_can` on a state that a load and any calls left
 unfoldable pub canRule : Settings → ℕ → ℕ → ℕ → ℕ → ℕ
 canRule σ u l o m =
     unless (among (σ .users) u) 25
@@ -54,8 +54,8 @@ canRule σ u l o m =
     0))))
 
 -- a role that the user may take at the label may read (m = 1) or write (m = 2) the card
-unfoldable pub couldByFile : Settings → Relation → ℕ → ℕ → ℕ → ℕ → Bool
-couldByFile σ α u l o m = some (σ .roles) (λ r. entitledByFile σ α u r && (fittingByFile σ l r && may σ m r o))
+unfoldable pub couldBy : Settings → Relation → ℕ → ℕ → ℕ → ℕ → Bool
+couldBy σ α u l o m = some (σ .roles) (λ r. entitledBy σ α u r && (fittingBy σ l r && may σ m r o))
 
 -- ---- by the session calls: a use of the card, of no bytes
 

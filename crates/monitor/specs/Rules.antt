@@ -1,5 +1,5 @@
--- "Sessions" in the file's own terms: what each call is answered by the file f, the calls so far and the length of the store it is lent, and by nothing else. `answers` under
--- proofs/ shows that the calls are answered so on every state that a load of f and any calls left. Assumes nothing.
+-- "Sessions" in the policy's own terms: what each call is answered by the settings, by what stands (assignments and sessions) and by the length of the store it is lent, and by nothing
+-- else. `answers` under proofs/ shows that the calls are answered so on every state that a load of a file and any calls left. Assumes nothing.
 use Prim.Native.Nat.{ℕ, _+_, _*_}
 use mathlib.Core.List.{List, [], _∷_}
 use mathlib.Core.Bool.{Bool, false, not, _&&_, _||_}
@@ -30,7 +30,7 @@ Sessions = Places Session
 abbrev pub noSessions : Sessions
 noSessions = allFree
 
--- what calls change and the rules go by, beside the settings: who is assigned to which role, and the session at each place
+-- what stands, and a call may change: who is assigned to which role, and the session at each place. (No call changes the assignments yet.)
 pub record Standing : Type 0 where
   pub assigned : Relation
   pub sessions : Sessions
@@ -42,28 +42,28 @@ stand α t = record { assigned = α; sessions = t }
 abbrev pub begun : Relation → Standing
 begun α = stand α noSessions
 
--- 24 where the place has no session; else what the rule says of the session
+-- 24 where the place has no session; else what is asked of the session
 abbrev pub sessionRule : Option Session → (Session → ℕ) → ℕ
-sessionRule none rule = 24
-sessionRule (some s) rule = rule s
+sessionRule none asks = 24
+sessionRule (some s) asks = asks s
 
 -- what a call at a place asks first, that it has a session
-abbrev pub atSessionByFile : Sessions → ℕ → (Session → ℕ) → ℕ
-atSessionByFile t p rule = unless (among 64 p) 22 (sessionRule (t p) rule)
+abbrev pub atSessionBy : Sessions → ℕ → (Session → ℕ) → ℕ
+atSessionBy t p asks = unless (among 64 p) 22 (sessionRule (t p) asks)
 
 -- ---- the rules, which `entitled`, `fitting` and `gives` of Session ask by the state's bytes
 
 -- "the user is assigned to it or to a senior of it"; a role is a senior of itself
-unfoldable pub entitledByFile : Settings → Relation → ℕ → ℕ → Bool
-entitledByFile σ α u r = search.some (σ .roles) (λ q. α u q && σ .senior q r)
+unfoldable pub entitledBy : Settings → Relation → ℕ → ℕ → Bool
+entitledBy σ α u r = search.some (σ .roles) (λ q. α u q && σ .senior q r)
 
 -- "the session's label dominates its r-level, and its w-level dominates the session's label"
-unfoldable pub fittingByFile : Settings → ℕ → ℕ → Bool
-fittingByFile σ l r = passes (σ .dominates l) (rLevel σ r) && passes (λ a. σ .dominates a l) (wLevel σ r)
+unfoldable pub fittingBy : Settings → ℕ → ℕ → Bool
+fittingBy σ l r = passes (σ .dominates l) (rLevel σ r) && passes (λ a. σ .dominates a l) (wLevel σ r)
 
 -- "A session may use the permissions of all roles it holds, inherited ones included": to read (m = 1) or write (m = 2) card o
-unfoldable pub givesByFile : Settings → ℕ → Session → ℕ → Bool
-givesByFile σ m s o = search.some (σ .roles) (λ r. s .held r && may σ m r o)
+unfoldable pub givesBy : Settings → ℕ → Session → ℕ → Bool
+givesBy σ m s o = search.some (σ .roles) (λ r. s .held r && may σ m r o)
 
 -- ---- the number of each call
 
@@ -77,25 +77,25 @@ openRule σ t p u l =
     0))))
 
 unfoldable pub closeRule : Sessions → ℕ → ℕ
-closeRule t p = atSessionByFile t p (λ s. 0)
+closeRule t p = atSessionBy t p (λ s. 0)
 
 unfoldable pub takeRule : Settings → Relation → Sessions → ℕ → ℕ → ℕ
 takeRule σ α t p r =
-    atSessionByFile t p (λ s.
+    atSessionBy t p (λ s.
     unless (among (σ .roles) r) 25
-    (unless (entitledByFile σ α (s .user) r) 27
-    (unless (fittingByFile σ (s .label) r) 28
+    (unless (entitledBy σ α (s .user) r) 27
+    (unless (fittingBy σ (s .label) r) 28
     0)))
 
 unfoldable pub dropRule : Settings → Sessions → ℕ → ℕ → ℕ
-dropRule σ t p r = atSessionByFile t p (λ s. unless (among (σ .roles) r) 25 0)
+dropRule σ t p r = atSessionBy t p (λ s. unless (among (σ .roles) r) 25 0)
 
 -- n bytes from offset k on of card o of a store of `size` bytes, to be read or written
 unfoldable pub partRule : Settings → ℕ → Sessions → ℕ → ℕ → ℕ → ℕ → ℕ → ℕ
 partRule σ m t size p o k n =
-    atSessionByFile t p (λ s.
+    atSessionBy t p (λ s.
     unless (among (σ .cards) o) 25
-    (unless (givesByFile σ m s o) 29
+    (unless (givesBy σ m s o) 29
     (unless (leb (k + n) 64) 30
     (unless (leb (64 * σ .cards) size) 31
     0))))

@@ -13,7 +13,7 @@ pub data Call : Type 0 where
   closes : (place : ℕ) → Call
   takes : (place role : ℕ) → Call
   drops : (place role : ℕ) → Call
-  reads : (place card offset length : ℕ) → Call
+  reads : (place card offset count : ℕ) → Call
   writes : (place card offset : ℕ) (bytes : List ℕ) → Call
 
 -- what a call is lent

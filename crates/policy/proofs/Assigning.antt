@@ -1,4 +1,4 @@
--- 14 to 16 by the tables: a verdict with no number has no place, and the tables' verdict is the file's where the tables are. Assumes nothing.
+-- 14 to 16 by the tables: a verdict with no number has no place, and the tables' verdict is that of the settings where the tables are. Assumes nothing.
 use Prim.Native.Nat.{ℕ, _≤_}
 use mathlib.Core.Path.{_≡_, refl, sym, _∙_}
 use mathlib.Core.Logic.{_⊎_, inl, inr, ⊎-elim}
@@ -75,7 +75,7 @@ module _ (σ : Settings) (ys : List ℕ) (few : σ .labels ≤ 32) (inside : Ins
 
   -- dominance by the bytes, where one of the two is a label
   pub marked-is : (a b : ℕ) → Among (σ .labels) a ⊎ Among (σ .labels) b → marked ys a b ≡ σ .dominates a b
-  marked-is a b one = same (marked ys a b) (σ .dominates a b) to of
+  marked-is a b known = same (marked ys a b) (σ .dominates a b) to of
     where
       to : marked ys a b ≡ true → σ .dominates a b ≡ true
       to h =
@@ -86,7 +86,7 @@ module _ (σ : Settings) (ys : List ℕ) (few : σ .labels ≤ 32) (inside : Ins
       both : σ .dominates a b ≡ true → Among (σ .labels) a × Among (σ .labels) b
       both h =
           ⊎-elim
-          (λ i. ⊎-elim (λ v. (v, rw i at v)) (λ w. (rw i w, w)) one)
+          (λ i. ⊎-elim (λ v. (v, rw i at v)) (λ w. (rw i w, w)) known)
           (λ vw. vw)
           (inside a b h)
 

@@ -65,8 +65,8 @@ module _ (xs ys : List ℕ) where
   rows-stay : (at size : ℕ) → Same at (at + 16 * size) xs ys → (x r : ℕ) → Among size x → member ys (rowOf at x) r ≡ member xs (rowOf at x) r
   rows-stay at size s x r v = same-bytes xs ys (rowOf at x) (rowOf at x) (λ k n. s (rowOf at x + k) (omega arith) (omega arith)) r
 
-  pub assigning-stays : (assigned : Relation) → Same 4112 8208 xs ys → Assigning assigned xs → Assigning assigned ys
-  assigning-stays assigned s t u r v w = rows-stay assignedAt 256 s u r v ∙ t u r v w
+  pub assigning-stays : (α : Relation) → Same 4112 8208 xs ys → Assigning α xs → Assigning α ys
+  assigning-stays α s t u r v w = rows-stay assignedAt 256 s u r v ∙ t u r v w
 
   pub word-stays : (at : ℕ) → Same at (at + 2) xs ys → word ys at ≡ word xs at
   word-stays at s = rw (s at (omega arith) (omega arith), s (at + 1) (omega arith) (omega arith))

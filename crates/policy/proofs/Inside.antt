@@ -63,8 +63,8 @@ module _ (f : List ℕ) (good : GoodLines f) where
   unfolding senior
   senior-inside = closure-between (roles f) (above f) above-between
 
-pub bounded : (f : List ℕ) → WellFormed f → Bounded (settings f)
-bounded f form = let c = header-counts f (form .sized) (form .good) in record {
+pub file-bounded : (f : List ℕ) → WellFormed f → Bounded (settings f)
+file-bounded f form = let c = header-counts f (form .sized) (form .good) in record {
   labels = c .labels;
   roles = c .roles;
   users = c .users;

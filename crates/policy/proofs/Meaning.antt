@@ -1,4 +1,4 @@
--- What a state's tables say, where they describe a well-formed file, is what the file says: counts, dominance, role flow. Assumes nothing.
+-- What a state's tables say, where they describe bounded settings, is what the settings say: counts, dominance, role flow. Assumes nothing.
 use Prim.Native.Nat.{ℕ, _≤_}
 use mathlib.Core.Path.{_≡_, refl, ap}
 use mathlib.Core.Logic.{_↔_, _⊎_}
@@ -33,20 +33,20 @@ module _ (σ : Settings) (bounded : Bounded σ) where
   card-few o w = wider (σ .cards) 512 (bounded .cards) w
 
   module _ (xs : List ℕ) (tables : Describes σ xs) where
-    pub marked-file : (a b : ℕ) → Among (σ .labels) a ⊎ Among (σ .labels) b → marked xs a b ≡ σ .dominates a b
-    marked-file = marked-is σ xs (bounded .labels .1) (bounded .dominance) (tables .dominating)
+    pub marked-by : (a b : ℕ) → Among (σ .labels) a ⊎ Among (σ .labels) b → marked xs a b ≡ σ .dominates a b
+    marked-by = marked-is σ xs (bounded .labels .1) (bounded .dominance) (tables .dominating)
 
     -- ---- "Role flow"
 
-    roles-file : rolesUpTo xs ≡ σ .roles
-    roles-file = let e = tables .counted .roles in omega (arith, bounded .roles)
+    roles-by : rolesUpTo xs ≡ σ .roles
+    roles-by = let e = tables .counted .roles in omega (arith, bounded .roles)
 
-    cards-file : cardsUpTo xs ≡ σ .cards
-    cards-file = let e = tables .counted .cards in omega (arith, bounded .cards)
+    cards-by : cardsUpTo xs ≡ σ .cards
+    cards-by = let e = tables .counted .cards in omega (arith, bounded .cards)
 
-    flowing-file : Agree 128 128 (flowing xs (cardsUpTo xs)) (flows σ)
+    flowing-by : Agree 128 128 (flowing xs (cardsUpTo xs)) (flows σ)
     unfolding flowing flows
-    flowing-file r q v w = rw cards-file (ap (λ (b : Bool). not (eqb r q) && b)
+    flowing-by r q v w = rw cards-by (ap (λ (b : Bool). not (eqb r q) && b)
         (some-agree (flowsByCard xs r q) (λ o. may σ 2 r o && may σ 1 q o) (σ .cards)
         (λ o i.
         let j = card-few o i in
@@ -54,16 +54,16 @@ module _ (σ : Settings) (bounded : Bounded σ) where
 
     -- as a whole state tells it
     module _ (long : stateSize ≤ length xs) where
-      pub role-count-file : roleCount xs ≡ σ .roles
-      role-count-file = rw (a-state xs long) roles-file
+      pub role-count-by : roleCount xs ≡ σ .roles
+      role-count-by = rw (a-state xs long) roles-by
 
-      pub flow-file : Agree 128 128 (flowsIn xs) (flows σ)
-      flow-file r q v w = rw (a-state xs long) (flowing-file r q v w)
+      pub flow-by : Agree 128 128 (flowsIn xs) (flows σ)
+      flow-by r q v w = rw (a-state xs long) (flowing-by r q v w)
 
-      pub circle-file : circleIn xs ≡ flowCircle σ
+      pub circle-by : circleIn xs ≡ flowCircle σ
       unfolding flowCircle
-      circle-file = rw (a-state xs long, roles-file) (circle-agree (σ .roles) 128 (flowing xs (cardsUpTo xs)) (flows σ) (bounded .roles)
-          (λ r q v w. flowing-file r q (role-few r v) w))
+      circle-by = rw (a-state xs long, roles-by) (circle-agree (σ .roles) 128 (flowing xs (cardsUpTo xs)) (flows σ) (bounded .roles)
+          (λ r q v w. flowing-by r q (role-few r v) w))
 
 -- ---- the circle as a property: "the lowest role on a circle of two or more roles, or 0"
 

@@ -50,7 +50,7 @@ settings f = record {
 abbrev pub Inside : ℕ → Relation → Type 0
 Inside n ge = (a b : ℕ) → ge a b ≡ true → (a ≡ b) ⊎ (Among n a × Among n b)
 
--- the counts are within the limits of 3, and orders and card labels are of things that are counted; a well-formed file's settings are so (`bounded` under proofs/)
+-- the counts are within the limits of 3, and orders and card labels are of things that are counted; a well-formed file's settings are so (`file-bounded` under proofs/)
 pub record Bounded (σ : Settings) : Type 0 where
   pub labels : Among 32 (σ .labels)
   pub roles : σ .roles ≤ 128

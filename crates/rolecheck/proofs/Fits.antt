@@ -15,12 +15,12 @@ use Rattle.policy.specs.Settings.{Settings, settings, Bounded}
 use Rattle.policy.specs.Policy.{Level, Free, Label, Undefined, mayAt, level, rLevel, wLevel, levelNumber}
 use Rattle.policy.specs.Flow.{flows, flowCircle}
 use Rattle.policy.specs.Verdict.{verdict}
-use Rattle.policy.proofs.Inside.{bounded}
+use Rattle.policy.proofs.Inside.{file-bounded}
 use Rattle.policy.proofs.Levels.{Tells, level-tells}
 use Rattle.policy.proofs.Outcomes.{accepted-iff}
 use Rattle.text.proofs.Lengths.{where-most}
 use Rattle.text.proofs.Each.{each-most, each-pair-most}
-use Rattle.rolecheck.specs.Report.{line, roleLine, roleLines, flowLine, flowLines, policyLines, fileLines, report}
+use Rattle.rolecheck.specs.Report.{line, roleLine, roleLines, flowLine, flowLines, policyLines, settingsLines, report}
 use Rattle.rolecheck.proofs.Places.{verdict-written}
 
 module _ (letter used a b c : ℕ) (p : a < 100000) (q : b < 100000) (r : c < 100000) where
@@ -55,9 +55,9 @@ level-few n ge s few = go (level n ge s) (level-tells n ge s)
     go Undefined t = omega arith
 
 module _ (σ : Settings) (bounded : Bounded σ) where
-  file-lines-length : length (fileLines σ) ≤ 363286
+  settings-lines-length : length (settingsLines σ) ≤ 363286
   unfolding policyLines rLevel wLevel flowCircle
-  file-lines-length =
+  settings-lines-length =
       rw (length-append, length-append)
       (omega (
         arith,
@@ -73,8 +73,8 @@ module _ (f : List ℕ) where
   unfolding report
   report-length =
       let v = verdict-written f in
-      let rest : length (cond (eqb (verdict f .number) 0) (fileLines (settings f)) []) ≤ 363286 =
-      where-most _ (fileLines (settings f)) (λ e. file-lines-length (settings f) (bounded f (accepted-iff f .0 (eqb-true (verdict f .number) 0 e) .ordered .form))) in
+      let rest : length (cond (eqb (verdict f .number) 0) (settingsLines (settings f)) []) ≤ 363286 =
+      where-most _ (settingsLines (settings f)) (λ e. settings-lines-length (settings f) (file-bounded f (accepted-iff f .0 (eqb-true (verdict f .number) 0 e) .form))) in
       rw length-append
       (omega (
         arith,

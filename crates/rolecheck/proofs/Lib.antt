@@ -1,5 +1,5 @@
 pub mod Counted
-pub mod InFile
+pub mod BySettings
 pub mod Places
 pub mod Fits
 pub mod Whole

@@ -10,14 +10,14 @@ use Rattle.rolefile.specs.declared.Verdict.{Verdict}
 use Rattle.policy.specs.Settings.{settings}
 use Rattle.policy.specs.Verdict.{verdict}
 use Rattle.policy.specs.Image.{Loaded}
-use Rattle.policy.proofs.Inside.{bounded}
+use Rattle.policy.proofs.Inside.{file-bounded}
 use Rattle.policy.proofs.Loads.{judged}
 use Rattle.policy.proofs.Outcomes.{accepted-iff}
 use Rattle.io.specs.Counts.{Counts}
 use Rattle.text.specs.Text.{Puts}
 use Rattle.text.proofs.Text.{puts-whole}
 use Rattle.rolecheck.specs.Report.{line, stateLines, report}
-use Rattle.rolecheck.proofs.InFile.{lines-file}
+use Rattle.rolecheck.proofs.BySettings.{lines-by}
 use Rattle.rolecheck.proofs.Places.{Written, verdict-written}
 use Rattle.rolecheck.proofs.Fits.{report-length}
 
@@ -34,7 +34,7 @@ module _ (f : List ℕ) {v : Verdict} {xs ys : List ℕ} (load : Loaded f v xs y
   unfolding report
   accepted-report e =
       let zero = rw (judged load long) at e in
-      rw (judged load long, eq-eqb (verdict f .number) 0 zero, lines-file (settings f) (bounded f (accepted-iff f .0 zero .ordered .form)) ys (rw (load .long) long) (load .done e .tables))
+      rw (judged load long, eq-eqb (verdict f .number) 0 zero, lines-by (settings f) (file-bounded f (accepted-iff f .0 zero .form)) ys (rw (load .long) long) (load .done e .tables))
 
 pub whole : (f : List ℕ) {r : ℕ} {xs ys : List ℕ} → 363308 ≤ length xs → Puts (report f) 0 xs r ys → Counts r ys × (take r ys ≡ report f)
 whole f {r} {xs} {ys} l puts =

@@ -45,12 +45,12 @@ policyLines n reads writes flow role = roleLines reads writes n ++ (flowLines fl
 
 -- ---- the report; 86 is the byte of V
 
-abbrev pub fileLines : Settings → List ℕ
-fileLines s = policyLines (s .roles) (λ r. levelNumber (rLevel s r)) (λ r. levelNumber (wLevel s r)) (flows s) (flowCircle s)
+abbrev pub settingsLines : Settings → List ℕ
+settingsLines σ = policyLines (σ .roles) (λ r. levelNumber (rLevel σ r)) (λ r. levelNumber (wLevel σ r)) (flows σ) (flowCircle σ)
 
 unfoldable pub report : List ℕ → List ℕ
 report f =
-    line 86 3 (verdict f .number) (verdict f .first) (verdict f .second) ++ cond (eqb (verdict f .number) 0) (fileLines (settings f)) []
+    line 86 3 (verdict f .number) (verdict f .first) (verdict f .second) ++ cond (eqb (verdict f .number) 0) (settingsLines (settings f)) []
 
 -- ---- the same lines of a state
 
