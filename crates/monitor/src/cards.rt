@@ -2,21 +2,23 @@
 use super::rules;
 use super::sessions;
 use super::state;
+use policy::layout;
 ghost use mathlib.Core.Path.{_≡_};
 ghost use Prim.Native.Nat.{_≤_};
+ghost use Rattle.policy.specs.Tables.{writersAt};
 ghost use Rattle.monitor.specs.Calls.{partNumber, readNumber, Reads, Writes};
 
 // The number of a read or a write of n bytes in a store of `size` bytes, by the table at `at` of
 // the roles that may.
-fn part_number(s: &[u8], at: u64, size: usize, place: u64, card: u64, offset: u64, n: u64) -> u64
-    requires { ⌜ at ≤ 20496 ⌝ }
+fn part_number(s: &[u8], at: usize, size: usize, place: u64, card: u64, offset: u64, n: u64) -> u64
+    requires { ⌜ at ≤ writersAt ⌝ }
     ensures { λ r. ⌜ r ≡ partNumber at (now (s .entry)) size place card offset n ⌝ }
 {
     let first = sessions::session_number(s, place);
     if first != 0 {
         return first;
     }
-    if !state::within_count(s, 6, card) {
+    if !state::within_count(s, layout::CARD_COUNT_AT, card) {
         return 25;
     }
     if !rules::gives(s, at, place, card) {
@@ -35,7 +37,7 @@ fn part_number(s: &[u8], at: u64, size: usize, place: u64, card: u64, offset: u6
 pub fn read_number(s: &[u8], store: &[u8], place: u64, card: u64, offset: u64, n: u64) -> u64
     ensures { λ r. ⌜ r ≡ readNumber (now (s .entry)) (now (store .entry)) place card offset n ⌝ }
 {
-    part_number(s, 12304, store.len(), place, card, offset, n)
+    part_number(s, layout::READERS_AT, store.len(), place, card, offset, n)
 }
 
 // That part of the store itself; on a refusal the empty part at the store's start.
@@ -43,7 +45,7 @@ pub fn read<'a>(s: &[u8], store: &'a [u8], place: u64, card: u64, offset: u64, n
     ensures { λ r. ⌜ Reads (now (s .entry)) (store .entry) place card offset n r ⌝ }
 {
     if read_number(s, store, place, card, offset, n) == 0 {
-        let at = (64 * (card - 1) + offset) as usize;
+        let at = (rules::CARD_BYTES * (card - 1) + offset) as usize;
         let end = at + n as usize;
         &store[at..end]
     } else {
@@ -57,7 +59,7 @@ pub fn write(s: &[u8], store: &mut [u8], place: u64, card: u64, offset: u64, byt
 {
     let r = part_number(
         s,
-        20496,
+        layout::WRITERS_AT,
         store.len(),
         place,
         card,
@@ -65,7 +67,7 @@ pub fn write(s: &[u8], store: &mut [u8], place: u64, card: u64, offset: u64, byt
         bytes.len() as u64,
     );
     if r == 0 {
-        let at = 64 * (card - 1) + offset;
+        let at = rules::CARD_BYTES * (card - 1) + offset;
         sessions::put(store, at as usize, bytes);
     }
     r

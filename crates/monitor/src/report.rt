@@ -1,5 +1,6 @@
 // The flow report: numbers, and figures for a number that is known.
 use super::state;
+use policy::layout;
 ghost use mathlib.Core.Path.{_≡_};
 ghost use mathlib.Core.Bool.{cond};
 ghost use Rattle.policy.specs.Tables.{flowsIn, circleIn};
@@ -11,10 +12,10 @@ pub fn flows_number(s: &[u8], from: u64, to: u64) -> u64
     if !state::sound(s) {
         return 21;
     }
-    if !state::within_count(s, 2, from) {
+    if !state::within_count(s, layout::ROLE_COUNT_AT, from) {
         return 25;
     }
-    if !state::within_count(s, 2, to) {
+    if !state::within_count(s, layout::ROLE_COUNT_AT, to) {
         return 25;
     }
     0

@@ -5,7 +5,9 @@
 use super::rights;
 use super::rules;
 use super::state;
+use policy::layout;
 use policy::tables;
+use roleset::ROW_BYTES;
 ghost use mathlib.Core.Path.{_≡_};
 ghost use Prim.Native.Nat.{ℕ, _<_};
 ghost use Rattle.roleset.specs.Row.{member};
@@ -25,28 +27,28 @@ fn known_count(s: &[u8], at: u16) -> u64
 pub fn labels(s: &[u8]) -> u64
     ensures { λ r. ⌜ r ≡ review.knownLabels (now (s .entry)) ⌝ }
 {
-    known_count(s, 0)
+    known_count(s, layout::LABEL_COUNT_AT)
 }
 
 // How many roles.
 pub fn roles(s: &[u8]) -> u64
     ensures { λ r. ⌜ r ≡ review.knownRoles (now (s .entry)) ⌝ }
 {
-    known_count(s, 2)
+    known_count(s, layout::ROLE_COUNT_AT)
 }
 
 // How many users.
 pub fn users(s: &[u8]) -> u64
     ensures { λ r. ⌜ r ≡ review.knownUsers (now (s .entry)) ⌝ }
 {
-    known_count(s, 4)
+    known_count(s, layout::USER_COUNT_AT)
 }
 
 // How many cards.
 pub fn cards(s: &[u8]) -> u64
     ensures { λ r. ⌜ r ≡ review.knownCards (now (s .entry)) ⌝ }
 {
-    known_count(s, 6)
+    known_count(s, layout::CARD_COUNT_AT)
 }
 
 // Whether x is one of the things that the count at `at` tells of.
@@ -60,20 +62,20 @@ fn known(s: &[u8], at: u16, x: u64) -> bool
 pub fn clearance(s: &[u8], user: u64) -> u64
     ensures { λ r. ⌜ (r ≡ review.clearanceOf (now (s .entry)) user) × (r < 256) ⌝ }
 {
-    if !known(s, 4, user) {
+    if !known(s, layout::USER_COUNT_AT, user) {
         return 0;
     }
-    state::byte_of(s, 1040, user)
+    state::byte_of(s, layout::CLEARANCES_AT, user)
 }
 
 // Whether label a dominates label b.
 pub fn dominates(s: &[u8], a: u64, b: u64) -> bool
     ensures { λ r. ⌜ r ≡ review.dominatesIn (now (s .entry)) a b ⌝ }
 {
-    if !known(s, 0, a) {
+    if !known(s, layout::LABEL_COUNT_AT, a) {
         return false;
     }
-    if !known(s, 0, b) {
+    if !known(s, layout::LABEL_COUNT_AT, b) {
         return false;
     }
     tables::dominates(s, a, b)
@@ -83,36 +85,36 @@ pub fn dominates(s: &[u8], a: u64, b: u64) -> bool
 pub fn senior(s: &[u8], q: u64, r: u64) -> bool
     ensures { λ b. ⌜ b ≡ review.seniorTo (now (s .entry)) q r ⌝ }
 {
-    if !known(s, 2, q) {
+    if !known(s, layout::ROLE_COUNT_AT, q) {
         return false;
     }
-    if !known(s, 2, r) {
+    if !known(s, layout::ROLE_COUNT_AT, r) {
         return false;
     }
-    rules::in_row(s, 2064, r, q)
+    rules::in_row(s, layout::SENIORS_AT, r, q)
 }
 
 // Whether the user is assigned to the role itself.
 pub fn assigned(s: &[u8], user: u64, role: u64) -> bool
     ensures { λ r. ⌜ r ≡ review.assignedTo (now (s .entry)) user role ⌝ }
 {
-    if !known(s, 4, user) {
+    if !known(s, layout::USER_COUNT_AT, user) {
         return false;
     }
-    if !known(s, 2, role) {
+    if !known(s, layout::ROLE_COUNT_AT, role) {
         return false;
     }
-    rules::in_row(s, 4112, user, role)
+    rules::in_row(s, layout::ASSIGNED_AT, user, role)
 }
 
 // Whether the user is assigned to the role or to a senior of it.
 pub fn entitled(s: &[u8], user: u64, role: u64) -> bool
     ensures { λ r. ⌜ r ≡ review.entitledTo (now (s .entry)) user role ⌝ }
 {
-    if !known(s, 4, user) {
+    if !known(s, layout::USER_COUNT_AT, user) {
         return false;
     }
-    if !known(s, 2, role) {
+    if !known(s, layout::ROLE_COUNT_AT, role) {
         return false;
     }
     rules::entitled(s, user, role)
@@ -122,10 +124,10 @@ pub fn entitled(s: &[u8], user: u64, role: u64) -> bool
 pub fn may_open(s: &[u8], user: u64, label: u64) -> bool
     ensures { λ r. ⌜ r ≡ review.mayOpen (now (s .entry)) user label ⌝ }
 {
-    if !known(s, 4, user) {
+    if !known(s, layout::USER_COUNT_AT, user) {
         return false;
     }
-    if !known(s, 0, label) {
+    if !known(s, layout::LABEL_COUNT_AT, label) {
         return false;
     }
     rules::cleared(s, user, label)
@@ -145,11 +147,11 @@ fn may_take(s: &[u8], user: u64, label: u64, role: u64) -> bool
 }
 
 // The roles that the user may take in a session at the label.
-pub fn roles_at(s: &[u8], user: u64, label: u64) -> [u8; 16]
+pub fn roles_at(s: &[u8], user: u64, label: u64) -> [u8; ROW_BYTES]
     ensures { λ row. ⌜ ((r : ℕ) → member row 0 r ≡ review.mayTake (now (s .entry)) user label r) ⌝ }
 {
     let n = roles(s);
-    let mut row = [0u8; 16];
+    let mut row = [0u8; ROW_BYTES];
     let mut i = 0;
     while i < n {
         let may = may_take(s, user, label, i + 1);
@@ -160,15 +162,15 @@ pub fn roles_at(s: &[u8], user: u64, label: u64) -> [u8; 16]
 }
 
 // Whether one of the roles of a row gives the read (mode 1) or the write (mode 2) of the card.
-pub fn give(s: &[u8], mode: u64, card: u64, row: [u8; 16]) -> bool
+pub fn give(s: &[u8], mode: u64, card: u64, row: [u8; ROW_BYTES]) -> bool
     ensures { λ r. ⌜ r ≡ review.giveCard (now (s .entry)) mode card (member row 0) ⌝ }
 {
-    if !known(s, 6, card) {
+    if !known(s, layout::CARD_COUNT_AT, card) {
         return false;
     }
     if !search::among(2, mode) {
         return false;
     }
-    let at = rights::table_of(mode) + 16 * (card - 1);
-    roleset::meet_row(s, at as usize, row)
+    let at = rights::table_of(mode) + ROW_BYTES * (card as usize - 1);
+    roleset::meet_row(s, at, row)
 }

@@ -1,6 +1,7 @@
 // What a user could do at a label.
 use super::rules;
 use super::state;
+use policy::layout;
 use policy::tables;
 ghost use mathlib.Core.Path.{_≡_};
 ghost use mathlib.Core.Bool.{cond};
@@ -9,7 +10,7 @@ ghost use lib.ListN.{length};
 ghost use Rattle.search.specs.Search.{Among};
 ghost use Rattle.monitor.specs.Session.{rolesIn};
 ghost use Rattle.monitor.specs.Calls.{ifDone};
-ghost use Rattle.policy.specs.Tables.{tableOf};
+ghost use Rattle.policy.specs.Tables.{writersAt, tableOf, stateSize};
 ghost use Rattle.monitor.specs.Rights as rights;
 
 pub fn can_number(s: &[u8], user: u64, label: u64, card: u64, mode: u64) -> u64
@@ -18,13 +19,13 @@ pub fn can_number(s: &[u8], user: u64, label: u64, card: u64, mode: u64) -> u64
     if !state::sound(s) {
         return 21;
     }
-    if !state::within_count(s, 4, user) {
+    if !state::within_count(s, layout::USER_COUNT_AT, user) {
         return 25;
     }
-    if !state::within_count(s, 0, label) {
+    if !state::within_count(s, layout::LABEL_COUNT_AT, label) {
         return 25;
     }
-    if !state::within_count(s, 6, card) {
+    if !state::within_count(s, layout::CARD_COUNT_AT, card) {
         return 25;
     }
     if !search::among(2, mode) {
@@ -37,8 +38,8 @@ pub fn can_number(s: &[u8], user: u64, label: u64, card: u64, mode: u64) -> u64
 }
 
 // Whether the user may take the role at the label, and the role has the card by the table at `at`.
-fn role_could(s: &[u8], user: u64, label: u64, card: u64, at: u64, role: u64) -> bool
-    requires { ⌜ (65536 ≤ length (now s)) × (at ≤ 20496) × Among 256 user × Among 512 card × Among 128 role ⌝ }
+fn role_could(s: &[u8], user: u64, label: u64, card: u64, at: usize, role: u64) -> bool
+    requires { ⌜ (stateSize ≤ length (now s)) × (at ≤ writersAt) × Among 256 user × Among 512 card × Among 128 role ⌝ }
     ensures { λ r. ⌜ r ≡ rights.roleCould (now (s .entry)) user label card at role ⌝ }
 {
     if !rules::entitled(s, user, role) {
@@ -51,11 +52,11 @@ fn role_could(s: &[u8], user: u64, label: u64, card: u64, at: u64, role: u64) ->
 }
 
 // Whether one of the state's roles could.
-fn could(s: &[u8], user: u64, label: u64, card: u64, at: u64) -> bool
-    requires { ⌜ (65536 ≤ length (now s)) × (rolesIn (now s) ≤ 128) × (at ≤ 20496) × Among 256 user × Among 512 card ⌝ }
+fn could(s: &[u8], user: u64, label: u64, card: u64, at: usize) -> bool
+    requires { ⌜ (stateSize ≤ length (now s)) × (rolesIn (now s) ≤ 128) × (at ≤ writersAt) × Among 256 user × Among 512 card ⌝ }
     ensures { λ r. ⌜ r ≡ rights.could (now (s .entry)) user label card at ⌝ }
 {
-    let n = tables::word(s, 2);
+    let n = tables::word(s, layout::ROLE_COUNT_AT);
     let mut i = 0;
     while i < n {
         if role_could(s, user, label, card, at, i + 1) {
@@ -67,13 +68,13 @@ fn could(s: &[u8], user: u64, label: u64, card: u64, at: u64) -> bool
 }
 
 // Where the table of a mode starts.
-pub fn table_of(mode: u64) -> u64
+pub fn table_of(mode: u64) -> usize
     ensures { λ r. ⌜ r ≡ tableOf mode ⌝ }
 {
     if mode == 1 {
-        return 12304;
+        return layout::READERS_AT;
     }
-    20496
+    layout::WRITERS_AT
 }
 
 pub fn can_figure(s: &[u8], user: u64, label: u64, card: u64, mode: u64, number: u64) -> u64

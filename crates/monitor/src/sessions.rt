@@ -1,6 +1,7 @@
 // Sessions: opening and closing a place, taking and dropping a role.
 use super::rules;
 use super::state;
+use policy::layout;
 ghost use mathlib.Core.Path.{_≡_};
 ghost use Prim.Native.Nat.{_+_, _≤_};
 ghost use lib.ListN.{length};
@@ -25,16 +26,16 @@ fn open_number(s: &[u8], place: u64, user: u64, label: u64) -> u64
     if !state::sound(s) {
         return 21;
     }
-    if !search::among(64, place) {
+    if !search::among(state::PLACES, place) {
         return 22;
     }
     if state::in_use(s, place) {
         return 23;
     }
-    if !state::within_count(s, 4, user) {
+    if !state::within_count(s, layout::USER_COUNT_AT, user) {
         return 25;
     }
-    if !state::within_count(s, 0, label) {
+    if !state::within_count(s, layout::LABEL_COUNT_AT, label) {
         return 25;
     }
     if !rules::cleared(s, user, label) {
@@ -48,12 +49,12 @@ fn put_session(s: &mut [u8], place: u64, user: u64, label: u64)
     requires { ⌜ openNumber (now s) place user label ≡ 0 ⌝ }
     ensures { λ _. ⌜ now (s .exit) ≡ opened (now (s .entry)) place user label ⌝ }
 {
-    let mut bytes = [0u8; 20];
-    bytes[0] = 1;
-    bytes[1] = (user - 1) as u8;
-    bytes[2] = label as u8;
+    let mut bytes = [0u8; state::PLACE_BYTES];
+    bytes[0] = state::IN_USE;
+    bytes[state::USER_IN_PLACE] = (user - 1) as u8;
+    bytes[state::LABEL_IN_PLACE] = label as u8;
     let at = state::place_at(place);
-    put(s, at as usize, &bytes);
+    put(s, at, &bytes);
 }
 
 // Opens a place.
@@ -74,7 +75,7 @@ pub fn session_number(s: &[u8], place: u64) -> u64
     if !state::sound(s) {
         return 21;
     }
-    if !search::among(64, place) {
+    if !search::among(state::PLACES, place) {
         return 22;
     }
     if !state::in_use(s, place) {
@@ -88,9 +89,9 @@ fn empty(s: &mut [u8], place: u64)
     requires { ⌜ closeNumber (now s) place ≡ 0 ⌝ }
     ensures { λ _. ⌜ now (s .exit) ≡ closed (now (s .entry)) place ⌝ }
 {
-    let bytes = [0u8; 20];
+    let bytes = [0u8; state::PLACE_BYTES];
     let at = state::place_at(place);
-    put(s, at as usize, &bytes);
+    put(s, at, &bytes);
 }
 
 // Closes a place.
@@ -112,7 +113,7 @@ fn take_number(s: &[u8], place: u64, role: u64) -> u64
     if n != 0 {
         return n;
     }
-    if !state::within_count(s, 2, role) {
+    if !state::within_count(s, layout::ROLE_COUNT_AT, role) {
         return 25;
     }
     if !rules::entitled_at(s, place, role) {
@@ -130,7 +131,7 @@ fn hold(s: &mut [u8], place: u64, role: u64)
     ensures { λ _. ⌜ now (s .exit) ≡ taken (now (s .entry)) place role ⌝ }
 {
     let at = state::held_at(place);
-    roleset::add(s, at as usize, role as usize);
+    roleset::add(s, at, role as usize);
 }
 
 // Takes a role.
@@ -152,7 +153,7 @@ fn drop_number(s: &[u8], place: u64, role: u64) -> u64
     if n != 0 {
         return n;
     }
-    if !state::within_count(s, 2, role) {
+    if !state::within_count(s, layout::ROLE_COUNT_AT, role) {
         return 25;
     }
     0
@@ -164,7 +165,7 @@ fn remove_role(s: &mut [u8], place: u64, role: u64)
     ensures { λ _. ⌜ now (s .exit) ≡ dropped (now (s .entry)) place role ⌝ }
 {
     let at = state::held_at(place);
-    roleset::remove(s, at as usize, role as usize);
+    roleset::remove(s, at, role as usize);
 }
 
 // Drops a role.

@@ -2,6 +2,10 @@
 //
 // The row of a thing has the things under it. So lower bounds are what rows have in common, and
 // upper bounds are lower bounds in the order turned round: who asks for many turns the order once.
+use super::marks;
+use super::marks::Relation;
+use super::marks::Set;
+use super::marks::THINGS;
 ghost use mathlib.Core.Path.{_≡_};
 ghost use mathlib.Core.Bool.{_&&_};
 ghost use Prim.Native.Nat.{_+_, _≤_, _<_, min};
@@ -11,12 +15,12 @@ ghost use Rattle.order.specs.Bound.{upper, leastOf, converse, partnerWit
 ghost use Rattle.order.specs.Table.{marks, mark, Upto, FirstThings};
 
 // The set of the first n things.
-pub fn first_things(n: usize) -> [bool; 32]
+pub fn first_things(n: usize) -> Set
     ensures { λ r. ⌜ FirstThings n r ⌝ }
 {
-    let mut r = [false; 32];
+    let mut r = [false; THINGS];
     let mut i = 0;
-    while i < 32 {
+    while i < THINGS {
         r[i] = i < n;
         i += 1;
     }
@@ -24,12 +28,12 @@ pub fn first_things(n: usize) -> [bool; 32]
 }
 
 // What two sets have in common.
-fn common(s: [bool; 32], t: [bool; 32]) -> [bool; 32]
+fn common(s: Set, t: Set) -> Set
     ensures { λ r. ⌜ Upto 32 (λ a. marks s a && marks t a) r ⌝ }
 {
-    let mut r = [false; 32];
+    let mut r = [false; THINGS];
     let mut i = 0;
-    while i < 32 {
+    while i < THINGS {
         r[i] = s[i] & t[i];
         i += 1;
     }
@@ -37,12 +41,12 @@ fn common(s: [bool; 32], t: [bool; 32]) -> [bool; 32]
 }
 
 // Whether all of s is in t.
-fn within(s: [bool; 32], t: [bool; 32]) -> bool
+fn within(s: Set, t: Set) -> bool
     ensures { λ r. ⌜ r ≡ every 32 (λ a. implies (marks s a) (marks t a)) ⌝ }
 {
     let mut all = true;
     let mut i = 0;
-    while i < 32 {
+    while i < THINGS {
         all = all & (!s[i] | t[i]);
         i += 1;
     }
@@ -50,7 +54,7 @@ fn within(s: [bool; 32], t: [bool; 32]) -> bool
 }
 
 // Whether a thing is the greatest of s: it is `among` s, and all of s is under it.
-fn leads(s: [bool; 32], under: [bool; 32], among: bool) -> bool
+fn leads(s: Set, under: Set, among: bool) -> bool
     ensures { λ r. ⌜ r ≡ (among && every 32 (λ a. implies (marks s a) (marks under a))) ⌝ }
 {
     if among {
@@ -60,12 +64,12 @@ fn leads(s: [bool; 32], under: [bool; 32], among: bool) -> bool
 }
 
 // The greatest of the set, or 0. Where several are over all of it, the lowest number of them.
-fn greatest(t: &[[bool; 32]; 32], s: &[bool; 32]) -> usize
+fn greatest(t: &Relation, s: &Set) -> usize
     ensures { λ r. ⌜ r ≡ leastOf 32 (converse (mark (now (t .entry)))) (marks (now (s .entry))) ⌝ }
 {
     let set = *s;
     let mut i = 0;
-    while i < 32 {
+    while i < THINGS {
         let under = t[i];
         if leads(set, under, s[i]) {
             return i + 1;
@@ -76,7 +80,7 @@ fn greatest(t: &[[bool; 32]; 32], s: &[bool; 32]) -> usize
 }
 
 // The set cut down to what is under a thing, where `on`.
-fn narrowed(s: [bool; 32], under: [bool; 32], on: bool) -> [bool; 32]
+fn narrowed(s: Set, under: Set, on: bool) -> Set
     ensures { λ r. ⌜ Upto 32 (λ a. marks s a && implies on (marks under a)) r ⌝ }
 {
     if on {
@@ -86,10 +90,10 @@ fn narrowed(s: [bool; 32], under: [bool; 32], on: bool) -> [bool; 32]
 }
 
 // The things of `all` that are under each of s, of which the first n count.
-fn lower_bounds(t: &[[bool; 32]; 32], n: usize, all: &[bool; 32], s: [bool; 32]) -> [bool; 32]
+fn lower_bounds(t: &Relation, n: usize, all: &Set, s: Set) -> Set
     ensures { λ r. ⌜ Upto 32 (λ c. marks (now (all .entry)) c && upper (min n 32) (converse (mark (now (t .entry)))) (marks s) c) r ⌝ }
 {
-    let m = super::marks::lesser(n, 32);
+    let m = marks::lesser(n, THINGS);
     let mut r = *all;
     let mut i = 0;
     while i < m {
@@ -103,7 +107,7 @@ fn lower_bounds(t: &[[bool; 32]; 32], n: usize, all: &[bool; 32], s: [bool; 32])
 
 // The greatest of the things of `all` that are under each of s, of which the first n count, or 0. Where `all` is
 // the set of the first n, this is the greatest lower bound; who asks for many makes that set once.
-pub fn greatest_lower(t: &[[bool; 32]; 32], n: usize, all: &[bool; 32], s: [bool; 32]) -> usize
+pub fn greatest_lower(t: &Relation, n: usize, all: &Set, s: Set) -> usize
     ensures { λ r. ⌜ r ≡ leastOf 32 (converse (mark (now (t .entry)))) (λ c. marks (now (all .entry)) c && upper (min n 32) (converse (mark (now (t .entry)))) (marks s) c) ⌝ }
 {
     let bounds = lower_bounds(t, n, all, s);
@@ -111,13 +115,13 @@ pub fn greatest_lower(t: &[[bool; 32]; 32], n: usize, all: &[bool; 32], s: [bool
 }
 
 // The column of thing j + 1.
-fn column(t: &[[bool; 32]; 32], j: usize) -> [bool; 32]
+fn column(t: &Relation, j: usize) -> Set
     requires { ⌜ j < 32 ⌝ }
     ensures { λ r. ⌜ Upto 32 (λ a. mark (now (t .entry)) a (j + 1)) r ⌝ }
 {
-    let mut r = [false; 32];
+    let mut r = [false; THINGS];
     let mut i = 0;
-    while i < 32 {
+    while i < THINGS {
         r[i] = t[i][j];
         i += 1;
     }
@@ -125,12 +129,12 @@ fn column(t: &[[bool; 32]; 32], j: usize) -> [bool; 32]
 }
 
 // The order turned round.
-pub fn converse(t: [[bool; 32]; 32]) -> [[bool; 32]; 32]
+pub fn converse(t: Relation) -> Relation
     ensures { λ r. ⌜ Agree 32 32 (mark r) (converse (mark t)) ⌝ }
 {
     let mut r = t;
     let mut j = 0;
-    while j < 32 {
+    while j < THINGS {
         r[j] = column(&t, j);
         j += 1;
     }
@@ -138,7 +142,7 @@ pub fn converse(t: [[bool; 32]; 32]) -> [[bool; 32]; 32]
 }
 
 // The greatest of what s and the row of thing j + 1 have in common, or 0.
-fn greatest_common(t: &[[bool; 32]; 32], s: [bool; 32], j: usize) -> usize
+fn greatest_common(t: &Relation, s: Set, j: usize) -> usize
     requires { ⌜ j < 32 ⌝ }
     ensures { λ r. ⌜ r ≡ leastOf 32 (converse (mark (now (t .entry)))) (λ a. marks s a && mark (now (t .entry)) (j + 1) a) ⌝ }
 {
@@ -149,7 +153,7 @@ fn greatest_common(t: &[[bool; 32]; 32], s: [bool; 32], j: usize) -> usize
 
 // The lowest of the first m things that comes after thing i + 1 and has no least upper bound with it, or 0,
 // in the order that was turned round.
-fn partner(up: &[[bool; 32]; 32], m: usize, i: usize) -> usize
+fn partner(up: &Relation, m: usize, i: usize) -> usize
     requires { ⌜ (m ≤ 32) × (i < m) ⌝ }
     ensures { λ r. ⌜ r ≡ partnerWithoutBound m (converse (mark (now (up .entry)))) (i + 1) ⌝ }
 {
@@ -172,10 +176,10 @@ pub struct Pair {
 }
 
 // The first pair among the first n things that has no least upper bound.
-pub fn first_pair(t: [[bool; 32]; 32], n: usize) -> Pair
+pub fn first_pair(t: Relation, n: usize) -> Pair
     ensures { λ r. ⌜ FirstWithoutBound (min n 32) (mark t) (r .lower) (r .higher) ⌝ }
 {
-    let m = super::marks::lesser(n, 32);
+    let m = marks::lesser(n, THINGS);
     let up = converse(t);
     let mut i = 0;
     while i < m {

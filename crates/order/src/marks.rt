@@ -7,6 +7,15 @@ ghost use lib.ListN.{length};
 ghost use Rattle.order.specs.Closure.{path, loop, round, withItself};
 ghost use Rattle.order.specs.Table.{marks, mark, Upto, Rows};
 
+// How many things there is room for.
+pub const THINGS: usize = 32;
+
+// A set of things: a mark for each.
+pub type Set = [bool; THINGS];
+
+// A relation: for each thing the set of those that it is related to.
+pub type Relation = [Set; THINGS];
+
 // The lesser of the two.
 pub fn lesser(n: usize, most: usize) -> usize
     ensures { λ r. ⌜ r ≡ min n most ⌝ }
@@ -15,12 +24,12 @@ pub fn lesser(n: usize, most: usize) -> usize
 }
 
 // The row with the marks of `other` too, where `on`.
-fn stepped(row: [bool; 32], other: [bool; 32], on: bool) -> [bool; 32]
+fn stepped(row: Set, other: Set, on: bool) -> Set
     ensures { λ r. ⌜ Upto 32 (λ b. marks row b || (on && marks other b)) r ⌝ }
 {
-    let mut r = [false; 32];
+    let mut r = [false; THINGS];
     let mut j = 0;
-    while j < 32 {
+    while j < THINGS {
         r[j] = row[j] | (on & other[j]);
         j += 1;
     }
@@ -28,7 +37,7 @@ fn stepped(row: [bool; 32], other: [bool; 32], on: bool) -> [bool; 32]
 }
 
 // One round of closing: in the first n rows, the paths past thing k + 1 too.
-fn pass(t: &mut [[bool; 32]; 32], k: usize, n: usize)
+fn pass(t: &mut Relation, k: usize, n: usize)
     requires { ⌜ (length (now t) ≡ 32) × (k < n) × (n ≤ 32) ⌝ }
     ensures { λ _. ⌜ (length (now (t .exit)) ≡ 32) × Rows 32 n (round (mark (now (t .entry))) (k + 1)) (mark (now (t .entry))) (mark (now (t .exit))) ⌝ }
 {
@@ -43,10 +52,10 @@ fn pass(t: &mut [[bool; 32]; 32], k: usize, n: usize)
 }
 
 // The paths of one step or more among the first n things.
-pub fn paths(t: [[bool; 32]; 32], n: usize) -> [[bool; 32]; 32]
+pub fn paths(t: Relation, n: usize) -> Relation
     ensures { λ r. ⌜ Rows 32 (min n 32) (path (min n 32) (mark t)) (mark t) (mark r) ⌝ }
 {
-    let m = lesser(n, 32);
+    let m = lesser(n, THINGS);
     let mut r = t;
     let mut k = 0;
     while k < m {
@@ -57,10 +66,10 @@ pub fn paths(t: [[bool; 32]; 32], n: usize) -> [[bool; 32]; 32]
 }
 
 // The row with a mark at thing b too, if it is one of the 32.
-pub fn with_mark(row: [bool; 32], b: usize) -> [bool; 32]
+pub fn with_mark(row: Set, b: usize) -> Set
     ensures { λ r. ⌜ Upto 32 (λ y. eqb b y || marks row y) r ⌝ }
 {
-    if !search::among(32, b as u64) {
+    if !search::among(THINGS as u64, b as u64) {
         return row;
     }
     let mut r = row;
@@ -69,10 +78,10 @@ pub fn with_mark(row: [bool; 32], b: usize) -> [bool; 32]
 }
 
 // Each of the first n things with itself: of paths, the closure.
-pub fn reflected(t: [[bool; 32]; 32], n: usize) -> [[bool; 32]; 32]
+pub fn reflected(t: Relation, n: usize) -> Relation
     ensures { λ r. ⌜ Rows 32 (min n 32) (withItself (mark t)) (mark t) (mark r) ⌝ }
 {
-    let m = lesser(n, 32);
+    let m = lesser(n, THINGS);
     let mut r = t;
     let mut i = 0;
     while i < m {
@@ -84,10 +93,10 @@ pub fn reflected(t: [[bool; 32]; 32], n: usize) -> [[bool; 32]; 32]
 }
 
 // The lowest of the first n things that is related to itself, or 0: of paths, the lowest on a circle.
-pub fn lowest_loop(t: [[bool; 32]; 32], n: usize) -> usize
+pub fn lowest_loop(t: Relation, n: usize) -> usize
     ensures { λ r. ⌜ r ≡ loop (min n 32) (mark t) ⌝ }
 {
-    let m = lesser(n, 32);
+    let m = lesser(n, THINGS);
     let mut i = 0;
     while i < m {
         if t[i][i] {

@@ -2,6 +2,9 @@
 // The row of a role has the roles that it is related to.
 //
 // A table that does not lie wholly in the slice relates nothing and stays as it is.
+use super::marks;
+use roleset::ROLES;
+use roleset::ROW_BYTES;
 ghost use mathlib.Core.Path.{_≡_};
 ghost use mathlib.Core.Bool.{cond};
 ghost use Prim.Native.Nat.{_+_, _≤_, _<_, min};
@@ -10,12 +13,15 @@ ghost use lib.ListN.{length};
 ghost use Rattle.order.specs.Closure.{path, loop, round, withItself};
 ghost use Rattle.order.specs.Table.{related, Tabled};
 
+// The bytes of a table.
+pub const TABLE_BYTES: usize = ROW_BYTES * ROLES;
+
 // One round of closing: in the first n rows, the paths past role k + 1 too.
 fn pass(s: &mut [u8], at: usize, k: usize, n: usize)
     requires { ⌜ (at + 2048 ≤ length (now s)) × (k < n) × (n ≤ 128) ⌝ }
     ensures { λ _. ⌜ Tabled at n (round (related (now (s .entry)) at) (k + 1)) (now (s .entry)) (now (s .exit)) ⌝ }
 {
-    let other = roleset::row(s, at + 16 * k);
+    let other = roleset::row(s, at + ROW_BYTES * k);
     roleset::unite_rows(s, at, n, k + 1, other);
 }
 
@@ -23,10 +29,10 @@ fn pass(s: &mut [u8], at: usize, k: usize, n: usize)
 pub fn paths(s: &mut [u8], at: usize, n: usize)
     ensures { λ _. ⌜ Tabled at (min n 128) (path (min n 128) (related (now (s .entry)) at)) (now (s .entry)) (now (s .exit)) ⌝ }
 {
-    if !roleset::rows_lie(s.len(), at, 128) {
+    if !roleset::rows_lie(s.len(), at, ROLES) {
         return;
     }
-    let m = super::marks::lesser(n, 128);
+    let m = marks::lesser(n, ROLES);
     let mut k = 0;
     while k < m {
         pass(s, at, k, m);
@@ -38,13 +44,13 @@ pub fn paths(s: &mut [u8], at: usize, n: usize)
 pub fn reflect(s: &mut [u8], at: usize, n: usize)
     ensures { λ _. ⌜ Tabled at (min n 128) (withItself (related (now (s .entry)) at)) (now (s .entry)) (now (s .exit)) ⌝ }
 {
-    if !roleset::rows_lie(s.len(), at, 128) {
+    if !roleset::rows_lie(s.len(), at, ROLES) {
         return;
     }
-    let m = super::marks::lesser(n, 128);
+    let m = marks::lesser(n, ROLES);
     let mut i = 0;
     while i < m {
-        roleset::add(s, at + 16 * i, i + 1);
+        roleset::add(s, at + ROW_BYTES * i, i + 1);
         i += 1;
     }
 }
@@ -53,13 +59,13 @@ pub fn reflect(s: &mut [u8], at: usize, n: usize)
 pub fn lowest_loop(s: &[u8], at: usize, n: usize) -> usize
     ensures { λ r. ⌜ r ≡ cond (leb (at + 2048) (length (now (s .entry)))) (loop (min n 128) (related (now (s .entry)) at)) 0 ⌝ }
 {
-    if !roleset::rows_lie(s.len(), at, 128) {
+    if !roleset::rows_lie(s.len(), at, ROLES) {
         return 0;
     }
-    let m = super::marks::lesser(n, 128);
+    let m = marks::lesser(n, ROLES);
     let mut i = 0;
     while i < m {
-        if roleset::has(s, at + 16 * i, i + 1) {
+        if roleset::has(s, at + ROW_BYTES * i, i + 1) {
             return i + 1;
         }
         i += 1;

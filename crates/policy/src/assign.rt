@@ -1,4 +1,5 @@
 // The numbers 14 to 16: each assignment against the levels of its role, by the tables.
+use super::layout;
 use super::tables;
 use rolefile::Verdict;
 use rolefile::check;
@@ -10,17 +11,17 @@ ghost use Rattle.search.specs.Search.{Among};
 ghost use Rattle.rolefile.specs.Line.{lines};
 ghost use Rattle.rolefile.specs.Form.{scan};
 ghost use Rattle.rolefile.specs.Section.{one, two};
-ghost use Rattle.policy.specs.Tables.{assignByTables};
+ghost use Rattle.policy.specs.Tables.{seniorsAt, assignByTables};
 
 // 14 to 16 for user u and role r.
 fn assign(s: &[u8], u: usize, r: usize) -> Verdict
-    requires { ⌜ (2064 ≤ length (now s)) × Among 256 u × Among 128 r ⌝ }
+    requires { ⌜ (seniorsAt ≤ length (now s)) × Among 256 u × Among 128 r ⌝ }
     ensures { λ v. ⌜ v ≡ assignByTables (now (s .entry)) u r ⌝ }
 {
-    let clearance = s[1040 + (u - 1)] as u64;
-    let reads = s[1808 + (r - 1)] as u64;
-    let writes = s[1936 + (r - 1)] as u64;
-    if writes == 99 {
+    let clearance = s[layout::CLEARANCES_AT + (u - 1)] as u64;
+    let reads = s[layout::R_LEVELS_AT + (r - 1)] as u64;
+    let writes = s[layout::W_LEVELS_AT + (r - 1)] as u64;
+    if writes == layout::UNDEFINED as u64 {
         return check::refused(14, u as u64, r as u64);
     }
     if !tables::passes(s, reads, clearance, reads) {
@@ -34,7 +35,7 @@ fn assign(s: &[u8], u: usize, r: usize) -> Verdict
 
 // 14 to 16 for the first m lines of a part: the first refusal.
 pub fn assign_lines(s: &[u8], p: &[u8], m: usize) -> Verdict
-    requires { ⌜ (2064 ≤ length (now s)) × (m ≤ lines (now p)) × ((i : ℕ) → Among m i → Among 256 (one (now p) i) × Among 128 (two (now p) i)) ⌝ }
+    requires { ⌜ (seniorsAt ≤ length (now s)) × (m ≤ lines (now p)) × ((i : ℕ) → Among m i → Among 256 (one (now p) i) × Among 128 (two (now p) i)) ⌝ }
     ensures { λ v. ⌜ v ≡ scan m (λ i. assignByTables (now (s .entry)) (one (now (p .entry)) i) (two (now (p .entry)) i)) ⌝ }
 {
     let mut i = 0;

@@ -2,14 +2,16 @@
 use super::assign;
 use super::gather;
 use super::labels;
+use super::layout;
 use super::marks;
 use super::rows;
+use order::marks::Relation;
 use rolefile::Line;
 use rolefile::Verdict;
 use rolefile::check;
 use rolefile::read;
 ghost use mathlib.Core.Path.{_≡_};
-ghost use Prim.Native.Nat.{_+_, _≤_, _<_, min};
+ghost use Prim.Native.Nat.{_+_, _*_, _≤_, _<_, min};
 ghost use lib.ListN.{length};
 ghost use Rattle.roleset.specs.Row.{Kept};
 ghost use Rattle.order.specs.Table.{mark};
@@ -17,7 +19,7 @@ ghost use Rattle.rolefile.specs.Line.{lines};
 ghost use Rattle.rolefile.specs.Form.{scan};
 ghost use Rattle.rolefile.specs.Section.{part, Leads};
 ghost use Rattle.rolefile.specs.WellFormed.{GoodCounts};
-ghost use Rattle.policy.specs.Tables.{word};
+ghost use Rattle.policy.specs.Tables.{clearancesAt, rLevelsAt, seniorsAt, assignedAt, readersAt, writersAt, stateSize, word};
 ghost use Rattle.policy.specs.Settings.{settings};
 ghost use Rattle.policy.specs.Image.{Labelled, Seniors, Levelled, Dominating};
 ghost use Rattle.policy.specs.Verdict.{orderVerdict, assignmentVerdict};
@@ -62,20 +64,20 @@ fn lay_out(f: &[u8]) -> Parts
 
 // 6, with clearances and card labels put into the state.
 fn note_labels(f: &[u8], s: &mut [u8], q: Parts, h: Line) -> Verdict
-    requires { ⌜ Ready (now f) q h × (65536 ≤ length (now s)) × Zeros 1040 1808 (now s) ⌝ }
+    requires { ⌜ Ready (now f) q h × (stateSize ≤ length (now s)) × Zeros clearancesAt rLevelsAt (now s) ⌝ }
     ensures { λ v. ⌜ Noting (now (f .entry)) v (now (s .entry)) (now (s .exit)) ⌝ }
 {
     let u = q.u;
     let users = read::part(f, u.start);
-    labels::note_lines(s, 1040, 256, users, u.count);
+    labels::note_lines(s, layout::CLEARANCES_AT, layout::USERS, users, u.count);
     let o = q.o;
     let cards = read::part(f, o.start);
-    labels::note_lines(s, 1296, 512, cards, o.count);
-    let user = labels::lowest_unlabelled(s, 1040, h.c as usize);
+    labels::note_lines(s, layout::CARD_LABELS_AT, layout::CARDS, cards, o.count);
+    let user = labels::lowest_unlabelled(s, layout::CLEARANCES_AT, h.c as usize);
     if user != 0 {
         return check::refused(6, 1, user as u64);
     }
-    let card = labels::lowest_unlabelled(s, 1296, h.d as usize);
+    let card = labels::lowest_unlabelled(s, layout::CARD_LABELS_AT, h.d as usize);
     if card != 0 {
         return check::refused(6, 2, card as u64);
     }
@@ -83,7 +85,7 @@ fn note_labels(f: &[u8], s: &mut [u8], q: Parts, h: Line) -> Verdict
 }
 
 // The paths of dominance by the D lines.
-fn dominance(f: &[u8], q: Parts, h: Line) -> [[bool; 32]; 32]
+fn dominance(f: &[u8], q: Parts, h: Line) -> Relation
     requires { ⌜ Ready (now f) q h ⌝ }
     ensures { λ t. ⌜ Paths (now (f .entry)) t ⌝ }
 {
@@ -94,7 +96,7 @@ fn dominance(f: &[u8], q: Parts, h: Line) -> [[bool; 32]; 32]
 }
 
 // 11 and 12, by the paths and the closed table.
-fn check_labels(paths: [[bool; 32]; 32], closed: [[bool; 32]; 32], n: usize) -> Verdict
+fn check_labels(paths: Relation, closed: Relation, n: usize) -> Verdict
     ensures { λ v. ⌜ v ≡ orderVerdict (min n 32) (mark paths) (mark closed) ⌝ }
 {
     let a = order::marks::lowest_loop(paths, n);
@@ -110,25 +112,25 @@ fn check_labels(paths: [[bool; 32]; 32], closed: [[bool; 32]; 32], n: usize) -> 
 
 // 13, with the seniors of each role put into the state.
 fn rank_roles(f: &[u8], s: &mut [u8], q: Parts, h: Line) -> Verdict
-    requires { ⌜ Ready (now f) q h × (65536 ≤ length (now s)) × Zeros 2064 4112 (now s) ⌝ }
+    requires { ⌜ Ready (now f) q h × (stateSize ≤ length (now s)) × Zeros seniorsAt assignedAt (now s) ⌝ }
     ensures { λ v. ⌜ Ranking (now (f .entry)) v (now (s .entry)) (now (s .exit)) ⌝ }
 {
     let p = q.s;
     let lines = read::part(f, p.start);
-    rows::relate_back(s, 2064, 128, lines, p.count);
+    rows::relate_back(s, layout::SENIORS_AT, layout::ROLES, lines, p.count);
     let n = h.b as usize;
-    order::rows::paths(s, 2064, n);
-    let r = order::rows::lowest_loop(s, 2064, n);
+    order::rows::paths(s, layout::SENIORS_AT, n);
+    let r = order::rows::lowest_loop(s, layout::SENIORS_AT, n);
     if r != 0 {
         return check::refused(13, r as u64, 0);
     }
-    order::rows::reflect(s, 2064, n);
+    order::rows::reflect(s, layout::SENIORS_AT, n);
     check::nothing()
 }
 
 // Dominance, readers, writers and levels, put into the state.
-fn grant_all(f: &[u8], s: &mut [u8], q: Parts, h: Line, t: [[bool; 32]; 32])
-    requires { ⌜ Ready (now f) q h × (65536 ≤ length (now s)) × Labelled (settings (now f)) (now s) × Seniors (settings (now f)) (now s) × Closed (now f) t × Zeros 1808 2064 (now s) × Zeros 12304 28688 (now s) ⌝ }
+fn grant_all(f: &[u8], s: &mut [u8], q: Parts, h: Line, t: Relation)
+    requires { ⌜ Ready (now f) q h × (stateSize ≤ length (now s)) × Labelled (settings (now f)) (now s) × Seniors (settings (now f)) (now s) × Closed (now f) t × Zeros rLevelsAt seniorsAt (now s) × Zeros readersAt (writersAt + 16 * 512) (now s) ⌝ }
     ensures { λ _. ⌜ Granting (now (f .entry)) (now (s .entry)) (now (s .exit)) ⌝ }
 {
     let p = q.p;
@@ -140,15 +142,15 @@ fn grant_all(f: &[u8], s: &mut [u8], q: Parts, h: Line, t: [[bool; 32]; 32])
     let cards = h.d as usize;
     let all = order::bounds::first_things(n);
     let up = order::bounds::converse(t);
-    let read_at = gather::gather(s, 12304, cards);
-    gather::put_levels(s, 1808, read_at, &up, n, &all, roles);
-    let written_at = gather::gather(s, 20496, cards);
-    gather::put_levels(s, 1936, written_at, &t, n, &all, roles);
+    let read_at = gather::gather(s, layout::READERS_AT, cards);
+    gather::put_levels(s, layout::R_LEVELS_AT, read_at, &up, n, &all, roles);
+    let written_at = gather::gather(s, layout::WRITERS_AT, cards);
+    gather::put_levels(s, layout::W_LEVELS_AT, written_at, &t, n, &all, roles);
 }
 
 // 14 to 16, by the tables in the state.
 fn check_assignments(f: &[u8], s: &[u8], q: Parts, h: Line) -> Verdict
-    requires { ⌜ Ready (now f) q h × (65536 ≤ length (now s)) × Labelled (settings (now f)) (now s) × Dominating (settings (now f)) (now s) × Levelled (settings (now f)) (now s) ⌝ }
+    requires { ⌜ Ready (now f) q h × (stateSize ≤ length (now s)) × Labelled (settings (now f)) (now s) × Dominating (settings (now f)) (now s) × Levelled (settings (now f)) (now s) ⌝ }
     ensures { λ v. ⌜ v ≡ scan (lines (now (f .entry))) (assignmentVerdict (now (f .entry))) ⌝ }
 {
     let a = q.a;
@@ -157,12 +159,13 @@ fn check_assignments(f: &[u8], s: &[u8], q: Parts, h: Line) -> Verdict
 }
 
 // The lower and the upper byte of a count at `at`.
-fn put_word(s: &mut [u8], at: usize, n: u64)
+fn put_word(s: &mut [u8], at: u16, n: u64)
     requires { ⌜ (at + 2 ≤ length (now s)) × (n < 65536) ⌝ }
     ensures { λ _. ⌜ (word (now (s .exit)) at ≡ n) × Kept at (at + 2) (now (s .entry)) (now (s .exit)) ⌝ }
 {
-    s[at] = (n % 256) as u8;
-    s[at + 1] = (n / 256 % 256) as u8;
+    let i = at as usize;
+    s[i] = (n % 256) as u8;
+    s[i + 1] = (n / 256 % 256) as u8;
 }
 
 // The four counts at the start of the state.
@@ -170,26 +173,26 @@ fn put_counts(s: &mut [u8], h: Line)
     requires { ⌜ (8 ≤ length (now s)) × GoodCounts h ⌝ }
     ensures { λ _. ⌜ Counting h (now (s .entry)) (now (s .exit)) ⌝ }
 {
-    put_word(s, 0, h.a);
-    put_word(s, 2, h.b);
-    put_word(s, 4, h.c);
-    put_word(s, 6, h.d);
+    put_word(s, layout::LABEL_COUNT_AT, h.a);
+    put_word(s, layout::ROLE_COUNT_AT, h.b);
+    put_word(s, layout::USER_COUNT_AT, h.c);
+    put_word(s, layout::CARD_COUNT_AT, h.d);
 }
 
 // Assigned roles and counts, put into the state.
 fn finish(f: &[u8], s: &mut [u8], q: Parts, h: Line)
-    requires { ⌜ Ready (now f) q h × (65536 ≤ length (now s)) × Zeros 4112 8208 (now s) ⌝ }
+    requires { ⌜ Ready (now f) q h × (stateSize ≤ length (now s)) × Zeros assignedAt (assignedAt + 16 * 256) (now s) ⌝ }
     ensures { λ _. ⌜ Finishing (now (f .entry)) (now (s .entry)) (now (s .exit)) ⌝ }
 {
     let a = q.a;
     let p = read::part(f, a.start);
-    rows::relate_lines(s, 4112, 256, p, a.count);
+    rows::relate_lines(s, layout::ASSIGNED_AT, layout::USERS, p, a.count);
     put_counts(s, h);
 }
 
 // The whole check of a file, into a state of zeros.
 pub fn build(f: &[u8], s: &mut [u8]) -> Verdict
-    requires { ⌜ (length (now s) ≡ 65536) × Zeros 0 65536 (now s) ⌝ }
+    requires { ⌜ (length (now s) ≡ stateSize) × Zeros 0 stateSize (now s) ⌝ }
     ensures { λ v. ⌜ Built (now (f .entry)) v (now (s .exit)) ⌝ }
 {
     let v = check::lines(f);
@@ -223,12 +226,12 @@ pub fn build(f: &[u8], s: &mut [u8]) -> Verdict
 }
 
 // Copies a whole state into the first bytes of another.
-pub fn copy_state(to: &mut [u8], from: &[u8; 65536])
-    requires { ⌜ 65536 ≤ length (now to) ⌝ }
-    ensures { λ _. ⌜ Copied 65536 (now (from .entry)) (now (to .entry)) (now (to .exit)) ⌝ }
+pub fn copy_state(to: &mut [u8], from: &[u8; layout::STATE_SIZE])
+    requires { ⌜ stateSize ≤ length (now to) ⌝ }
+    ensures { λ _. ⌜ Copied stateSize (now (from .entry)) (now (to .entry)) (now (to .exit)) ⌝ }
 {
     let mut i = 0;
-    while i < 65536 {
+    while i < layout::STATE_SIZE {
         to[i] = from[i];
         i += 1;
     }

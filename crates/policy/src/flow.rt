@@ -1,20 +1,23 @@
 // Role flow, and what a state holds of its roles, for reports.
 //
 // Every public function takes any slice. One that is too short to be a state has no roles.
+use super::layout;
 use super::tables;
+use order::rows::TABLE_BYTES;
+use roleset::ROW_BYTES;
 ghost use mathlib.Core.Path.{_≡_};
-ghost use Prim.Native.Nat.{_+_, _≤_, _<_};
+ghost use Prim.Native.Nat.{_+_, _*_, _≤_, _<_};
 ghost use lib.ListN.{length};
 ghost use Rattle.search.specs.Search.{some};
 ghost use Rattle.order.specs.Closure.{Agree};
 ghost use Rattle.order.specs.Table.{related, Tabled};
-ghost use Rattle.policy.specs.Tables.{rLevelsAt, wLevelsAt, flowsByCard, pastCard, withoutLoops, countIn, roleCount, levelIn, flowsIn, circleIn};
+ghost use Rattle.policy.specs.Tables.{rLevelsAt, wLevelsAt, writersAt, stateSize, flowsByCard, pastCard, withoutLoops, countIn, roleCount, levelIn, flowsIn, circleIn};
 
 // The count at `at` in the state, `most` where it is higher.
 fn count(s: &[u8], at: u16, most: usize) -> usize
     ensures { λ r. ⌜ r ≡ countIn (now (s .entry)) at most ⌝ }
 {
-    if s.len() < 65536 {
+    if s.len() < layout::STATE_SIZE {
         return 0;
     }
     order::marks::lesser(tables::word(s, at) as usize, most)
@@ -24,18 +27,18 @@ fn count(s: &[u8], at: u16, most: usize) -> usize
 pub fn roles(s: &[u8]) -> usize
     ensures { λ r. ⌜ r ≡ roleCount (now (s .entry)) ⌝ }
 {
-    count(s, 2, 128)
+    count(s, layout::ROLE_COUNT_AT, layout::ROLES)
 }
 
 // The role's byte of the table of levels at `at`.
 fn level(s: &[u8], at: usize, role: usize) -> u8
-    requires { ⌜ at + 128 ≤ 65536 ⌝ }
+    requires { ⌜ at + 128 ≤ stateSize ⌝ }
     ensures { λ r. ⌜ r ≡ levelIn (now (s .entry)) at role ⌝ }
 {
-    if s.len() < 65536 {
+    if s.len() < layout::STATE_SIZE {
         return 0;
     }
-    if !search::among(128, role as u64) {
+    if !search::among(layout::ROLES as u64, role as u64) {
         return 0;
     }
     s[at + (role - 1)]
@@ -45,35 +48,36 @@ fn level(s: &[u8], at: usize, role: usize) -> u8
 pub fn r_level(s: &[u8], role: usize) -> u8
     ensures { λ r. ⌜ r ≡ levelIn (now (s .entry)) rLevelsAt role ⌝ }
 {
-    level(s, 1808, role)
+    level(s, layout::R_LEVELS_AT, role)
 }
 
 // The w-level of a role, in the same way.
 pub fn w_level(s: &[u8], role: usize) -> u8
     ensures { λ r. ⌜ r ≡ levelIn (now (s .entry)) wLevelsAt role ⌝ }
 {
-    level(s, 1936, role)
+    level(s, layout::W_LEVELS_AT, role)
 }
 
 // Whether role `from` may write card o + 1 and role `to` may read it.
 fn flows_by_card(s: &[u8], o: usize, from: usize, to: usize) -> bool
-    requires { ⌜ (28688 ≤ length (now s)) × (o < 512) ⌝ }
+    requires { ⌜ (writersAt + 16 * 512 ≤ length (now s)) × (o < 512) ⌝ }
     ensures { λ r. ⌜ r ≡ flowsByCard (now (s .entry)) from to (o + 1) ⌝ }
 {
-    roleset::has(s, 20496 + 16 * o, from) & roleset::has(s, 12304 + 16 * o, to)
+    roleset::has(s, layout::WRITERS_AT + ROW_BYTES * o, from)
+        & roleset::has(s, layout::READERS_AT + ROW_BYTES * o, to)
 }
 
 // Whether role `from` flows to role `to`.
 pub fn flows(s: &[u8], from: usize, to: usize) -> bool
     ensures { λ r. ⌜ r ≡ flowsIn (now (s .entry)) from to ⌝ }
 {
-    if s.len() < 65536 {
+    if s.len() < layout::STATE_SIZE {
         return false;
     }
     if from == to {
         return false;
     }
-    let n = count(s, 6, 512);
+    let n = count(s, layout::CARD_COUNT_AT, layout::CARDS);
     let mut o = 0;
     while o < n {
         if flows_by_card(s, o, from, to) {
@@ -86,28 +90,28 @@ pub fn flows(s: &[u8], from: usize, to: usize) -> bool
 
 // Relates each role that may write card o + 1 to each role that may read it.
 fn flow_past(t: &mut [u8], s: &[u8], o: usize)
-    requires { ⌜ (2048 ≤ length (now t)) × (28688 ≤ length (now s)) × (o < 512) ⌝ }
+    requires { ⌜ (2048 ≤ length (now t)) × (writersAt + 16 * 512 ≤ length (now s)) × (o < 512) ⌝ }
     ensures { λ _. ⌜ Tabled 0 128 (pastCard (now (t .entry)) (now (s .entry)) (o + 1)) (now (t .entry)) (now (t .exit)) ⌝ }
 {
-    let writers = roleset::row(s, 20496 + 16 * o);
-    let readers = roleset::row(s, 12304 + 16 * o);
+    let writers = roleset::row(s, layout::WRITERS_AT + ROW_BYTES * o);
+    let readers = roleset::row(s, layout::READERS_AT + ROW_BYTES * o);
     let mut i = 0;
-    while i < 128 {
+    while i < layout::ROLES {
         let writer = roleset::next(&writers, 0, i);
         if writer == 0 {
             return;
         }
-        roleset::unite(t, 16 * (writer - 1), readers);
+        roleset::unite(t, ROW_BYTES * (writer - 1), readers);
         i = writer;
     }
 }
 
 // Relates each role that may write one of the first n cards to each role that may read that card.
-fn flow_table(s: &[u8], n: usize) -> [u8; 2048]
-    requires { ⌜ (28688 ≤ length (now s)) × (n ≤ 512) ⌝ }
+fn flow_table(s: &[u8], n: usize) -> [u8; TABLE_BYTES]
+    requires { ⌜ (writersAt + 16 * 512 ≤ length (now s)) × (n ≤ 512) ⌝ }
     ensures { λ t. ⌜ Agree 128 128 (related t 0) (λ r q. some n (flowsByCard (now (s .entry)) r q)) ⌝ }
 {
-    let mut t = [0u8; 2048];
+    let mut t = [0u8; TABLE_BYTES];
     let mut o = 0;
     while o < n {
         flow_past(&mut t, s, o);
@@ -122,20 +126,20 @@ fn remove_itself(t: &mut [u8])
     ensures { λ _. ⌜ Tabled 0 128 (withoutLoops (now (t .entry))) (now (t .entry)) (now (t .exit)) ⌝ }
 {
     let mut i = 0;
-    while i < 128 {
-        roleset::remove(t, 16 * i, i + 1);
+    while i < layout::ROLES {
+        roleset::remove(t, ROW_BYTES * i, i + 1);
         i += 1;
     }
 }
 
 // Role flow as a table of role sets: row r has the roles that r flows to.
-pub fn table(s: &[u8]) -> [u8; 2048]
+pub fn table(s: &[u8]) -> [u8; TABLE_BYTES]
     ensures { λ t. ⌜ Agree 128 128 (related t 0) (flowsIn (now (s .entry))) ⌝ }
 {
-    if s.len() < 65536 {
-        return [0u8; 2048];
+    if s.len() < layout::STATE_SIZE {
+        return [0u8; TABLE_BYTES];
     }
-    let mut t = flow_table(s, count(s, 6, 512));
+    let mut t = flow_table(s, count(s, layout::CARD_COUNT_AT, layout::CARDS));
     remove_itself(&mut t);
     t
 }
@@ -144,7 +148,7 @@ pub fn table(s: &[u8]) -> [u8; 2048]
 pub fn flow_circle(s: &[u8]) -> usize
     ensures { λ r. ⌜ r ≡ circleIn (now (s .entry)) ⌝ }
 {
-    if s.len() < 65536 {
+    if s.len() < layout::STATE_SIZE {
         return 0;
     }
     let n = roles(s);

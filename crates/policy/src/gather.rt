@@ -1,6 +1,10 @@
 // Levels: the labels that a role may read or write are gathered, and bounded.
+use super::layout;
+use order::marks::Relation;
+use order::marks::Set;
+use roleset::ROW_BYTES;
 ghost use mathlib.Core.Path.{_≡_};
-ghost use Prim.Native.Nat.{_+_, _≤_, _<_};
+ghost use Prim.Native.Nat.{_+_, _*_, _≤_, _<_};
 ghost use lib.ListN.{length};
 ghost use Rattle.search.specs.Search.{some};
 ghost use Rattle.roleset.specs.Row.{member, rowOf};
@@ -8,27 +12,30 @@ ghost use Rattle.order.specs.Closure.{Agree};
 ghost use Rattle.order.specs.Bound.{converse};
 ghost use Rattle.order.specs.Table.{marks, mark, Upto, FirstThings, related};
 ghost use Rattle.policy.specs.Policy.{level, levelNumber};
-ghost use Rattle.policy.specs.Tables.{brings, gathered, Unites, Bytes};
+ghost use Rattle.policy.specs.Tables.{rLevelsAt, brings, gathered, Unites, Bytes};
+
+// The bytes of a set of roles for each label.
+const GATHERED_BYTES: usize = ROW_BYTES * layout::LABELS;
 
 // Joins the row of card o + 1, of the table at `at`, into the row of its label.
-fn gather_one(g: &mut [u8; 512], s: &[u8], at: usize, o: usize)
-    requires { ⌜ (at + 8192 ≤ length (now s)) × (1808 ≤ length (now s)) × (o < 512) ⌝ }
+fn gather_one(g: &mut [u8; GATHERED_BYTES], s: &[u8], at: usize, o: usize)
+    requires { ⌜ (at + 16 * 512 ≤ length (now s)) × (rLevelsAt ≤ length (now s)) × (o < 512) ⌝ }
     ensures { λ _. ⌜ Unites 0 32 (λ l r. brings (now (s .entry)) at l r (o + 1)) (now (g .entry)) (now (g .exit)) ⌝ }
 {
-    let label = s[1296 + o] as usize;
-    if !search::among(32, label as u64) {
+    let label = s[layout::CARD_LABELS_AT + o] as usize;
+    if !search::among(layout::LABELS as u64, label as u64) {
         return;
     }
-    let row = roleset::row(s, at + 16 * o);
-    roleset::unite(g, 16 * (label - 1), row);
+    let row = roleset::row(s, at + ROW_BYTES * o);
+    roleset::unite(g, ROW_BYTES * (label - 1), row);
 }
 
 // For each label, the roles that the table at `at` has for one of the first n cards of that label.
-pub fn gather(s: &[u8], at: usize, n: usize) -> [u8; 512]
-    requires { ⌜ (at + 8192 ≤ length (now s)) × (1808 ≤ length (now s)) × (n ≤ 512) ⌝ }
+pub fn gather(s: &[u8], at: usize, n: usize) -> [u8; GATHERED_BYTES]
+    requires { ⌜ (at + 16 * 512 ≤ length (now s)) × (rLevelsAt ≤ length (now s)) × (n ≤ 512) ⌝ }
     ensures { λ g. ⌜ Agree 32 128 (related g 0) (gathered (now (s .entry)) at n) ⌝ }
 {
-    let mut g = [0u8; 512];
+    let mut g = [0u8; GATHERED_BYTES];
     let mut o = 0;
     while o < n {
         gather_one(&mut g, s, at, o);
@@ -38,20 +45,20 @@ pub fn gather(s: &[u8], at: usize, n: usize) -> [u8; 512]
 }
 
 // The labels whose row of `g` has the role.
-fn labels_of(g: &[u8; 512], role: usize) -> [bool; 32]
+fn labels_of(g: &[u8; GATHERED_BYTES], role: usize) -> Set
     ensures { λ r. ⌜ Upto 32 (λ l. related (now (g .entry)) 0 l role) r ⌝ }
 {
-    let mut r = [false; 32];
+    let mut r = [false; layout::LABELS];
     let mut i = 0;
-    while i < 32 {
-        r[i] = roleset::has(g, 16 * i, role);
+    while i < layout::LABELS {
+        r[i] = roleset::has(g, ROW_BYTES * i, role);
         i += 1;
     }
     r
 }
 
 // Whether one of the first n things is in the set.
-fn any(s: &[bool; 32], n: usize) -> bool
+fn any(s: &Set, n: usize) -> bool
     requires { ⌜ n ≤ 32 ⌝ }
     ensures { λ r. ⌜ r ≡ some n (marks (now (s .entry))) ⌝ }
 {
@@ -66,16 +73,16 @@ fn any(s: &[bool; 32], n: usize) -> bool
 }
 
 // The level of a set of labels: its bound by the rows of t, as it is kept. `all` is the set of the n labels.
-fn level_of(t: &[[bool; 32]; 32], n: usize, all: &[bool; 32], s: &[bool; 32]) -> u8
+fn level_of(t: &Relation, n: usize, all: &Set, s: &Set) -> u8
     requires { ⌜ (n ≤ 32) × FirstThings n (now all) ⌝ }
     ensures { λ r. ⌜ r ≡ levelNumber (level n (converse (mark (now (t .entry)))) (marks (now (s .entry)))) ⌝ }
 {
     if !any(s, n) {
-        return 0;
+        return layout::FREE;
     }
     let bound = order::bounds::greatest_lower(t, n, all, *s);
     if bound == 0 {
-        return 99;
+        return layout::UNDEFINED;
     }
     bound as u8
 }
@@ -84,10 +91,10 @@ fn level_of(t: &[[bool; 32]; 32], n: usize, all: &[bool; 32], s: &[bool; 32]) ->
 pub fn put_levels(
     s: &mut [u8],
     at: usize,
-    g: [u8; 512],
-    t: &[[bool; 32]; 32],
+    g: [u8; GATHERED_BYTES],
+    t: &Relation,
     n: usize,
-    all: &[bool; 32],
+    all: &Set,
     roles: usize,
 )
     requires { ⌜ (at + roles ≤ length (now s)) × (n ≤ 32) × FirstThings n (now all) × (roles ≤ 128) ⌝ }

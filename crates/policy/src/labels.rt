@@ -7,14 +7,20 @@ ghost use Rattle.search.specs.Search.{first};
 ghost use Rattle.rolefile.specs.Line.{lines};
 ghost use Rattle.policy.specs.Tables.{Bytes, noted, afterNote, NotedBytes, unlabelledIn};
 
-// The byte for a label where `old` was there before: 255 where it is the second.
+// The byte of a thing without a label.
+const NONE: u8 = 0;
+
+// The byte of a thing with several labels.
+const SEVERAL: u8 = 255;
+
+// The byte for a label where `old` was there before: `SEVERAL` where it is the second.
 fn noted(old: u8, label: usize) -> u8
     ensures { λ r. ⌜ r ≡ noted old label ⌝ }
 {
-    if old == 0 {
+    if old == NONE {
         return (label % 256) as u8;
     }
-    255
+    SEVERAL
 }
 
 // Notes a label for thing x, if it is one of the table's.
@@ -51,7 +57,7 @@ pub fn lowest_unlabelled(s: &[u8], at: usize, n: usize) -> usize
     let mut i = 0;
     while i < n {
         let v = s[at + i];
-        if (v == 0) | (v == 255) {
+        if (v == NONE) | (v == SEVERAL) {
             return i + 1;
         }
         i += 1;

@@ -7,6 +7,7 @@ mod build;
 pub mod flow;
 mod gather;
 mod labels;
+pub mod layout;
 mod marks;
 mod rows;
 pub mod tables;
@@ -20,10 +21,10 @@ ghost use Rattle.policy.specs.Image.{Loaded};
 pub fn load(f: &[u8], state: &mut [u8]) -> Verdict
     ensures { λ v. ⌜ Loaded (now (f .entry)) v (now (state .entry)) (now (state .exit)) ⌝ }
 {
-    if state.len() < 65536 {
+    if state.len() < layout::STATE_SIZE {
         return check::refused(7, 0, 0);
     }
-    let mut scratch = [0u8; 65536];
+    let mut scratch = [0u8; layout::STATE_SIZE];
     let v = build::build(f, &mut scratch);
     if v.number != 0 {
         return v;

@@ -1,4 +1,7 @@
 // Dominance: the marks of the D lines, and the closed marks as bytes.
+use super::layout;
+use order::marks::Relation;
+use order::marks::Set;
 use rolefile::read;
 ghost use mathlib.Core.Path.{_≡_};
 ghost use mathlib.Core.Bool.{cond};
@@ -6,14 +9,14 @@ ghost use Prim.Native.Nat.{_+_, _≤_};
 ghost use lib.ListN.{length};
 ghost use Rattle.order.specs.Table.{marks};
 ghost use Rattle.rolefile.specs.Line.{lines};
-ghost use Rattle.policy.specs.Tables.{Bytes, Marking, WithPair, DominanceRows};
+ghost use Rattle.policy.specs.Tables.{clearancesAt, Bytes, Marking, WithPair, DominanceRows};
 
 // Marks a over b in the table, if both are labels.
-fn add_pair(t: &mut [[bool; 32]; 32], a: usize, b: usize)
+fn add_pair(t: &mut Relation, a: usize, b: usize)
     requires { ⌜ length (now t) ≡ 32 ⌝ }
     ensures { λ _. ⌜ (length (now (t .exit)) ≡ 32) × WithPair a b (now (t .entry)) (now (t .exit)) ⌝ }
 {
-    if !search::among(32, a as u64) {
+    if !search::among(layout::LABELS as u64, a as u64) {
         return;
     }
     let i = a - 1;
@@ -22,11 +25,11 @@ fn add_pair(t: &mut [[bool; 32]; 32], a: usize, b: usize)
 }
 
 // The marks of the first m lines of a part.
-pub fn marks_of(p: &[u8], m: usize) -> [[bool; 32]; 32]
+pub fn marks_of(p: &[u8], m: usize) -> Relation
     requires { ⌜ m ≤ lines (now p) ⌝ }
     ensures { λ r. ⌜ Marking (now (p .entry)) m r ⌝ }
 {
-    let mut t = [[false; 32]; 32];
+    let mut t = [[false; layout::LABELS]; layout::LABELS];
     let mut i = 0;
     while i < m {
         let a = read::first_number(p, i);
@@ -41,30 +44,30 @@ pub fn marks_of(p: &[u8], m: usize) -> [[bool; 32]; 32]
 fn byte(on: bool) -> u8
     ensures { λ r. ⌜ r ≡ cond on 1 0 ⌝ }
 {
-    if on { 1 } else { 0 }
+    if on { layout::MARK } else { 0 }
 }
 
 // Puts a row of marks at `at`, a byte for each.
-fn put_row(s: &mut [u8], at: usize, row: [bool; 32])
+fn put_row(s: &mut [u8], at: usize, row: Set)
     requires { ⌜ at + 32 ≤ length (now s) ⌝ }
     ensures { λ _. ⌜ Bytes at 32 (λ b. cond (marks row b) 1 0) (now (s .entry)) (now (s .exit)) ⌝ }
 {
     let mut j = 0;
-    while j < 32 {
+    while j < layout::LABELS {
         s[at + j] = byte(row[j]);
         j += 1;
     }
 }
 
 // Puts the table where dominance stands.
-pub fn put_table(s: &mut [u8], t: [[bool; 32]; 32])
-    requires { ⌜ 1040 ≤ length (now s) ⌝ }
+pub fn put_table(s: &mut [u8], t: Relation)
+    requires { ⌜ clearancesAt ≤ length (now s) ⌝ }
     ensures { λ _. ⌜ DominanceRows 32 t (now (s .entry)) (now (s .exit)) ⌝ }
 {
     let mut i = 0;
-    while i < 32 {
+    while i < layout::LABELS {
         let row = t[i];
-        put_row(s, 16 + 32 * i, row);
+        put_row(s, layout::DOMINANCE_AT + layout::LABELS * i, row);
         i += 1;
     }
 }

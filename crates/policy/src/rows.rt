@@ -1,12 +1,14 @@
 // Tables of role sets: seniors, assigned roles, readers and writers.
+use super::layout;
 use rolefile::read;
+use roleset::ROW_BYTES;
 ghost use mathlib.Core.Bool.{_&&_};
 ghost use Prim.Native.Nat.{_+_, _*_, _≤_};
 ghost use lib.Dec.{eqb};
 ghost use lib.ListN.{length};
 ghost use Rattle.rolefile.specs.Line.{lines};
 ghost use Rattle.rolefile.specs.Section.{pairs};
-ghost use Rattle.policy.specs.Tables.{lineGrants, grantedByLines, Related, GrantedRows};
+ghost use Rattle.policy.specs.Tables.{writersAt, lineGrants, grantedByLines, Related, GrantedRows};
 
 // Puts a role into the row of thing x, if it is one of the table's.
 fn relate(s: &mut [u8], at: usize, size: usize, x: usize, role: usize)
@@ -16,7 +18,7 @@ fn relate(s: &mut [u8], at: usize, size: usize, x: usize, role: usize)
     if !search::among(size as u64, x as u64) {
         return;
     }
-    roleset::add(s, at + 16 * (x - 1), role);
+    roleset::add(s, at + ROW_BYTES * (x - 1), role);
 }
 
 // The first m lines of a part: each puts its second number into the row of its first.
@@ -49,27 +51,35 @@ pub fn relate_back(s: &mut [u8], at: usize, size: usize, p: &[u8], m: usize)
 
 // Joins the seniors of a role into the card's row of the mode's table, if the numbers are such.
 fn grant(s: &mut [u8], role: usize, card: usize, mode: usize)
-    requires { ⌜ 28688 ≤ length (now s) ⌝ }
+    requires { ⌜ writersAt + 16 * 512 ≤ length (now s) ⌝ }
     ensures { λ _. ⌜ GrantedRows (lineGrants (now (s .entry)) role card mode) (now (s .entry)) (now (s .exit)) ⌝ }
 {
-    if !search::among(128, role as u64) {
+    if !search::among(layout::ROLES as u64, role as u64) {
         return;
     }
-    if !search::among(512, card as u64) {
+    if !search::among(layout::CARDS as u64, card as u64) {
         return;
     }
     if mode == 1 {
-        roleset::join(s, 12304 + 16 * (card - 1), 2064 + 16 * (role - 1));
+        roleset::join(
+            s,
+            layout::READERS_AT + ROW_BYTES * (card - 1),
+            layout::SENIORS_AT + ROW_BYTES * (role - 1),
+        );
         return;
     }
     if mode == 2 {
-        roleset::join(s, 20496 + 16 * (card - 1), 2064 + 16 * (role - 1));
+        roleset::join(
+            s,
+            layout::WRITERS_AT + ROW_BYTES * (card - 1),
+            layout::SENIORS_AT + ROW_BYTES * (role - 1),
+        );
     }
 }
 
 // The first m lines of a part: each lets the seniors of its role read or write its card.
 pub fn grant_lines(s: &mut [u8], p: &[u8], m: usize)
-    requires { ⌜ (28688 ≤ length (now s)) × (m ≤ lines (now p)) ⌝ }
+    requires { ⌜ (writersAt + 16 * 512 ≤ length (now s)) × (m ≤ lines (now p)) ⌝ }
     ensures { λ _. ⌜ GrantedRows (grantedByLines (now (s .entry)) (now (p .entry)) m) (now (s .entry)) (now (s .exit)) ⌝ }
 {
     let mut i = 0;

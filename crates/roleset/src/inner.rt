@@ -1,4 +1,6 @@
 // The same for a row that is known to lie in the slice, and the tests that tell.
+use super::ROLES;
+use super::ROW_BYTES;
 ghost use mathlib.Core.Path.{_≡_};
 ghost use mathlib.Core.Bool.{true, _&&_};
 ghost use Prim.Native.Nat.{ℕ, _+_, _-_, _*_, _≤_};
@@ -6,6 +8,12 @@ ghost use lib.Dec.{leb};
 ghost use lib.ListN.{length};
 ghost use Rattle.search.specs.Search.{among, some, first, Among};
 ghost use Rattle.roleset.specs.Row.{member, bitAfter, nextMember, Placed, PlacedRows, added, removed, united, unitedWhere, halfAt};
+
+// The roles of half a row.
+const HALF_ROLES: usize = ROLES / 2;
+
+// The bytes of half a row.
+const HALF_BYTES: usize = ROW_BYTES / 2;
 
 // Whether the row at `at` lies wholly in `len` bytes.
 pub fn lies(len: usize, at: usize) -> bool
@@ -18,7 +26,7 @@ pub fn lies(len: usize, at: usize) -> bool
 pub fn is_role(role: usize) -> bool
     ensures { λ r. ⌜ r ≡ among 128 role ⌝ }
 {
-    search::among(128, role as u64)
+    search::among(ROLES as u64, role as u64)
 }
 
 pub fn has(s: &[u8], at: usize, role: usize) -> bool
@@ -44,31 +52,31 @@ pub fn remove(s: &mut [u8], at: usize, role: usize)
     s[i] = s[i] ^ (1 << ((role - 1) % 8));
 }
 
-pub fn row(s: &[u8], at: usize) -> [u8; 16]
+pub fn row(s: &[u8], at: usize) -> [u8; ROW_BYTES]
     requires { ⌜ at + 16 ≤ length (now s) ⌝ }
     ensures { λ row. ⌜ ((r : ℕ) → member row 0 r ≡ member (now (s .entry)) at r) ⌝ }
 {
-    let mut row = [0u8; 16];
+    let mut row = [0u8; ROW_BYTES];
     let mut i = 0;
-    while i < 16 {
+    while i < ROW_BYTES {
         row[i] = s[at + i];
         i += 1;
     }
     row
 }
 
-pub fn unite(s: &mut [u8], at: usize, other: [u8; 16])
+pub fn unite(s: &mut [u8], at: usize, other: [u8; ROW_BYTES])
     requires { ⌜ at + 16 ≤ length (now s) ⌝ }
     ensures { λ _. ⌜ Placed at (united (now (s .entry)) at other) (now (s .entry)) (now (s .exit)) ⌝ }
 {
     let mut i = 0;
-    while i < 16 {
+    while i < ROW_BYTES {
         s[at + i] = s[at + i] | other[i];
         i += 1;
     }
 }
 
-fn unite_where(s: &mut [u8], at: usize, role: usize, other: [u8; 16])
+fn unite_where(s: &mut [u8], at: usize, role: usize, other: [u8; ROW_BYTES])
     requires { ⌜ (at + 16 ≤ length (now s)) × Among 128 role ⌝ }
     ensures { λ _. ⌜ Placed at (unitedWhere (now (s .entry)) at role other) (now (s .entry)) (now (s .exit)) ⌝ }
 {
@@ -77,13 +85,13 @@ fn unite_where(s: &mut [u8], at: usize, role: usize, other: [u8; 16])
     }
 }
 
-pub fn unite_rows(s: &mut [u8], at: usize, n: usize, role: usize, other: [u8; 16])
+pub fn unite_rows(s: &mut [u8], at: usize, n: usize, role: usize, other: [u8; ROW_BYTES])
     requires { ⌜ (at + 16 * n ≤ length (now s)) × Among 128 role ⌝ }
     ensures { λ _. ⌜ PlacedRows at n (λ i. unitedWhere (now (s .entry)) (at + 16 * i) role other) (now (s .entry)) (now (s .exit)) ⌝ }
 {
     let mut i = 0;
     while i < n {
-        unite_where(s, at + 16 * i, role, other);
+        unite_where(s, at + ROW_BYTES * i, role, other);
         i += 1;
     }
 }
@@ -103,7 +111,7 @@ pub fn meet(s: &[u8], a: usize, t: &[u8], b: usize) -> bool
     ensures { λ met. ⌜ met ≡ some 128 (λ r. member (now (s .entry)) a r && member (now (t .entry)) b r) ⌝ }
 {
     let first = half(s, a) & half(t, b);
-    let second = half(s, a + 8) & half(t, b + 8);
+    let second = half(s, a + HALF_BYTES) & half(t, b + HALF_BYTES);
     (first | second) != 0
 }
 
@@ -125,10 +133,10 @@ fn lowest_above(x: u64, after: usize) -> usize
 fn past_half(after: usize) -> usize
     ensures { λ r. ⌜ r ≡ after - 64 ⌝ }
 {
-    if after < 64 {
+    if after < HALF_ROLES {
         return 0;
     }
-    after - 64
+    after - HALF_ROLES
 }
 
 pub fn next(s: &[u8], at: usize, after: usize) -> usize
@@ -139,9 +147,9 @@ pub fn next(s: &[u8], at: usize, after: usize) -> usize
     if low != 0 {
         return low;
     }
-    let high = lowest_above(half(s, at + 8), past_half(after));
+    let high = lowest_above(half(s, at + HALF_BYTES), past_half(after));
     if high == 0 {
         return 0;
     }
-    64 + high
+    HALF_ROLES + high
 }

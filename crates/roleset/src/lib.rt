@@ -11,14 +11,20 @@ ghost use lib.Dec.{leb};
 ghost use Rattle.search.specs.Search.{some};
 ghost use Rattle.roleset.specs.Row.{whole, member, common, nextMember, RowCopy, Placed, PlacedRows, added, addedWhere, removed, united, unitedWhere, joined};
 
+// How many roles a set has room for.
+pub const ROLES: usize = 128;
+
+// The bytes of a row.
+pub const ROW_BYTES: usize = 16;
+
 // Whether n rows from `at` on lie wholly in `len` bytes.
 pub fn rows_lie(len: usize, at: usize, n: usize) -> bool
     ensures { λ r. ⌜ r ≡ leb (at + 16 * n) len ⌝ }
 {
-    if len / 16 < n {
+    if len / ROW_BYTES < n {
         return false;
     }
-    at <= len - 16 * n
+    at <= len - ROW_BYTES * n
 }
 
 // Whether the row at `at` holds the role.
@@ -76,17 +82,17 @@ pub fn remove(s: &mut [u8], at: usize, role: usize)
 }
 
 // The row at `at`, by value.
-pub fn row(s: &[u8], at: usize) -> [u8; 16]
+pub fn row(s: &[u8], at: usize) -> [u8; ROW_BYTES]
     ensures { λ row. ⌜ RowCopy (now (s .entry)) at row ⌝ }
 {
     if !inner::lies(s.len(), at) {
-        return [0u8; 16];
+        return [0u8; ROW_BYTES];
     }
     inner::row(s, at)
 }
 
 // Puts the roles of a row that was taken by value into the row at `at`.
-pub fn unite(s: &mut [u8], at: usize, other: [u8; 16])
+pub fn unite(s: &mut [u8], at: usize, other: [u8; ROW_BYTES])
     ensures { λ _. ⌜ Placed at (united (now (s .entry)) at other) (now (s .entry)) (now (s .exit)) ⌝ }
 {
     if inner::lies(s.len(), at) {
@@ -96,7 +102,7 @@ pub fn unite(s: &mut [u8], at: usize, other: [u8; 16])
 
 // The same for each of the n rows from `at` on that holds the role. Where not all of them lie in the
 // slice, none is changed.
-pub fn unite_rows(s: &mut [u8], at: usize, n: usize, role: usize, other: [u8; 16])
+pub fn unite_rows(s: &mut [u8], at: usize, n: usize, role: usize, other: [u8; ROW_BYTES])
     ensures { λ _. ⌜ PlacedRows at n (λ i. unitedWhere (now (s .entry)) (at + 16 * i) role other) (now (s .entry)) (now (s .exit)) ⌝ }
 {
     if !rows_lie(s.len(), at, n) {
@@ -130,7 +136,7 @@ pub fn meet(s: &[u8], a: usize, b: usize) -> bool
 }
 
 // Whether the row at `at` has a role in common with a row that was taken by value.
-pub fn meet_row(s: &[u8], at: usize, other: [u8; 16]) -> bool
+pub fn meet_row(s: &[u8], at: usize, other: [u8; ROW_BYTES]) -> bool
     ensures { λ r. ⌜ r ≡ (whole (now (s .entry)) at && some 128 (λ q. member (now (s .entry)) at q && member other 0 q)) ⌝ }
 {
     if !inner::lies(s.len(), at) {

@@ -67,6 +67,7 @@ assign-spec =
     (λ c. search needs)
     (λ c. search needs)
     (λ c. omega (arith, c .shared-slice-known4 .given (1936 + (c .before .before .before .before .args .r - 1))))
+    (λ c. search needs)
     (λ c κs. search needs)
     returns
     (λ c κs. search needs)

@@ -11,4 +11,4 @@ returns-2 : tie.Need-returns-2
 returns-2 c = rw (ne-eqb _ 0 (c .before .if1 .left)) (c .dominates .ensures)
 
 pub passes-spec : {M : Type 1} → statement M
-passes-spec = tie.close (tie.spec returns (λ c κs. search needs) returns-2)
+passes-spec = tie.close (tie.spec (λ c. search needs) returns (λ c κs. search needs) returns-2)
