@@ -83,11 +83,11 @@ pub extern "C" fn monitor_read_number(
     place: u64,
     card: u64,
     offset: u64,
-    length: u64,
+    count: u64,
 ) -> u64
-    ensures { λ r. ⌜ r ≡ readNumber (now (state .entry)) (now (store .entry)) place card offset length ⌝ }
+    ensures { λ r. ⌜ r ≡ readNumber (now (state .entry)) (now (store .entry)) place card offset count ⌝ }
 {
-    cards::read_number(state, store, place, card, offset, length)
+    cards::read_number(state, store, place, card, offset, count)
 }
 
 // The part of the store that a read hands back: empty, at the store's start, where the number is not 0.
@@ -97,11 +97,11 @@ pub fn read<'a>(
     place: u64,
     card: u64,
     offset: u64,
-    length: u64,
+    count: u64,
 ) -> &'a [u8]
-    ensures { λ r. ⌜ Reads (now (state .entry)) (store .entry) place card offset length r ⌝ }
+    ensures { λ r. ⌜ Reads (now (state .entry)) (store .entry) place card offset count r ⌝ }
 {
-    cards::read(state, store, place, card, offset, length)
+    cards::read(state, store, place, card, offset, count)
 }
 
 // Writes bytes into a card: 21, 22, 24, 25, 29, 30, 31.

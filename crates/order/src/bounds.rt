@@ -53,11 +53,11 @@ fn within(s: Set, t: Set) -> bool
     all
 }
 
-// Whether a thing is the greatest of s: it is `among` s, and all of s is under it.
-fn leads(s: Set, under: Set, among: bool) -> bool
-    ensures { λ r. ⌜ r ≡ (among && every 32 (λ a. implies (marks s a) (marks under a))) ⌝ }
+// Whether a thing is the greatest of s: it is `inside`, and all of s is under it.
+fn leads(s: Set, under: Set, inside: bool) -> bool
+    ensures { λ r. ⌜ r ≡ (inside && every 32 (λ a. implies (marks s a) (marks under a))) ⌝ }
 {
-    if among {
+    if inside {
         return within(s, under);
     }
     false

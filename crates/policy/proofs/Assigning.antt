@@ -24,7 +24,8 @@ use Rattle.rolefile.proofs.Within.{scan-within}
 use Rattle.policy.specs.Policy.{Level, Free, Label, Undefined}
 use Rattle.policy.specs.Settings.{Inside, Settings, dominates, settings}
 use Rattle.policy.specs.Policy.{mayAt, level, rLevel, wLevel, passes, isDefined, levelNumber}
-use Rattle.policy.specs.Tables.{clearancesAt, rLevelsAt, wLevelsAt, byteOf, marked, assignByTables, passesIn, markAt}
+use Rattle.policy.specs.Tables.{clearancesAt, rLevelsAt, wLevelsAt, byteOf, marked, passesIn, markAt}
+use Rattle.policy.specs.inner.Filling.{assignByTables}
 use Rattle.policy.specs.Image.{Labelled, Dominating, Levelled}
 use Rattle.policy.specs.Verdict.{assignVerdict, assignmentVerdict}
 use Rattle.policy.proofs.Readying.{one-within, two-within, limits-a}

@@ -17,7 +17,7 @@ use Rattle.policy.specs.Settings.{Settings, settings}
 use Rattle.policy.specs.Verdict.{labelVerdict, roleVerdict, assignmentVerdict, policyVerdict, verdict}
 use Rattle.policy.specs.Tables.{clearancesAt, cardLabelsAt, rLevelsAt, wLevelsAt, seniorsAt, assignedAt, readersAt, writersAt, word, markAt}
 use Rattle.policy.specs.Image.{Labelled, Dominating, Seniors, Permitting, Levelled, Assigning, Describes, Image}
-use Rattle.policy.specs.Stages.{Zeros, Noting, Ranking, Granting, Finishing, Built}
+use Rattle.policy.specs.inner.Stages.{Zeros, Noting, Ranking, Granting, Finishing, Built}
 
 -- ---- the verdict, stage by stage
 

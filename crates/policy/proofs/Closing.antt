@@ -12,7 +12,7 @@ use Rattle.search.proofs.Found.{wider}
 use Rattle.order.specs.Closure.{Relation, Agree, path, withItself, closure}
 use Rattle.order.specs.Table.{Rows}
 use Rattle.order.proofs.Closure.{via-agree}
-use Rattle.policy.specs.Stages.{PathRows}
+use Rattle.policy.specs.inner.Stages.{PathRows}
 use Rattle.policy.proofs.Inside.{Between}
 
 module _ (size n : ℕ) (e t u : Relation) where

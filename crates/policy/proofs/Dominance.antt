@@ -18,9 +18,9 @@ use Rattle.rolefile.specs.Section.{part}
 use Rattle.rolefile.proofs.Sections.{Section, says-two}
 use Rattle.rolefile.specs.WellFormed.{GoodLines}
 use Rattle.policy.specs.Settings.{dominates}
-use Rattle.policy.specs.Tables.{Marking}
+use Rattle.policy.specs.inner.Filling.{Marking}
 use Rattle.policy.specs.Verdict.{orderVerdict, labelVerdict, pairVerdict}
-use Rattle.policy.specs.Stages.{Paths, Closed}
+use Rattle.policy.specs.inner.Stages.{Paths, Closed}
 use Rattle.policy.proofs.Inside.{over-between}
 use Rattle.policy.proofs.Closing.{paths-table, closed-table}
 

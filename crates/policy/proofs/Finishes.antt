@@ -11,8 +11,9 @@ use Rattle.rolefile.specs.Line.{fields}
 use Rattle.rolefile.specs.Section.{part, pairs}
 use Rattle.rolefile.proofs.Sections.{says-two}
 use Rattle.policy.specs.declared.build.Parts.{Parts}
-use Rattle.policy.specs.Tables.{word, assignedAt, Related}
-use Rattle.policy.specs.Stages.{Ready, Zeros, Counting, Finishing}
+use Rattle.policy.specs.Tables.{word, assignedAt}
+use Rattle.policy.specs.inner.Filling.{Related}
+use Rattle.policy.specs.inner.Stages.{Ready, Zeros, Counting, Finishing}
 use Rattle.policy.proofs.Readying.{good-of, a-lines}
 use Rattle.policy.proofs.Relating.{unites-zeros}
 use Rattle.policy.proofs.Builds.{word-stays}

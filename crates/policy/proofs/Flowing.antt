@@ -18,7 +18,8 @@ use Rattle.order.specs.Closure.{Relation, Agree, path, loop, circle}
 use Rattle.order.specs.Table.{related, Tabled}
 use Rattle.order.proofs.Closure.{circle-agree, loop-circle}
 use Rattle.order.proofs.Placing.{placing-more, placing-pass, placing-left}
-use Rattle.policy.specs.Tables.{readersAt, writersAt, stateSize, isState, flowsByCard, flowing, pastCard, withoutLoops}
+use Rattle.policy.specs.Tables.{readersAt, writersAt, stateSize, isState, flowsByCard, flowing}
+use Rattle.policy.specs.inner.Filling.{pastCard, withoutLoops}
 
 -- ---- whether a slice is a state
 

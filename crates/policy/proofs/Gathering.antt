@@ -15,7 +15,8 @@ use Rattle.order.specs.Closure.{Relation, Agree}
 use Rattle.order.specs.Bound.{lub}
 use Rattle.order.proofs.Bound.{lub-agree}
 use Rattle.policy.specs.Policy.{levelAt, level, levelNumber}
-use Rattle.policy.specs.Tables.{byteOf, cardLabelsAt, brings, gathered}
+use Rattle.policy.specs.Tables.{byteOf, cardLabelsAt}
+use Rattle.policy.specs.inner.Filling.{brings, gathered}
 use Rattle.policy.proofs.Relating.{row-united}
 
 module _ (xs : List ℕ) (at o label : ℕ) (e : label ≡ getD xs (cardLabelsAt + o) 0) where

@@ -28,10 +28,11 @@ use Rattle.rolefile.proofs.Sections.{Section, says-three}
 use Rattle.policy.specs.declared.build.Parts.{Parts}
 use Rattle.policy.specs.Settings.{dominates, senior, settings}
 use Rattle.policy.specs.Policy.{may, mayAt, level, rLevel, wLevel, levelNumber}
-use Rattle.policy.specs.Tables.{rLevelsAt, wLevelsAt, seniorsAt, readersAt, writersAt, byteOf, markAt, DominanceRows}
-use Rattle.policy.specs.Tables.{lineGrants, grantedByLines, brings, gathered, Bytes, GrantedRows}
+use Rattle.policy.specs.Tables.{rLevelsAt, wLevelsAt, seniorsAt, readersAt, writersAt, byteOf, markAt}
+use Rattle.policy.specs.inner.Filling.{DominanceRows}
+use Rattle.policy.specs.inner.Filling.{lineGrants, grantedByLines, brings, gathered, Bytes, GrantedRows}
 use Rattle.policy.specs.Image.{Labelled, Seniors, Permitting, Allows}
-use Rattle.policy.specs.Stages.{Ready, Zeros, Closed, Granting}
+use Rattle.policy.specs.inner.Stages.{Ready, Zeros, Closed, Granting}
 use Rattle.policy.proofs.Readying.{good-of, counts-of, p-lines, one-within, limits-p}
 use Rattle.policy.proofs.Inside.{Between, closure-between, above-between}
 use Rattle.policy.proofs.Dominance.{closed-agree}

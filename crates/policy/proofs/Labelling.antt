@@ -23,8 +23,9 @@ use Rattle.rolefile.proofs.Sections.{Section, count-about, label-section}
 use Rattle.rolefile.specs.WellFormed.{GoodLines}
 use Rattle.rolefile.proofs.Verdicts.{refuses}
 use Rattle.policy.specs.declared.build.Parts.{Parts}
-use Rattle.policy.specs.Tables.{clearancesAt, cardLabelsAt, byteOf, noted, notes, NotedBytes, unlabelledByte, unlabelledIn}
-use Rattle.policy.specs.Stages.{Laid, Zeros, Noting}
+use Rattle.policy.specs.Tables.{clearancesAt, cardLabelsAt, byteOf}
+use Rattle.policy.specs.inner.Filling.{noted, notes, NotedBytes, unlabelledByte, unlabelledIn}
+use Rattle.policy.specs.inner.Stages.{Laid, Zeros, Noting}
 use Rattle.policy.proofs.Readying.{good-of, counts-of, u-lines, o-lines, one-within, two-within, limits-u, limits-o}
 
 -- ---- one byte

@@ -16,7 +16,7 @@ use Rattle.policy.specs.Verdict.{verdict}
 use Rattle.policy.specs.Accepted.{Accepted}
 use Rattle.policy.specs.Tables.{stateSize}
 use Rattle.policy.specs.Image.{Image, loadVerdict, Loaded}
-use Rattle.policy.specs.Stages.{Zeros, Built, Copied}
+use Rattle.policy.specs.inner.Stages.{Zeros, Built, Copied}
 use Rattle.policy.proofs.Outcomes.{accepted-iff}
 use Rattle.policy.proofs.Builds.{describes-stays, assigning-stays}
 

@@ -11,7 +11,8 @@ use borrow.Author.Tests.{eq-eqb, ne-eqb}
 use Rattle.search.specs.Search.{Among}
 use Rattle.roleset.proofs.Rows.{Written, kept-wider, kept-both, kept-more}
 use Rattle.rolefile.specs.Section.{one, two}
-use Rattle.policy.specs.Tables.{byteOf, Bytes, noted, afterNote, notes, NotedBytes}
+use Rattle.policy.specs.Tables.{byteOf}
+use Rattle.policy.specs.inner.Filling.{Bytes, noted, afterNote, notes, NotedBytes}
 
 -- a table's bytes, all written one by one
 pub all-stored : {at i size : ℕ} (v : ℕ → ℕ) {xs ys : List ℕ} → Written at i (λ k. v (k + 1)) xs ys → i ≡ size → Bytes at size v xs ys

@@ -23,9 +23,10 @@ use Rattle.rolefile.specs.Section.{part, pairs}
 use Rattle.rolefile.proofs.Sections.{says-two}
 use Rattle.rolefile.proofs.Verdicts.{refuses}
 use Rattle.policy.specs.Settings.{senior}
-use Rattle.policy.specs.Tables.{seniorsAt, Related}
+use Rattle.policy.specs.Tables.{seniorsAt}
+use Rattle.policy.specs.inner.Filling.{Related}
 use Rattle.policy.specs.Verdict.{roleVerdict}
-use Rattle.policy.specs.Stages.{Ready, Zeros, PathRows, Ranking}
+use Rattle.policy.specs.inner.Stages.{Ready, Zeros, PathRows, Ranking}
 use Rattle.policy.specs.declared.build.Parts.{Parts}
 use Rattle.policy.proofs.Readying.{good-of, counts-of, head-roles, s-lines}
 use Rattle.policy.proofs.Inside.{above-between}

@@ -17,7 +17,7 @@ use Rattle.rolefile.proofs.Decides.{decides-zero}
 use Rattle.rolefile.proofs.Formed.{header-counts, lines-decides}
 use Rattle.rolefile.proofs.Sections.{Cut, Section, cut-first, section-next, told}
 use Rattle.policy.specs.declared.build.Parts.{Parts}
-use Rattle.policy.specs.Stages.{Laid, Ready}
+use Rattle.policy.specs.inner.Stages.{Laid, Ready}
 
 -- what no refusal among 1 to 5 means
 module _ (f : List ℕ) (e : linesVerdict f .number ≡ 0) where

@@ -17,8 +17,9 @@ use Rattle.roleset.proofs.Rows.{row-kept, other-kept, kept-wider, kept-both, wh
 use Rattle.order.specs.Closure.{Relation, Agree}
 use Rattle.rolefile.specs.Section.{one, two, three, pairs}
 use Rattle.order.specs.Table.{related}
-use Rattle.policy.specs.Tables.{seniorsAt, readersAt, tableOf, lineGrants, grantedByLines, Related, GrantedRows, Unites}
-use Rattle.policy.specs.Stages.{Zeros}
+use Rattle.policy.specs.Tables.{seniorsAt, readersAt, tableOf}
+use Rattle.policy.specs.inner.Filling.{lineGrants, grantedByLines, Related, GrantedRows, Unites}
+use Rattle.policy.specs.inner.Stages.{Zeros}
 
 -- where one row of a table is placed, what stands outside the table stays
 module _ (at size x : ℕ) {s : ℕ → Bool} {xs ys : List ℕ} (p : Placed (rowOf at x) s xs ys) (w : Among size x) where

@@ -5,4 +5,4 @@ pub mod Flow
 pub mod Accepted
 pub mod Tables
 pub mod Image
-pub mod Stages
+pub mod inner

@@ -11,7 +11,8 @@ ghost use Rattle.search.specs.Search.{Among};
 ghost use Rattle.rolefile.specs.Line.{lines};
 ghost use Rattle.rolefile.specs.Form.{scan};
 ghost use Rattle.rolefile.specs.Section.{one, two};
-ghost use Rattle.policy.specs.Tables.{seniorsAt, assignByTables};
+ghost use Rattle.policy.specs.Tables.{seniorsAt};
+ghost use Rattle.policy.specs.inner.Filling.{assignByTables};
 
 // 14 to 16 for user u and role r.
 fn assign(s: &[u8], u: usize, r: usize) -> Verdict

@@ -23,7 +23,7 @@ ghost use Rattle.policy.specs.Tables.{clearancesAt, rLevelsAt, seniorsAt
 ghost use Rattle.policy.specs.Settings.{settings};
 ghost use Rattle.policy.specs.Image.{Labelled, Seniors, Levelled, Dominating};
 ghost use Rattle.policy.specs.Verdict.{orderVerdict, assignmentVerdict};
-ghost use Rattle.policy.specs.Stages.{Laid, Ready, Zeros, Noting, Paths, Closed, Ranking, Granting, Counting, Finishing, Built, Copied};
+ghost use Rattle.policy.specs.inner.Stages.{Laid, Ready, Zeros, Noting, Paths, Closed, Ranking, Granting, Counting, Finishing, Built, Copied};
 
 // The lines of one letter: how many stand before them, and how many they are.
 pub struct Part {

@@ -11,7 +11,8 @@ ghost use lib.ListN.{length};
 ghost use Rattle.search.specs.Search.{some};
 ghost use Rattle.order.specs.Closure.{Agree};
 ghost use Rattle.order.specs.Table.{related, Tabled};
-ghost use Rattle.policy.specs.Tables.{rLevelsAt, wLevelsAt, writersAt, stateSize, flowsByCard, pastCard, withoutLoops, countIn, roleCount, levelIn, flowsIn, circleIn};
+ghost use Rattle.policy.specs.Tables.{rLevelsAt, wLevelsAt, writersAt, stateSize, flowsByCard, countIn, roleCount, levelIn, flowsIn, circleIn};
+ghost use Rattle.policy.specs.inner.Filling.{pastCard, withoutLoops};
 
 // The count at `at` in the state, `most` where it is higher.
 fn count(s: &[u8], at: u16, most: usize) -> usize

@@ -12,7 +12,8 @@ ghost use Rattle.order.specs.Closure.{Agree};
 ghost use Rattle.order.specs.Bound.{converse};
 ghost use Rattle.order.specs.Table.{marks, mark, Upto, FirstThings, related};
 ghost use Rattle.policy.specs.Policy.{level, levelNumber};
-ghost use Rattle.policy.specs.Tables.{rLevelsAt, brings, gathered, Unites, Bytes};
+ghost use Rattle.policy.specs.Tables.{rLevelsAt};
+ghost use Rattle.policy.specs.inner.Filling.{brings, gathered, Unites, Bytes};
 
 // The bytes of a set of roles for each label.
 const GATHERED_BYTES: usize = ROW_BYTES * layout::LABELS;

@@ -5,7 +5,7 @@ ghost use Prim.Native.Nat.{_+_, _≤_};
 ghost use lib.ListN.{length};
 ghost use Rattle.search.specs.Search.{first};
 ghost use Rattle.rolefile.specs.Line.{lines};
-ghost use Rattle.policy.specs.Tables.{Bytes, noted, afterNote, NotedBytes, unlabelledIn};
+ghost use Rattle.policy.specs.inner.Filling.{Bytes, noted, afterNote, NotedBytes, unlabelledIn};
 
 // The byte of a thing without a label.
 const NONE: u8 = 0;

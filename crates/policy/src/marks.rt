@@ -9,7 +9,8 @@ ghost use Prim.Native.Nat.{_+_, _≤_};
 ghost use lib.ListN.{length};
 ghost use Rattle.order.specs.Table.{marks};
 ghost use Rattle.rolefile.specs.Line.{lines};
-ghost use Rattle.policy.specs.Tables.{clearancesAt, Bytes, Marking, WithPair, DominanceRows};
+ghost use Rattle.policy.specs.Tables.{clearancesAt};
+ghost use Rattle.policy.specs.inner.Filling.{Bytes, Marking, WithPair, DominanceRows};
 
 // Marks a over b in the table, if both are labels.
 fn add_pair(t: &mut Relation, a: usize, b: usize)

@@ -17,11 +17,11 @@ fn letters() -> [u8; 192]
 }
 
 // One read: its number, a blank, and its part.
-fn show(state: &[u8], store: &[u8], place: u64, card: u64, offset: u64, length: u64) {
-    let number = monitor::monitor_read_number(state, store, place, card, offset, length);
+fn show(state: &[u8], store: &[u8], place: u64, card: u64, offset: u64, count: u64) {
+    let number = monitor::monitor_read_number(state, store, place, card, offset, count);
     io::print_decimal(1, number);
     io::write_all(1, b" ");
-    io::write_all(1, monitor::read(state, store, place, card, offset, length));
+    io::write_all(1, monitor::read(state, store, place, card, offset, count));
     io::write_all(1, b"\n");
 }
 

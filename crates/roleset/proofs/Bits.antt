@@ -13,7 +13,8 @@ use lib.Dec.{eqb, eqb·zero-suc, eqb·suc-zero, eqb·suc-suc}
 use lib.Pow.{pow-pos, shl-exact, shr-shr, field, mod-mod-pow}
 use lib.Bits.{bitAnd, bitOr, bitXor, and-block, and-shr, and-mod, and-lt, and-le-l, and-le-r, or-shr, or-mod, or-add-and, xor-shr, xor-mod}
 use borrow.Author.Tests.{eqb-true, eq-eqb}
-use Rattle.roleset.specs.Row.{bit, littleEndian}
+use Rattle.roleset.specs.Row.{bit}
+use Rattle.roleset.specs.inner.Halves.{littleEndian}
 
 -- a binary digit, from whether it is 1
 abbrev digit : Bool → ℕ

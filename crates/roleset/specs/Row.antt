@@ -9,9 +9,8 @@
 --     Kept a b xs ys            every byte of ys but those from a up to b is xs's
 --     Placed at s xs ys         ys is xs with the set s in the row at `at`, and nothing else changed
 --     PlacedRows at n s xs ys   the same for n rows from `at` on
---     littleEndian n f          n bytes as one number
 -- Assumes nothing.
-use Prim.Native.Nat.{ℕ, zero, suc, _+_, _-_, _*_, _/_, _%_, _^_, _≤_, _<_}
+use Prim.Native.Nat.{ℕ, _+_, _-_, _*_, _/_, _%_, _^_, _≤_, _<_}
 use mathlib.Core.Path.{_≡_}
 use mathlib.Core.Bool.{Bool, true, not, _&&_, _||_}
 use mathlib.Core.List.{List}
@@ -42,10 +41,6 @@ member xs at r = among 128 r && bit (getD xs (at + roleByte r) 0) (roleBit r)
 
 unfoldable pub common : List ℕ → ℕ → ℕ → Bool
 common xs a b = whole xs a && whole xs b && some 128 (λ r. member xs a r && member xs b r)
-
--- b comes after `after`, and bit b of x is set, the bits counted from 1
-abbrev pub bitAfter : ℕ → ℕ → ℕ → Bool
-bitAfter x after b = not (leb b after) && bit x (b - 1)
 
 -- r comes after `after`, and the row holds it
 abbrev pub memberAfter : List ℕ → ℕ → ℕ → ℕ → Bool
@@ -101,12 +96,3 @@ pub record PlacedRows (at n : ℕ) (s : ℕ → ℕ → Bool) (xs ys : List ℕ)
   pub rows : at + 16 * n ≤ length xs → (i : ℕ) → i < n → (r : ℕ) → member ys (at + 16 * i) r ≡ s i r
   pub rest : Kept at (at + 16 * n) xs ys
   pub none : length xs < at + 16 * n → ys ≡ xs
-
--- the number whose n bytes are f's, the first of them lowest
-unfoldable pub littleEndian : ℕ → (ℕ → ℕ) → ℕ
-littleEndian zero f = 0
-littleEndian (suc n) f = f 0 + 256 * littleEndian n (λ k. f (suc k))
-
--- the eight bytes from `at` on, half a row, as one number
-abbrev pub halfAt : List ℕ → ℕ → ℕ
-halfAt xs at = littleEndian 8 (λ k. getD xs (at + k) 0)

@@ -7,7 +7,8 @@ ghost use Prim.Native.Nat.{ℕ, _+_, _-_, _*_, _≤_};
 ghost use lib.Dec.{leb};
 ghost use lib.ListN.{length};
 ghost use Rattle.search.specs.Search.{among, some, first, Among};
-ghost use Rattle.roleset.specs.Row.{member, bitAfter, nextMember, Placed, PlacedRows, added, removed, united, unitedWhere, halfAt};
+ghost use Rattle.roleset.specs.Row.{member, nextMember, Placed, PlacedRows, added, removed, united, unitedWhere};
+ghost use Rattle.roleset.specs.inner.Halves.{bitAfter, halfAt};
 
 // The roles of half a row.
 const HALF_ROLES: usize = ROLES / 2;

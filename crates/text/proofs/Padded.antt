@@ -12,7 +12,8 @@ use lib.Seq.{take-all, drop-at}
 use borrow.Author.Tests.{lt-ltb, le-ltb}
 use Rattle.rolefile.specs.Decimal.{lastDigits, digits, inColumns, padded}
 use Rattle.rolefile.proofs.Decimals.{last-single, last-more, same-digits}
-use Rattle.text.specs.Text.{digitOf, lastFive}
+use Rattle.text.specs.Text.{lastFive}
+use Rattle.text.specs.inner.Digit.{digitOf}
 
 -- ---- the last digits of n
 

@@ -1,9 +1,8 @@
 -- Text put into a buffer. Assumes nothing.
-use Prim.Native.Nat.{ℕ, zero, suc, _+_, _%_, _≤_}
+use Prim.Native.Nat.{ℕ, zero, suc, _+_, _≤_}
 use mathlib.Core.Path.{_≡_}
 use mathlib.Core.List.{List, [], _++_}
 use mathlib.Core.Bool.{Bool, cond}
-use lib.Dec.{ltb}
 use lib.ListN.{length, take}
 use Rattle.rolefile.specs.Decimal.{lastDigits, inColumns, blanks}
 
@@ -15,10 +14,6 @@ each (suc n) f = each n f ++ f (suc n)
 -- those of their pairs, by the first thing and then by the second
 abbrev pub eachPair : ℕ → (ℕ → ℕ → List ℕ) → List ℕ
 eachPair n f = each n (λ a. each n (f a))
-
--- what a column before the last shows, of a number less its digits after that column: the last digit of what is left, or a blank where nothing is
-abbrev pub digitOf : ℕ → ℕ
-digitOf n = cond (ltb n 1) 32 (48 + n % 10)
 
 -- the last five digits of a number, with blanks before them where it has fewer
 unfoldable pub lastFive : ℕ → List ℕ

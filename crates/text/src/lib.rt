@@ -6,7 +6,8 @@ ghost use Prim.Native.Nat.{_-_, _≤_, _<_};
 ghost use mathlib.Core.List.{_++_};
 ghost use lib.ListN.{length};
 ghost use Rattle.rolefile.specs.Decimal.{lastDigits, digits, columnsOf};
-ghost use Rattle.text.specs.Text.{Puts, digitOf, lastColumns};
+ghost use Rattle.text.specs.Text.{Puts, lastColumns};
+ghost use Rattle.text.specs.inner.Digit.{digitOf};
 
 // Puts bytes into `out` after its first `at` bytes, as far as there is room, and answers how many
 // are then in use.

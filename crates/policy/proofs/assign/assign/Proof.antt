@@ -6,7 +6,8 @@ use borrow.Author.Needs.{needs}
 use borrow.Author.Tests.{eq-eqb, ne-eqb}
 use denote.Ref.{now}
 use Rattle.search.proofs.Truth.{passed, failed}
-use Rattle.policy.specs.Tables.{byteOf, passesIn, clearancesAt, rLevelsAt, wLevelsAt, assignByTables}
+use Rattle.policy.specs.Tables.{byteOf, passesIn, clearancesAt, rLevelsAt, wLevelsAt}
+use Rattle.policy.specs.inner.Filling.{assignByTables}
 use Rattle.policy.proofs.assign.assign.Statement.{statement}
 use Rattle.policy.proofs.assign.assign.Tie as tie
 

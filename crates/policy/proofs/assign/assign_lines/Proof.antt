@@ -7,7 +7,7 @@ use denote.Ref.{now}
 use Rattle.rolefile.specs.Form.{scan}
 use Rattle.rolefile.specs.Section.{one, two}
 use Rattle.rolefile.proofs.Verdicts.{scan-yet, scan-found, scan-more, scan-clean}
-use Rattle.policy.specs.Tables.{assignByTables}
+use Rattle.policy.specs.inner.Filling.{assignByTables}
 use Rattle.policy.proofs.Assigning.{tables-clean}
 use Rattle.policy.proofs.assign.assign_lines.Statement.{statement}
 use Rattle.policy.proofs.assign.assign_lines.Tie as tie

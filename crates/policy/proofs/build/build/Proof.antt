@@ -12,7 +12,7 @@ use Rattle.rolefile.specs.Said.{labels}
 use Rattle.rolefile.proofs.Verdicts.{scan-clean}
 use Rattle.policy.proofs.Checks.{assignment-clean}
 use Rattle.policy.specs.Verdict.{labelVerdict, roleVerdict, assignmentVerdict, verdict}
-use Rattle.policy.specs.Stages.{Ready, Closed}
+use Rattle.policy.specs.inner.Stages.{Ready, Closed}
 use Rattle.policy.proofs.Readying.{counts-of, head-labels}
 use Rattle.policy.proofs.Dominance.{closed-of, order-verdict-is}
 use Rattle.policy.proofs.Builds.{refused-lines, refused-labels, refused-order, refused-roles, the-last, built-refused}

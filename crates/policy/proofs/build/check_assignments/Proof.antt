@@ -4,7 +4,7 @@ use native.Mathlib.Omega.{arith}
 use borrow.Author.Needs.{needs}
 use denote.Ref.{now}
 use Rattle.policy.specs.Settings.{settings}
-use Rattle.policy.specs.Tables.{assignByTables}
+use Rattle.policy.specs.inner.Filling.{assignByTables}
 use Rattle.policy.proofs.Readying.{good-of, counts-of, a-lines}
 use Rattle.policy.proofs.Inside.{dominates-inside}
 use Rattle.policy.proofs.Assigning.{tables-verdict, numbers-within, scan-assignments}

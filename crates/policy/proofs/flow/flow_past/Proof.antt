@@ -7,7 +7,8 @@ use denote.Ref.{now}
 use lib.ListN.{length}
 use Rattle.order.specs.Table.{Tabled}
 use Rattle.order.proofs.Placing.{placing-none}
-use Rattle.policy.specs.Tables.{writersAt, pastCard}
+use Rattle.policy.specs.Tables.{writersAt}
+use Rattle.policy.specs.inner.Filling.{pastCard}
 use Rattle.policy.proofs.Flowing.{Turn, next-taken, writer-within, writer-ahead, no-writer, writer-more}
 use Rattle.policy.proofs.flow.flow_past.Statement.{statement}
 use Rattle.policy.proofs.flow.flow_past.Tie as tie

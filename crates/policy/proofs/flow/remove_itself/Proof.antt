@@ -7,7 +7,7 @@ use denote.Ref.{now}
 use lib.ListN.{length}
 use Rattle.order.specs.Table.{Tabled}
 use Rattle.order.proofs.Placing.{placing-none}
-use Rattle.policy.specs.Tables.{withoutLoops}
+use Rattle.policy.specs.inner.Filling.{withoutLoops}
 use Rattle.policy.proofs.Flowing.{row-more, loop-removed}
 use Rattle.policy.proofs.flow.remove_itself.Statement.{statement}
 use Rattle.policy.proofs.flow.remove_itself.Tie as tie

@@ -7,7 +7,7 @@ use Rattle.roleset.proofs.Rows.{zero-rows}
 use Rattle.roleset.specs.Row.{rowOf}
 use Rattle.order.specs.Closure.{Agree}
 use Rattle.order.specs.Table.{related}
-use Rattle.policy.specs.Tables.{gathered}
+use Rattle.policy.specs.inner.Filling.{gathered}
 use Rattle.policy.proofs.Gathering.{gathered-more, gathered-yet}
 use Rattle.policy.proofs.gather.gather.Statement.{statement}
 use Rattle.policy.proofs.gather.gather.Tie as tie

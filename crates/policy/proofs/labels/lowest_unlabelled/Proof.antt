@@ -6,7 +6,7 @@ use native.Mathlib.Omega.{arith}
 use borrow.Author.Needs.{needs}
 use Rattle.search.specs.Search.{first}
 use Rattle.search.proofs.Found.{first-yet, first-found, first-more, first-vain}
-use Rattle.policy.specs.Tables.{unlabelledIn}
+use Rattle.policy.specs.inner.Filling.{unlabelledIn}
 use Rattle.policy.proofs.labels.lowest_unlabelled.Statement.{statement}
 use Rattle.policy.proofs.labels.lowest_unlabelled.Tie as tie
 

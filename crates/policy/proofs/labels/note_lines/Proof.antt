@@ -4,7 +4,7 @@ use mathlib.Core.Path.{_≡_}
 use native.Mathlib.Omega.{arith}
 use borrow.Author.Needs.{needs}
 use lib.ListN.{length}
-use Rattle.policy.specs.Tables.{NotedBytes}
+use Rattle.policy.specs.inner.Filling.{NotedBytes}
 use Rattle.policy.proofs.Noted.{notes-none, notes-more}
 use Rattle.policy.proofs.labels.note_lines.Statement.{statement}
 use Rattle.policy.proofs.labels.note_lines.Tie as tie

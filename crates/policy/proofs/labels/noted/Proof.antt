@@ -1,7 +1,7 @@
 -- The code branches as `noted` does.
 use borrow.Author.Needs.{needs}
 use borrow.Author.Tests.{eq-eqb, ne-eqb}
-use Rattle.policy.specs.Tables.{noted}
+use Rattle.policy.specs.inner.Filling.{noted}
 use Rattle.policy.proofs.labels.noted.Statement.{statement}
 use Rattle.policy.proofs.labels.noted.Tie as tie
 

@@ -4,7 +4,7 @@ use mathlib.Core.Path.{_≡_}
 use native.Mathlib.Omega.{arith}
 use borrow.Author.Needs.{needs}
 use lib.ListN.{length}
-use Rattle.policy.specs.Tables.{Marking}
+use Rattle.policy.specs.inner.Filling.{Marking}
 use Rattle.policy.proofs.Marked.{marks-none, marks-more}
 use Rattle.policy.proofs.marks.marks_of.Statement.{statement}
 use Rattle.policy.proofs.marks.marks_of.Tie as tie

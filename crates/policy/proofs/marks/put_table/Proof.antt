@@ -4,7 +4,7 @@ use mathlib.Core.Path.{_≡_}
 use native.Mathlib.Omega.{arith}
 use borrow.Author.Needs.{needs}
 use lib.ListN.{length}
-use Rattle.policy.specs.Tables.{DominanceRows}
+use Rattle.policy.specs.inner.Filling.{DominanceRows}
 use Rattle.policy.proofs.Marked.{put-none, put-more}
 use Rattle.policy.proofs.marks.put_table.Statement.{statement}
 use Rattle.policy.proofs.marks.put_table.Tie as tie

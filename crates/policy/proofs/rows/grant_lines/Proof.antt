@@ -5,7 +5,7 @@ use native.Mathlib.Omega.{arith}
 use borrow.Author.Needs.{needs}
 use denote.Ref.{now}
 use lib.ListN.{length}
-use Rattle.policy.specs.Tables.{grantedByLines, GrantedRows}
+use Rattle.policy.specs.inner.Filling.{grantedByLines, GrantedRows}
 use Rattle.policy.proofs.Relating.{granted-none, granted-as, granted-more, granted-line, granted-yet}
 use Rattle.policy.proofs.rows.grant_lines.Statement.{statement}
 use Rattle.policy.proofs.rows.grant_lines.Tie as tie

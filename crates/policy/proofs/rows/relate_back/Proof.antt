@@ -6,7 +6,7 @@ use borrow.Author.Needs.{needs}
 use denote.Ref.{now}
 use lib.ListN.{length}
 use Rattle.rolefile.specs.Section.{pairs}
-use Rattle.policy.specs.Tables.{Related}
+use Rattle.policy.specs.inner.Filling.{Related}
 use Rattle.policy.proofs.Relating.{related-none, related-as, related-more, pairs-back, pairs-none}
 use Rattle.policy.proofs.rows.relate_back.Statement.{statement}
 use Rattle.policy.proofs.rows.relate_back.Tie as tie

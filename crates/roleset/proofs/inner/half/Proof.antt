@@ -6,7 +6,7 @@ use native.Mathlib.Omega.{arith}
 use lib.ListN.{getD}
 use borrow.Author.Needs.{needs}
 use denote.Ref.{now}
-use Rattle.roleset.specs.Row.{littleEndian, halfAt}
+use Rattle.roleset.specs.inner.Halves.{littleEndian, halfAt}
 use Rattle.roleset.proofs.inner.half.Statement.{statement}
 use Rattle.roleset.proofs.inner.half.Tie as tie
 

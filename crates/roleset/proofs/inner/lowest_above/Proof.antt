@@ -10,7 +10,8 @@ use borrow.Author.Needs.{needs}
 use borrow.Author.Tests.{le-leb, lt-leb}
 use Rattle.search.specs.Search.{first, Among}
 use Rattle.search.proofs.Found.{first-none, first-lowest}
-use Rattle.roleset.specs.Row.{bit, bitAfter}
+use Rattle.roleset.specs.Row.{bit}
+use Rattle.roleset.specs.inner.Halves.{bitAfter}
 use Rattle.roleset.proofs.Bits.{bit-zero, bit-shr, trailing-clear, trailing-set, trailing-within}
 use Rattle.roleset.proofs.inner.lowest_above.Statement.{statement}
 use Rattle.roleset.proofs.inner.lowest_above.Tie as tie

@@ -14,7 +14,8 @@ use borrow.Author.Tests.{eqb-true, eq-eqb, not-true}
 use Rattle.search.specs.Search.{some}
 use Rattle.search.proofs.Truth.{same}
 use Rattle.search.proofs.Found.{None, some-none}
-use Rattle.roleset.specs.Row.{AllBytes, bit, roleByte, roleBit, member, halfAt}
+use Rattle.roleset.specs.Row.{AllBytes, bit, roleByte, roleBit, member}
+use Rattle.roleset.specs.inner.Halves.{halfAt}
 use Rattle.roleset.proofs.Bits.{and-none, or-none, bytes-apart}
 use Rattle.roleset.proofs.Rows.{bit-member}
 use Rattle.roleset.proofs.inner.meet.Statement.{statement}

@@ -8,7 +8,8 @@ use borrow.Author.Needs.{needs}
 use Rattle.search.specs.Search.{first, Among}
 use Rattle.search.proofs.Truth.{among-iff, leb-same}
 use Rattle.search.proofs.Found.{first-agree, first-sooner, first-never, first-later, first-within}
-use Rattle.roleset.specs.Row.{AllBytes, bit, roleByte, roleBit, member, bitAfter, memberAfter, halfAt}
+use Rattle.roleset.specs.Row.{AllBytes, bit, roleByte, roleBit, member, memberAfter}
+use Rattle.roleset.specs.inner.Halves.{bitAfter, halfAt}
 use Rattle.roleset.proofs.Bits.{bit-byte}
 use Rattle.roleset.proofs.inner.next.Statement.{statement}
 use Rattle.roleset.proofs.inner.next.Tie as tie
