@@ -7,9 +7,6 @@
 pub use crate::answer::{Figure, Verdict};
 
 use crate::c;
-// Referred to, so that the linker finds its functions.
-#[cfg(stand_in)]
-use stand_in as _;
 
 /// The library the tests are linked with.
 pub const UNDER_TEST: &str = env!("LIBRARY_UNDER_TEST");
