@@ -4,7 +4,7 @@
 //! pointer to const: a library that writes there all the same is then seen by
 //! a comparison.
 
-pub use crate::answer::{Figure, Verdict};
+pub use monitor_model::answer::{Figure, Verdict};
 
 use crate::c;
 

@@ -4,7 +4,7 @@ use crate::call::{Answer, Call, Kind};
 use crate::generate::{accepted_file, reading, Caller, Lending, LentState};
 use crate::lent::Lent;
 use crate::library;
-use crate::model::{Model, CARD_BYTES, PLACES, STATE_BYTES};
+use monitor_model::{Model, CARD_BYTES, PLACES, STATE_BYTES};
 use second_checker::check::Counts;
 use second_checker::differential::Totals;
 use second_checker::random::Random;
