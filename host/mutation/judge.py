@@ -210,7 +210,7 @@ def judged_by(crate):
     folders = [own / part for part in ("src", "specs", "proofs")]
     if is_program(crate):
         folders += [own / part for part in ("stdin", "stdout", "args", "data")]
-        folders += [ROOT / "host" / part for part in ("cases", "checker/src", "rights/src", "rights/tests")]
+        folders += [ROOT / "host" / part for part in ("cases", "checker/src", "model/src", "rights/src", "rights/tests")]
     for folder in folders:
         yield from sorted(path for path in [folder, *folder.rglob("*")] if path.is_file())
 

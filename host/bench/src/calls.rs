@@ -1,6 +1,6 @@
 //! Batches of calls of one kind.
 
-use crate::monitor::Monitor;
+use crate::monitor::{Figure, Monitor};
 use std::hint::black_box;
 
 /// What a batch calls. A kind of two calls makes the first at 64 places, then the second at the
@@ -49,6 +49,11 @@ fn sum(batch: &[Arguments], mut answer: impl FnMut([u64; 4]) -> u64) -> u64 {
     answers.sum()
 }
 
+/// The number and the figure in one: a refusal has the figure 0.
+fn in_one(report: Figure) -> u64 {
+    report.number + report.figure
+}
+
 /// Makes two calls at 64 places each time.
 fn in_turn<M: Monitor>(monitor: &mut M, first: Kind, second: Kind, batch: &[Arguments]) -> u64 {
     let both = |part| run(monitor, first, part) + run(monitor, second, part);
@@ -73,7 +78,7 @@ pub fn run<M: Monitor>(m: &mut M, kind: Kind, batch: &[Arguments]) -> u64 {
         Kind::Write => sum(batch, |[place, card, offset, length]| {
             m.write(place, card, offset, &bytes[..length as usize])
         }),
-        Kind::Flows => sum(batch, |[from, to, ..]| m.flows(from, to).sum()),
-        Kind::Circle => sum(batch, |_| m.circle().sum()),
+        Kind::Flows => sum(batch, |[from, to, ..]| in_one(m.flows(from, to))),
+        Kind::Circle => sum(batch, |_| in_one(m.circle())),
     }
 }

@@ -3,9 +3,10 @@
 use crate::calls::Arguments;
 use crate::seats::roles_held;
 use second_checker::check::Counts;
+use second_checker::random::Random;
 
 pub struct Draw {
-    number: u64,
+    random: Random,
     turn: u16,
     roles: u16,
     users: u16,
@@ -18,7 +19,7 @@ impl Draw {
     /// Draws within the counts of a file.
     pub fn new(counts: Counts, held: u16) -> Draw {
         Draw {
-            number: 0x9e37_79b9_7f4a_7c15,
+            random: Random::new(1),
             turn: 0,
             roles: counts.roles as u16,
             users: counts.users as u16,
@@ -28,10 +29,7 @@ impl Draw {
     }
 
     fn between(&mut self, first: u16, last: u16) -> u16 {
-        self.number ^= self.number << 13;
-        self.number ^= self.number >> 7;
-        self.number ^= self.number << 17;
-        first + (self.number >> 32) as u16 % (last - first + 1)
+        self.random.between(first.into(), last.into()) as u16
     }
 
     /// The 64 places in turn, out of order.

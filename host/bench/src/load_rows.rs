@@ -5,9 +5,8 @@ use crate::plain::STATE;
 use crate::table::Row;
 use crate::timing::{Three, Times};
 use crate::{files, proved};
+use second_checker::example::TWO_MAKERS;
 use second_checker::generate::write;
-
-const TWO_MAKERS: &[u8] = include_bytes!("../../../examples/two-makers.role");
 
 fn print_load(what: &str, [proved, plain, simple]: Three<Times>) {
     let row = Row {
@@ -29,7 +28,7 @@ fn report_accepted(rounds: usize) {
         "load of two-makers.role, 2,064 lines",
         "load of one line",
     ];
-    let files: [&[u8]; 3] = [&largest, TWO_MAKERS, &smallest];
+    let files: [&[u8]; 3] = [&largest, TWO_MAKERS.as_bytes(), &smallest];
     files.iter().for_each(|file| agree(file, 0));
     for (what, times) in names.iter().zip(measure(ALL, &files, rounds)) {
         print_load(what, times);

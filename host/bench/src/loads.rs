@@ -15,7 +15,7 @@ pub const PROVED_AND_PLAIN: [Load; 2] = [proved::load, plain::load];
 
 /// The simple load, which keeps its policy to itself and drops it.
 fn simple_load(file: &[u8], _state: &mut [u8]) -> Verdict {
-    simple::load(file).err().unwrap_or(Verdict::ACCEPTED)
+    simple::load(file).err().unwrap_or_default()
 }
 
 /// The loads give this number and the same place, and proved and plain the same bytes; a refusal

@@ -1,13 +1,5 @@
 //! Times of the proved monitor beside plain Rust and a simple version.
 
-// The C interface as ../monitor has it; not all of it is used here.
-#[allow(dead_code)]
-#[path = "../../monitor/src/answer.rs"]
-mod answer;
-#[allow(dead_code)]
-#[path = "../../monitor/src/c.rs"]
-mod c;
-
 mod call_rows;
 mod calls;
 mod cases;

@@ -1,19 +1,12 @@
 //! The session calls of a monitor that has loaded a role file, and the buffers it is lent.
 
-pub use crate::answer::Figure;
+pub use monitor_tests::library::Figure;
 
 use crate::plain::STATE;
 use std::hint::black_box;
 
 /// The bytes of a store of 512 cards.
 pub const STORE: usize = 64 * 512;
-
-impl Figure {
-    /// The number and the figure in one: a refusal has the figure 0.
-    pub fn sum(self) -> u64 {
-        self.number + self.figure
-    }
-}
 
 /// What each version of the monitor answers. Numbers are those of the C interface.
 pub trait Monitor {

@@ -1,8 +1,8 @@
 //! The proved monitor, as a C server calls it.
 
-use crate::c;
 use crate::monitor::{Figure, Lent, Monitor};
 use crate::verdict::Verdict;
+use monitor_tests::c;
 
 // SAFETY, of every call here: each pointer comes with the length of its slice, and the slices of a
 // call do not overlap.

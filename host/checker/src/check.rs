@@ -98,6 +98,13 @@ pub struct Counts {
     pub cards: usize,
 }
 
+impl Counts {
+    /// As the H line has them.
+    pub fn in_order(self) -> [usize; 4] {
+        [self.labels, self.roles, self.users, self.cards]
+    }
+}
+
 /// The numbers of a role file, each letter's lines in file order.
 #[derive(Clone, Debug, Default, PartialEq, Eq)]
 pub struct RoleFile {

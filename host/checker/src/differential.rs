@@ -1,7 +1,9 @@
 //! What the programs that compare have in common: their arguments, the
 //! comparisons of a run, and whether it passed.
 
+use std::collections::BTreeMap;
 use std::io::{self, Write};
+use std::ops::AddAssign;
 use std::process::ExitCode;
 use std::sync::atomic::{AtomicU64, Ordering};
 use std::sync::Mutex;
@@ -21,6 +23,16 @@ pub trait Totals: Default + Send {
 
     /// What a run must see, and this one never saw.
     fn unseen(&self) -> Vec<String>;
+}
+
+/// Adds what was counted elsewhere, each to the count of the same name.
+pub fn add_counts<K: Ord, N: Default + AddAssign>(
+    counts: &mut BTreeMap<K, N>,
+    others: BTreeMap<K, N>,
+) {
+    for (name, count) in others {
+        *counts.entry(name).or_default() += count;
+    }
 }
 
 /// Does what the arguments ask for; says how the program is used where `start`

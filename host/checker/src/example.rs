@@ -1,9 +1,12 @@
-//! Document 01's example file, and files written with single blanks.
+//! The example files, and files written with single blanks.
 
-/// The example file.
+/// Document 01's example file.
 pub const EXAMPLE: &str = include_str!("../../../examples/document.role");
 
-/// The example file with single blanks, for tests that change its lines.
+/// The file of the two makers, which is longer.
+pub const TWO_MAKERS: &str = include_str!("../../../examples/two-makers.role");
+
+/// Document 01's example file with single blanks, for tests that change its lines.
 pub fn example() -> String {
     let words = |line: &str| line.split_whitespace().collect::<Vec<_>>().join(" ");
     EXAMPLE.lines().map(|line| words(line) + "\n").collect()

@@ -73,11 +73,7 @@ pub fn mixed(seed: u64, index: u64) -> Vec<u8> {
 
 /// The bytes of a role file, each letter's lines as they stand.
 pub fn write(file: &RoleFile) -> Vec<u8> {
-    let counts = &file.counts;
-    let mut bytes = print_line(
-        b'H',
-        &[counts.labels, counts.roles, counts.users, counts.cards],
-    );
+    let mut bytes = print_line(b'H', &file.counts.in_order());
     let letters_of_two = [
         (b'D', &file.dominance),
         (b'S', &file.seniority),

@@ -1,7 +1,7 @@
 //! Counts of the files of a run: by number, by lines and by what they say.
 
 use crate::check::REFUSALS;
-use crate::differential::Totals;
+use crate::differential::{add_counts, Totals};
 use crate::line::{has_assignments, LINE_LENGTH, MOST_LINES};
 use crate::{Level, Outcome, RoleLevels};
 use std::collections::BTreeMap;
@@ -57,9 +57,7 @@ impl Tally {
 impl Totals for Tally {
     fn add(&mut self, other: Tally) {
         self.files += other.files;
-        for (number, seen) in other.numbers {
-            *self.numbers.entry(number).or_default() += seen;
-        }
+        add_counts(&mut self.numbers, other.numbers);
         for (class, files) in self.classes.iter_mut().zip(other.classes) {
             *class += files;
         }

@@ -1,7 +1,7 @@
 //! The cases of document 01 about files, and more on the edges. The expected
 //! values are worked out by hand from the document.
 
-use second_checker::example::{example, role_file, EXAMPLE};
+use second_checker::example::{example, role_file, EXAMPLE, TWO_MAKERS};
 use second_checker::{check, report, Level, Outcome};
 
 fn text(bytes: &[u8]) -> String {
@@ -636,6 +636,6 @@ fn role_flow_by_inheritance() {
 
 #[test]
 fn the_two_makers() {
-    let makers = include_bytes!("../../../examples/two-makers.role");
-    assert_eq!(check(makers).number(), 0, "{:?}", check(makers).place());
+    let outcome = check(TWO_MAKERS.as_bytes());
+    assert_eq!(outcome.number(), 0, "{:?}", outcome.place());
 }

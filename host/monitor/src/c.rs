@@ -1,6 +1,6 @@
 //! The C functions of include/monitor.h.
 
-use crate::answer::{Figure, Verdict};
+use monitor_model::answer::{Figure, Verdict};
 
 extern "C" {
     pub fn monitor_load(

@@ -3,7 +3,7 @@
 
 use crate::lent::Lent;
 use crate::library::{self, Figure, Verdict};
-use crate::model::{Mode, Model, Part};
+use monitor_model::{Mode, Model, Part, STATE_BYTES};
 use second_checker::random::Random;
 use std::fmt;
 
@@ -191,11 +191,7 @@ impl Call {
     pub fn number_on_model(&self, model: &Model, state: usize, store: usize) -> u64 {
         let refusal = match self {
             Call::Load { .. } => {
-                return if state < crate::model::STATE_BYTES {
-                    7
-                } else {
-                    0
-                }
+                return if state < STATE_BYTES { 7 } else { 0 };
             }
             Call::Open { place, user, label } => model.opening(state, *place, *user, *label).err(),
             Call::Close { place } => model.closing(state, *place).err(),

@@ -2,7 +2,7 @@
 
 use crate::lent::Lent;
 use crate::library::{self, Verdict};
-use crate::model::STATE_BYTES;
+use monitor_model::STATE_BYTES;
 use second_checker::program::{first_difference, run};
 use second_checker::random::Random;
 use second_checker::tally::Tally;

@@ -2,7 +2,7 @@
 //! numbers.
 
 use crate::call::{Call, Kind};
-use crate::model::{Mode, Model, Part, Policy, CARD_BYTES, PLACES, STATE_BYTES};
+use monitor_model::{Mode, Model, Part, Policy, CARD_BYTES, PLACES, STATE_BYTES};
 use second_checker::check::REFUSALS;
 use second_checker::generate::{
     accepted, bent, bent_small, mixed, sparse_flow, write, Size, LIMITS,

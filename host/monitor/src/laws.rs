@@ -2,7 +2,7 @@
 //! holds.
 
 use crate::call::{Answer, Call, Kind};
-use crate::model::{Part, CARD_BYTES, PLACES, STATE_BYTES};
+use monitor_model::{Part, CARD_BYTES, PLACES, STATE_BYTES};
 use second_checker::generate::LIMITS;
 
 /// A lent buffer before and after a call.

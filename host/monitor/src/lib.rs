@@ -1,7 +1,6 @@
-//! Host tests for the monitor's C library: an independent model of document
-//! 01, wrappers over the C functions, and random calls made on both.
+//! Host tests for the monitor's C library: wrappers over its functions, and
+//! random calls made on it and on the model.
 
-pub mod answer;
 pub mod c;
 pub mod call;
 pub mod files;
@@ -11,5 +10,4 @@ pub mod lent;
 pub mod library;
 pub mod lists;
 pub mod loaded;
-pub mod model;
 pub mod pairs;

@@ -4,12 +4,9 @@
 //! pointer to const: a library that writes there all the same is then seen by
 //! a comparison.
 
-pub use crate::answer::{Figure, Verdict};
+pub use monitor_model::answer::{Figure, Verdict};
 
 use crate::c;
-// Referred to, so that the linker finds its functions.
-#[cfg(stand_in)]
-use stand_in as _;
 
 /// The library the tests are linked with.
 pub const UNDER_TEST: &str = env!("LIBRARY_UNDER_TEST");

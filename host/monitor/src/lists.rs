@@ -4,9 +4,9 @@ use crate::call::{Answer, Call, Kind};
 use crate::generate::{accepted_file, reading, Caller, Lending, LentState};
 use crate::lent::Lent;
 use crate::library;
-use crate::model::{Model, CARD_BYTES, PLACES, STATE_BYTES};
+use monitor_model::{Model, CARD_BYTES, PLACES, STATE_BYTES};
 use second_checker::check::Counts;
-use second_checker::differential::Totals;
+use second_checker::differential::{add_counts, Totals};
 use second_checker::random::Random;
 use std::collections::BTreeMap;
 
@@ -46,12 +46,8 @@ impl Tally {
 
 impl Totals for Tally {
     fn add(&mut self, other: Tally) {
-        for (key, count) in other.numbers {
-            *self.numbers.entry(key).or_default() += count;
-        }
-        for (kind, count) in other.figures {
-            *self.figures.entry(kind).or_default() += count;
-        }
+        add_counts(&mut self.numbers, other.numbers);
+        add_counts(&mut self.figures, other.figures);
         self.lists += other.lists;
         self.surveyed += other.surveyed;
     }

@@ -1,7 +1,7 @@
 //! A file loaded by the library and by the model.
 
 use crate::library;
-use crate::model::{Model, Policy, STATE_BYTES};
+use monitor_model::{Model, Policy, STATE_BYTES};
 
 pub struct Loaded {
     pub state: Vec<u8>,

@@ -13,8 +13,8 @@ pub mod tracker;
 
 use crate::call::Call;
 use crate::generate::some_places;
-use crate::model::{Policy, CARD_BYTES};
 use caller::Caller;
+use monitor_model::{Policy, CARD_BYTES};
 use second_checker::check::RoleFile;
 use second_checker::generate::write;
 use second_checker::random::Random;

@@ -1,12 +1,12 @@
 //! Short, empty and long buffers, and NULL with length 0.
 
+use monitor_model::{Model, STATE_BYTES};
 use monitor_tests::c;
 use monitor_tests::call::{Answer, Call, Kind};
 use monitor_tests::generate::{accepted_file, any_call, Caller, LentState};
 use monitor_tests::lent::Lent;
 use monitor_tests::library::{self, Figure, Verdict};
 use monitor_tests::loaded::Loaded;
-use monitor_tests::model::{Model, STATE_BYTES};
 use second_checker::example::EXAMPLE;
 use second_checker::random::Random;
 use std::ptr::{null, null_mut};

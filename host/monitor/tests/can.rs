@@ -1,10 +1,10 @@
 //! What a user can, against the model and against the calls themselves.
 
+use monitor_model::{Mode, Model, Policy, CARD_BYTES, STATE_BYTES};
 use monitor_tests::c;
 use monitor_tests::generate::{accepted_file, number, wild_number};
 use monitor_tests::library::{self, Figure};
 use monitor_tests::loaded::Loaded;
-use monitor_tests::model::{Mode, Model, Policy, CARD_BYTES, STATE_BYTES};
 use second_checker::differential::show;
 use second_checker::example::EXAMPLE;
 use second_checker::random::Random;

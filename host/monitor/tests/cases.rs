@@ -1,10 +1,10 @@
 //! Document 01's cases about sessions, worked out by hand, on the library and
 //! on the model alike.
 
+use monitor_model::{Model, STATE_BYTES};
 use monitor_tests::call::{Answer, Call};
 use monitor_tests::generate::reading;
 use monitor_tests::library::{Figure, Verdict};
-use monitor_tests::model::{Model, STATE_BYTES};
 use second_checker::example::{example, role_file};
 use second_checker::random::Random;
 

@@ -1,9 +1,9 @@
 //! Role flow against the model: every pair of roles, and the circle.
 
+use monitor_model::STATE_BYTES;
 use monitor_tests::generate::{accepted_file, wild_number};
 use monitor_tests::library::{self, Figure};
 use monitor_tests::loaded::Loaded;
-use monitor_tests::model::STATE_BYTES;
 use second_checker::generate::{sparse_flow, write};
 use second_checker::random::Random;
 

@@ -1,11 +1,11 @@
 //! What a load does to the state, refused or done.
 
+use monitor_model::{Model, PLACES, STATE_BYTES};
 use monitor_tests::generate::accepted_file;
 use monitor_tests::lent::Lent;
 use monitor_tests::library::{self, Verdict};
 use monitor_tests::lists::first_difference;
 use monitor_tests::loaded::Loaded;
-use monitor_tests::model::{Model, PLACES, STATE_BYTES};
 use second_checker::check::REFUSALS;
 use second_checker::differential::show;
 use second_checker::example::EXAMPLE;

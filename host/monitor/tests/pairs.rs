@@ -1,8 +1,8 @@
 //! "Two runs side by side", tried on random pairs of runs.
 
+use monitor_model::Model;
 use monitor_tests::call::{Call, Kind};
 use monitor_tests::library::UNDER_TEST;
-use monitor_tests::model::Model;
 use monitor_tests::pairs::compare::{compare, on_library};
 use monitor_tests::pairs::leaks::{caught, Leak};
 use monitor_tests::pairs::tally::Tally;

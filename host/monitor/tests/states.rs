@@ -2,13 +2,13 @@
 //! damaged. A call gets some number of its list, keeps to its buffers and
 //! does the same each time.
 
+use monitor_model::{Model, STATE_BYTES};
 use monitor_tests::call::{Answer, Call, Kind};
 use monitor_tests::generate::{any_call, wild_number, Caller};
 use monitor_tests::laws::{self, Change};
 use monitor_tests::lent::Lent;
 use monitor_tests::library;
 use monitor_tests::lists::{List, Tally};
-use monitor_tests::model::{Model, STATE_BYTES};
 use second_checker::differential::show;
 use second_checker::generate::LIMITS;
 use second_checker::random::Random;

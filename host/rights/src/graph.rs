@@ -1,6 +1,6 @@
 //! An accepted file as Graphviz text: labels, roles and role flow.
 
-use crate::model::Policy;
+use monitor_model::Policy;
 use second_checker::order::{reached, steps, Order};
 use std::collections::BTreeSet;
 

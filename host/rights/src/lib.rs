@@ -1,12 +1,5 @@
 //! What the program `rights` must print, from the independent model's reading
 //! of a file, and random files and arguments to hold the program against it.
-//!
-//! It takes the model's file, not its package, whose build links an archive.
-
-#[path = "../../monitor/src/answer.rs"]
-pub mod answer;
-#[path = "../../monitor/src/model.rs"]
-pub mod model;
 
 pub mod graph;
 pub mod list;
@@ -15,7 +8,7 @@ pub mod refusal;
 pub mod report;
 pub mod temporary;
 
-use model::Policy;
+use monitor_model::Policy;
 use second_checker::program;
 use std::ffi::OsString;
 use std::io;

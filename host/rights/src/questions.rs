@@ -4,7 +4,7 @@
 use crate::temporary::Temporary;
 use crate::{expected, graph, refusal, run, Printed};
 use second_checker::check::{read, Counts, RoleFile, REFUSALS};
-use second_checker::differential::Totals;
+use second_checker::differential::{add_counts, Totals};
 use second_checker::generate::{
     accepted, bent_small, flow_permissions, flow_ring, mixed, sparse_flow, write, Size,
 };
@@ -256,9 +256,7 @@ impl Seen {
 impl Totals for Seen {
     fn add(&mut self, other: Seen) {
         self.files.add(other.files);
-        for (name, questions) in other.wanted {
-            *self.wanted.entry(name).or_default() += questions;
-        }
+        add_counts(&mut self.wanted, other.wanted);
         self.bytes += other.bytes;
     }
 

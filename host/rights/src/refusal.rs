@@ -1,6 +1,6 @@
 //! What is said of a refused file.
 
-use crate::answer::Verdict;
+use monitor_model::answer::Verdict;
 use second_checker::line::LINE_LENGTH;
 
 /// What a number means to who wrote the file.

@@ -1,7 +1,7 @@
 //! What users have by an accepted file.
 
 use crate::list;
-use crate::model::{Mode, Policy};
+use monitor_model::{Mode, Policy};
 use std::collections::BTreeSet;
 
 type Numbers = BTreeSet<usize>;

@@ -1,5 +1,5 @@
 //! The program that RIGHTS_BIN names, against what it must print. Without
-//! RIGHTS_BIN the stand-in is tested: the model's own text, printed.
+//! RIGHTS_BIN it is the one that `make rights` built.
 
 use rights_tests::questions::{compare, same, Seen};
 use rights_tests::temporary::Temporary;
@@ -21,10 +21,12 @@ const USAGE: &str = "usage: rights FILE [USER ...] | rights dot FILE";
 
 const NO_USER: &str = " is not the number of a user of this file";
 
+const BUILT: &str = concat!(env!("CARGO_MANIFEST_DIR"), "/../../target/bin/rights");
+
 fn program() -> PathBuf {
     match std::env::var_os("RIGHTS_BIN") {
         Some(path) if !path.is_empty() => PathBuf::from(path),
-        _ => PathBuf::from(env!("CARGO_BIN_EXE_second-rights")),
+        _ => PathBuf::from(BUILT),
     }
 }
 

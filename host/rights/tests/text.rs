@@ -1,8 +1,8 @@
 //! What must be printed, of files small enough to be read by hand.
 
-use rights_tests::answer::Verdict;
+use monitor_model::answer::Verdict;
+use monitor_model::{Model, Policy, STATE_BYTES};
 use rights_tests::list;
-use rights_tests::model::{Model, Policy, STATE_BYTES};
 use rights_tests::{graph, refusal, report};
 use second_checker::check::REFUSALS;
 use second_checker::example::EXAMPLE;

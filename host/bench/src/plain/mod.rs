@@ -44,7 +44,7 @@ pub fn load(file: &[u8], state: &mut [u8]) -> Verdict {
     match build::build(file, &mut scratch) {
         Ok(()) => {
             state[..STATE].copy_from_slice(&scratch);
-            Verdict::ACCEPTED
+            Verdict::default()
         }
         Err(verdict) => verdict,
     }

@@ -1,14 +1,7 @@
-//! The model of ../monitor for C: a handle for what a state holds, and the
-//! calls by it. It takes the model's file, not its package, whose build links
-//! an archive.
+//! The model for C: a handle for what a state holds, and the calls by it.
 
-#[path = "../../../monitor/src/answer.rs"]
-pub mod answer;
-#[path = "../../../monitor/src/model.rs"]
-pub mod model;
-
-use answer::{Figure, Verdict};
-use model::{Model, Part};
+use monitor_model::answer::{Figure, Verdict};
+use monitor_model::{Model, Part};
 use std::slice::{from_raw_parts, from_raw_parts_mut};
 
 /// A call's numbers as target.c hands them in, whatever the call uses of them.

@@ -5,7 +5,7 @@
 use super::tracker::{Opened, Tracker};
 use crate::call::{Call, Kind};
 use crate::generate::{bad_span, good_span, number, place_among, reading, writing};
-use crate::model::{Mode, Policy};
+use monitor_model::{Mode, Policy};
 use second_checker::random::Random;
 use std::collections::{BTreeMap, BTreeSet};
 

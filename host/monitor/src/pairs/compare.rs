@@ -4,7 +4,7 @@ use super::monitor::{Library, Monitor};
 use super::tally::Tally;
 use super::{Pair, Run};
 use crate::call::Call;
-use crate::model::CARD_BYTES;
+use monitor_model::CARD_BYTES;
 use std::ops::Range;
 
 /// What is compared of a shared call.

@@ -12,7 +12,7 @@ use super::monitor::Monitor;
 use super::tally::Tally;
 use super::Pair;
 use crate::call::Call;
-use crate::model::{Model, Part, Policy, Session, CARD_BYTES, STATE_BYTES};
+use monitor_model::{Model, Part, Policy, Session, CARD_BYTES, STATE_BYTES};
 use second_checker::check::read;
 use std::collections::{BTreeMap, BTreeSet};
 

@@ -2,7 +2,7 @@
 
 use crate::call::Call;
 use crate::lent::Lent;
-use crate::model::{Model, STATE_BYTES};
+use monitor_model::{Model, STATE_BYTES};
 use second_checker::random::Random;
 
 /// A monitor with a state of its own.

@@ -4,7 +4,9 @@
 //! "Other calls check in order of number, each as far as it applies to that
 //! call." So each call below is a row of checks, left at the first that fails.
 
-use crate::answer::{Figure, Verdict};
+pub mod answer;
+
+use answer::{Figure, Verdict};
 use second_checker::check::{read, Counts, Meaning, RoleFile, READ, WRITE};
 use second_checker::{check, Outcome};
 use std::collections::BTreeSet;
@@ -346,7 +348,7 @@ impl Model {
     }
 
     /// The state after a load.
-    pub(crate) fn begin(&mut self, policy: Policy) {
+    pub fn begin(&mut self, policy: Policy) {
         self.policy = Some(Rc::new(policy));
         self.places = vec![None; PLACES];
     }
@@ -385,7 +387,7 @@ impl Model {
     }
 
     /// Puts a role among those held at a place from 1 to 64.
-    pub(crate) fn hold(&mut self, place: usize, role: usize) {
+    pub fn hold(&mut self, place: usize, role: usize) {
         if let Some(session) = &mut self.places[place - 1] {
             session.roles.insert(role);
         }
