@@ -61,20 +61,13 @@ fn grant(s: &mut [u8], role: usize, card: usize, mode: usize)
     if !search::among(layout::CARDS as u64, card as u64) {
         return;
     }
+    let seniors = layout::SENIORS_AT + ROW_BYTES * (role - 1);
     if mode == 1 {
-        roleset::join(
-            s,
-            layout::READERS_AT + ROW_BYTES * (card - 1),
-            layout::SENIORS_AT + ROW_BYTES * (role - 1),
-        );
+        roleset::join(s, layout::READERS_AT + ROW_BYTES * (card - 1), seniors);
         return;
     }
     if mode == 2 {
-        roleset::join(
-            s,
-            layout::WRITERS_AT + ROW_BYTES * (card - 1),
-            layout::SENIORS_AT + ROW_BYTES * (role - 1),
-        );
+        roleset::join(s, layout::WRITERS_AT + ROW_BYTES * (card - 1), seniors);
     }
 }
 

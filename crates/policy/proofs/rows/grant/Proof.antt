@@ -43,18 +43,15 @@ grant-spec =
     returns
     (λ c κs. search needs)
     returns-2
-    (λ c. omega (arith, known (c .before .before)))
-    (λ c. omega (arith, known (c .before .before)))
-    (λ c. omega (arith, known (c .before .before)))
+    (λ c. omega (arith, known c))
+    (λ c. omega (arith, known c))
+    (λ c. omega (arith, known c))
     (λ c. omega (arith, known (c .before .before)))
     (λ c. omega (arith, known (c .before .before)))
     (λ c. omega (arith, known (c .before .before)))
     (λ c κs. search needs)
     (λ c. search needs)
     returns-3
-    (λ c. omega (arith, known (c .before .before .before)))
-    (λ c. omega (arith, known (c .before .before .before)))
-    (λ c. omega (arith, known (c .before .before .before)))
     (λ c. omega (arith, known (c .before .before .before)))
     (λ c. omega (arith, known (c .before .before .before)))
     (λ c. omega (arith, known (c .before .before .before)))
