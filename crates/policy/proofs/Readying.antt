@@ -7,10 +7,10 @@ use native.Mathlib.Omega.{arith}
 use native.Mathlib.Decide.{ℕ-discrete}
 use Rattle.search.specs.Search.{Among}
 use Rattle.rolefile.specs.declared.Line.{Line}
-use Rattle.rolefile.specs.Line.{H, D, S, U, O, P, A, lineAt, lines}
+use Rattle.rolefile.specs.Line.{H, D, S, U, O, P, A, lineAt, lines, part}
 use Rattle.rolefile.specs.Form.{header, firstLimit, secondLimit, linesVerdict}
 use Rattle.rolefile.specs.Said.{labels, roles}
-use Rattle.rolefile.specs.Section.{part, one, two}
+use Rattle.rolefile.specs.inner.Section.{one, two}
 use Rattle.rolefile.specs.WellFormed.{Sized, GoodCounts, GoodNumbers, GoodLines}
 use Rattle.rolefile.specs.Decimal.{letterByte}
 use Rattle.rolefile.proofs.Decides.{decides-zero}

@@ -11,7 +11,7 @@ use Rattle.order.specs.Closure.{Relation, Agree, circle}
 use Rattle.order.specs.Table.{mark, related}
 use Rattle.rolefile.specs.declared.Verdict.{Verdict}
 use Rattle.rolefile.specs.Form.{fine, refusal, unless}
-use Rattle.rolefile.specs.Section.{one, two, three, pairs}
+use Rattle.rolefile.specs.inner.Section.{one, two, three, pairs}
 
 -- ---- where the counts and the tables start
 

@@ -5,7 +5,7 @@ ghost use Prim.Native.Nat.{_+_, _*_, _≤_};
 ghost use lib.Dec.{eqb};
 ghost use lib.ListN.{length};
 ghost use Rattle.rolefile.specs.Line.{lines};
-ghost use Rattle.rolefile.specs.Section.{pairs};
+ghost use Rattle.rolefile.specs.inner.Section.{pairs};
 ghost use Rattle.policy.specs.Tables.{lineGrants, grantedByLines, Related, GrantedRows};
 
 // Puts a role into the row of thing x, if it is one of the table's.

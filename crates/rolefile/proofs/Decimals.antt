@@ -14,7 +14,7 @@ use Rattle.search.proofs.Truth.{leb-iff, and-iff, and-both, among-iff, either-b
 use Rattle.rolefile.specs.declared.Field.{Field}
 use Rattle.rolefile.specs.declared.Field.the-variants.{Blank, Number, Bad}
 use Rattle.rolefile.specs.Field.{isBlank, isDigit, column, columns, five, fieldAt}
-use Rattle.rolefile.specs.Section.{figure}
+use Rattle.rolefile.specs.inner.Section.{figure}
 use Rattle.rolefile.specs.Decimal.{lastDigits, digits, padded, blanks}
 
 abbrev pub IsDigit : ℕ → Type 0

@@ -7,8 +7,7 @@ use native.Mathlib.Omega.{arith}
 use native.Mathlib.Nat.{add-assoc}
 use lib.ListN.{length-drop}
 use lib.Seq.{getD-drop}
-use Rattle.rolefile.specs.Line.{lineAt, lines, start}
-use Rattle.rolefile.specs.Section.{part}
+use Rattle.rolefile.specs.Line.{lineAt, lines, start, part}
 
 -- line k of the part starts where the file's line j + k does
 pub part-start : (j k : ℕ) → 1 ≤ k → start (j + k) ≡ 22 * j + start k

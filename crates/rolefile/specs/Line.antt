@@ -86,6 +86,10 @@ lineAt f k = lineFrom f (start k)
 abbrev pub lines : List ℕ → ℕ
 lines f = length f / 22
 
+-- "Each letter's lines are handed on as the part of the file that starts there": the part after the first j lines
+abbrev pub part : List ℕ → ℕ → List ℕ
+part f j = drop (22 * j) f
+
 -- the bytes of line k before its byte 10; none where the file has no such line
 unfoldable pub textAt : List ℕ → ℕ → List ℕ
 textAt f k = cond (among (lines f) k) (take 21 (drop (start k) f)) []

@@ -7,7 +7,7 @@ ghost use mathlib.Core.Path.{_≡_};
 ghost use Prim.Native.Nat.{_≤_};
 ghost use Rattle.rolefile.specs.Line.{lines};
 ghost use Rattle.rolefile.specs.Form.{fine, refusal, withinLimits, firstLimit, secondLimit, ranged, before, rises, headVerdict, bodyVerdict, lineVerdict, scan, linesVerdict};
-ghost use Rattle.rolefile.specs.Scan.{seen, goesOn, looked};
+ghost use Rattle.rolefile.specs.inner.Scan.{seen, goesOn, looked};
 
 // Nothing to refuse.
 pub fn nothing() -> Verdict

@@ -6,8 +6,8 @@ ghost use mathlib.Core.Bool.{false};
 ghost use Prim.Native.Nat.{_+_, _%_, _≤_, _<_};
 ghost use lib.ListN.{length};
 ghost use Rattle.rolefile.specs.Field.{isDigit, column, fieldAt};
-ghost use Rattle.rolefile.specs.Section.{part, figure, figureOf, one, two, three, Leads};
-ghost use Rattle.rolefile.specs.Line.{letterOf, fields, fits, takenOut, noLine, lineOf, lineFrom, lineAt, textAt};
+ghost use Rattle.rolefile.specs.inner.Section.{figure, figureOf, one, two, three, Leads};
+ghost use Rattle.rolefile.specs.Line.{letterOf, fields, fits, takenOut, noLine, lineOf, lineFrom, lineAt, textAt, part};
 
 // Whether the byte is a digit.
 pub fn is_digit(b: u8) -> bool
