@@ -1,9 +1,9 @@
 -- A line reads as l just where its 22 bytes are l as it is written. Assumes nothing.
 use Prim.Native.Nat.{ℕ, zero, suc, _+_, _≤_, _<_}
 use mathlib.Core.Path.{_≡_, refl, sym, ap, ap₂, subst, _∙_}
-use mathlib.Core.Logic.{_↔_, Iff·trans}
+use mathlib.Core.Logic.{_↔_, Iff·trans, _⊎_, inl, inr, ⊎-elim}
 use mathlib.Core.List.{List, _∷_, _++_, []}
-use mathlib.Core.Bool.{Bool, true, false, cond, false≢true}
+use mathlib.Core.Bool.{Bool, true, false, cond}
 use native.Mathlib.Omega.{arith}
 use native.Mathlib.Nat.{add-assoc}
 use native.Mathlib.Numerals.{add-one}
@@ -17,8 +17,8 @@ use Rattle.search.proofs.Found.{every-at}
 use Rattle.rolefile.specs.declared.Field.{Field}
 use Rattle.rolefile.specs.declared.Field.the-variants.{Blank, Number, Bad}
 use Rattle.rolefile.specs.declared.Line.{Line}
-use Rattle.rolefile.specs.Field.{five, fieldAt}
-use Rattle.rolefile.specs.Line.{letterOf, fits, value, formed, noLine, lineOf, start, lineAt, lines, fieldUsed}
+use Rattle.rolefile.specs.Field.{five, fieldAt, fieldNumber, value}
+use Rattle.rolefile.specs.Line.{letterOf, formed, noLine, lineOf, start, lineAt, lines, fieldUsed}
 use Rattle.rolefile.specs.Decimal.{letterByte, columnsOf, asWritten, FieldHolds, Writable}
 use Rattle.rolefile.proofs.Decimals.{padded-length, field-number, field-blank}
 
@@ -56,17 +56,20 @@ abbrev pub Stands : Bool → Field → ℕ → Type 0
 Stands true p n = p ≡ Number n
 Stands false p n = (p ≡ Blank) × (n ≡ 0)
 
-pub fits-stands : (used : Bool) (p : Field) → fits used p ≡ true → Stands used p (value p)
-fits-stands true Blank e = absurd (false≢true e)
-fits-stands true (Number n) e = refl
-fits-stands true Bad e = absurd (false≢true e)
-fits-stands false Blank e = (refl, refl)
-fits-stands false (Number n) e = absurd (false≢true e)
-fits-stands false Bad e = absurd (false≢true e)
+field-told : (used : Bool) (p : Field) → Stands used p (value p) ⊎ (fieldNumber used p ≡ 2)
+field-told true Blank = inr refl
+field-told true (Number n) = inl refl
+field-told true Bad = inr refl
+field-told false Blank = inl (refl, refl)
+field-told false (Number n) = inr refl
+field-told false Bad = inr refl
 
-pub stands-fits : (used : Bool) (p : Field) (n : ℕ) → Stands used p n → (fits used p ≡ true) × (value p ≡ n)
-stands-fits true p n e = rw e (refl, refl)
-stands-fits false p n (e, z) = rw (e, z) (refl, refl)
+pub number-stands : (used : Bool) (p : Field) → eqb (fieldNumber used p) 0 ≡ true → Stands used p (value p)
+number-stands used p e = ⊎-elim (λ s. s) (λ t. absurd (omega (arith, eqb-true (fieldNumber used p) 0 e))) (field-told used p)
+
+pub stands-number : (used : Bool) (p : Field) (n : ℕ) → Stands used p n → (fieldNumber used p ≡ 0) × (value p ≡ n)
+stands-number true p n e = rw e (refl, refl)
+stands-number false p n (e, z) = rw (e, z) (refl, refl)
 
 stands-iff : (used : Bool) (f : List ℕ) (at n : ℕ) → Stands used (fieldAt f at) n ↔ ((five f at ≡ columnsOf used n) × FieldHolds used n)
 stands-iff true f at n = (λ e. let (l, s) = field-number f at n .0 e in (s, l), λ (s, l). field-number f at n .1 (l, s))
@@ -106,17 +109,17 @@ module _ (k last : ℕ) (p q r s : Field) where
   formed-makes e =
       let (e₁, t₁) = and-iff (leb 1 k) _ .0 e in
       let (e₂, t₂) = and-iff (eqb last 10) _ .0 t₁ in
-      let (e₃, t₃) = and-iff (fits true p) _ .0 t₂ in
-      let (e₄, t₄) = and-iff (fits true q) _ .0 t₃ in
-      let (e₅, e₆) = and-iff (fits (fieldUsed 3 k) r) _ .0 t₄ in
+      let (e₃, t₃) = and-iff (eqb (fieldNumber true p) 0) _ .0 t₂ in
+      let (e₄, t₄) = and-iff (eqb (fieldNumber true q) 0) _ .0 t₃ in
+      let (e₅, e₆) = and-iff (eqb (fieldNumber (fieldUsed 3 k) r) 0) _ .0 t₄ in
       record {
         letter = refl;
         some = leb-true 1 k e₁;
         end = eqb-true last 10 e₂;
-        a = fits-stands true p e₃;
-        b = fits-stands true q e₄;
-        c = fits-stands (fieldUsed 3 k) r e₅;
-        d = fits-stands (fieldUsed 4 k) s e₆;
+        a = number-stands true p e₃;
+        b = number-stands true q e₄;
+        c = number-stands (fieldUsed 3 k) r e₅;
+        d = number-stands (fieldUsed 4 k) s e₆;
       }
 
   -- else it is malformed
@@ -136,10 +139,10 @@ module _ (k last : ℕ) (p q r s : Field) where
     pub made : Makes k last p q r s l → (lineOf k last p q r s ≡ l) × (1 ≤ l .letter)
     unfolding lineOf formed
     made w =
-        let (e₁, a) = stands-fits true p (l .a) (w .a) in
-        let (e₂, b) = stands-fits true q (l .b) (w .b) in
-        let (e₃, c) = stands-fits (fieldUsed 3 (l .letter)) r (l .c) (w .c) in
-        let (e₄, d) = stands-fits (fieldUsed 4 (l .letter)) s (l .d) (w .d) in
+        let (e₁, a) = stands-number true p (l .a) (w .a) in
+        let (e₂, b) = stands-number true q (l .b) (w .b) in
+        let (e₃, c) = stands-number (fieldUsed 3 (l .letter)) r (l .c) (w .c) in
+        let (e₄, d) = stands-number (fieldUsed 4 (l .letter)) s (l .d) (w .d) in
         let good : formed (l .letter) last p q r s ≡ true = rw (le-leb 1 (l .letter) (w .some), eq-eqb last 10 (w .end), e₁, e₂, e₃, e₄) in
         (rw (w .letter, good) (λ i. record { letter = l .letter; a = a i; b = b i; c = c i; d = d i }), w .some)
 

@@ -32,3 +32,15 @@ five f at = getD f at 0 ∷ getD f (at + 1) 0 ∷ getD f (at + 2) 0 ∷ getD f (
 
 abbrev pub fieldAt : List ℕ → ℕ → Field
 fieldAt f at = columns Blank (five f at)
+
+-- the number of a field by its cases, where its line's letter uses it and where not: "A field that doesn't read as a number ends its line with 2"
+abbrev pub fieldNumber : Bool → Field → ℕ
+fieldNumber used Blank = cond used 2 0
+fieldNumber used (Number n) = cond used 0 2
+fieldNumber used Bad = 2
+
+-- and its value, for a line that it does not end
+abbrev pub value : Field → ℕ
+value Blank = 0
+value (Number n) = n
+value Bad = 0

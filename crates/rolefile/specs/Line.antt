@@ -1,14 +1,13 @@
 -- The lines of a role file: "A line is 22 bytes: one letter, four fields of 5 columns, and byte 10." Assumes nothing.
 use Prim.Native.Nat.{ℕ, _+_, _*_, _-_, _/_}
 use mathlib.Core.List.{List, []}
-use mathlib.Core.Bool.{Bool, true, false, not, _&&_, cond}
+use mathlib.Core.Bool.{Bool, true, _&&_, cond}
 use lib.Dec.{leb, eqb}
 use lib.ListN.{length, getD, take, drop}
 use Rattle.search.specs.Search.{among}
 use Rattle.rolefile.specs.declared.Field.{Field}
-use Rattle.rolefile.specs.declared.Field.the-variants.{Blank, Number, Bad}
 use Rattle.rolefile.specs.declared.Line.{Line}
-use Rattle.rolefile.specs.Field.{fieldAt}
+use Rattle.rolefile.specs.Field.{fieldAt, fieldNumber, value}
 
 -- a letter by its row in the document's table: H, D, S, U, O, P, A; 0 is none of them
 abbrev pub H : ℕ
@@ -44,25 +43,13 @@ fields k = cond (eqb k H) 4 (cond (eqb k P) 3 2)
 abbrev pub fieldUsed : ℕ → ℕ → Bool
 fieldUsed j k = leb j (fields k)
 
--- "A field without use is five blanks", and one in use is a number
-abbrev pub fits : Bool → Field → Bool
-fits used Blank = not used
-fits used (Number n) = used
-fits used Bad = false
-
--- the number in a field, 0 where it has none
-abbrev pub value : Field → ℕ
-value Blank = 0
-value (Number n) = n
-value Bad = 0
-
--- what a line reader takes out of a field: its number, or 0 where it has no use; "a field that doesn't read as a number ends its line with 2"
-unfoldable pub takenOut : Bool → Field → Field
-takenOut used f = cond (fits used f) (Number (value f)) Bad
-
--- the line is not malformed: it has a letter, byte 10 at its end, numbers in the fields that its letter uses and blanks in the others
+-- the line is not malformed: it has a letter, byte 10 at its end, and no field that ends it
 unfoldable pub formed : ℕ → ℕ → Field → Field → Field → Field → Bool
-formed k end p q r s = leb 1 k && (eqb end 10 && (fits true p && (fits true q && (fits (fieldUsed 3 k) r && fits (fieldUsed 4 k) s))))
+formed k end p q r s =
+    leb 1 k
+    && (eqb end 10
+    && (eqb (fieldNumber true p) 0
+    && (eqb (fieldNumber true q) 0 && (eqb (fieldNumber (fieldUsed 3 k) r) 0 && eqb (fieldNumber (fieldUsed 4 k) s) 0))))
 
 -- a malformed line has no letter
 abbrev pub noLine : Line

@@ -4,10 +4,12 @@ use super::Line;
 ghost use mathlib.Core.Path.{_≡_};
 ghost use mathlib.Core.Bool.{false};
 ghost use Prim.Native.Nat.{_+_, _%_, _≤_, _<_};
+ghost use lib.Dec.{eqb};
 ghost use lib.ListN.{length};
-ghost use Rattle.rolefile.specs.Field.{isDigit, column, fieldAt};
+ghost use Rattle.rolefile.specs.Field.{isDigit, column, fieldAt, fieldNumber};
+ghost use Rattle.rolefile.specs.inner.Field.{takenOut};
 ghost use Rattle.rolefile.specs.inner.Section.{figure, figureOf, one, two, three, Leads};
-ghost use Rattle.rolefile.specs.Line.{letterOf, fields, fits, takenOut, noLine, lineOf, lineFrom, lineAt, textAt, part};
+ghost use Rattle.rolefile.specs.Line.{letterOf, fields, noLine, lineOf, lineFrom, lineAt, textAt, part};
 
 // Whether the byte is a digit.
 pub fn is_digit(b: u8) -> bool
@@ -167,7 +169,7 @@ pub fn first_line(f: &[u8]) -> Line
 // Whether the five columns at `at` are blanks, four of them compared at once as one number.
 fn blank(s: &[u8], at: usize) -> bool
     requires { ⌜ at + 5 ≤ length (now s) ⌝ }
-    ensures { λ r. ⌜ r ≡ fits false (fieldAt (now (s .entry)) at) ⌝ }
+    ensures { λ r. ⌜ r ≡ eqb (fieldNumber false (fieldAt (now (s .entry)) at)) 0 ⌝ }
 {
     let four = number::four(s[at], s[at + 1], s[at + 2], s[at + 3]);
     (four == 538976288) & (s[at + 4] == 32)
