@@ -16,11 +16,10 @@ use Rattle.search.specs.Search.{Among, some}
 use Rattle.search.proofs.Truth.{and-iff}
 use Rattle.rolefile.specs.declared.Line.{Line}
 use Rattle.rolefile.specs.Field.{fieldAt}
-use Rattle.rolefile.specs.Line.{P, letterOf, fields, start, lineAt, lines, fieldUsed, part}
+use Rattle.rolefile.specs.Line.{P, letterByte, letterOf, fields, fieldUsed, start, lineAt, lines, part}
 use Rattle.rolefile.specs.Form.{count, about, linesAbout}
 use Rattle.rolefile.specs.Said.{is, says, last, labelBy}
 use Rattle.rolefile.specs.WellFormed.{GoodLines}
-use Rattle.rolefile.specs.Decimal.{letterByte}
 use Rattle.rolefile.specs.inner.Section.{one, two, three, letterAt, Leads, pairs}
 use Rattle.rolefile.proofs.Decimals.{figures}
 use Rattle.rolefile.proofs.Written.{Reads, Stands, letter-iff, line-iff}

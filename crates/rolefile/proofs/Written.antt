@@ -11,43 +11,29 @@ use lib.Dec.{leb, eqb}
 use lib.ListN.{length, getD, take, drop}
 use lib.Seq.{take-at, drop-at, drop-cons}
 use borrow.Author.Tests.{eqb-true, eq-eqb, leb-true, le-leb}
-use Rattle.search.specs.Search.{every, Among}
-use Rattle.search.proofs.Truth.{and-iff, either-by, untrue}
-use Rattle.search.proofs.Found.{every-at}
+use Rattle.search.specs.Search.{every, first, Among}
+use Rattle.search.proofs.Truth.{and-iff, untrue}
+use Rattle.search.proofs.Found.{every-at, first-lowest}
 use Rattle.rolefile.specs.declared.Field.{Field}
 use Rattle.rolefile.specs.declared.Field.the-variants.{Blank, Number, Bad}
 use Rattle.rolefile.specs.declared.Line.{Line}
 use Rattle.rolefile.specs.Field.{five, fieldAt, fieldNumber, value}
-use Rattle.rolefile.specs.Line.{letterOf, formed, noLine, lineOf, start, lineAt, lines, fieldUsed}
-use Rattle.rolefile.specs.Decimal.{letterByte, columnsOf, asWritten, FieldHolds, Writable}
+use Rattle.rolefile.specs.Line.{letterByte, letterOf, fieldUsed, formed, noLine, lineOf, start, lineAt, lines}
+use Rattle.rolefile.specs.Decimal.{columnsOf, asWritten, FieldHolds, Writable}
 use Rattle.rolefile.proofs.Decimals.{padded-length, field-number, field-blank}
 
 -- ---- its letter
 
--- b is the byte of the letter k, where k is one
-abbrev Named : ℕ → ℕ → Type 0
-Named b k = 1 ≤ k → (b ≡ letterByte k) × (k ≤ 7)
-
-named-next : (b x k rest : ℕ) → (b ≡ x → Named b k) → Named b rest → Named b (cond (eqb b x) k rest)
-named-next b x k rest is other = either-by (Named b) (eqb b x) k rest (λ e. is (eqb-true b x e)) (λ e. other)
-
-named : (b : ℕ) → Named b (letterOf b)
-unfolding letterOf letterByte
-named b =
-    named-next b 72 1 _ (λ e w. (e, omega arith))
-    (named-next b 68 2 _ (λ e w. (e, omega arith))
-    (named-next b 83 3 _ (λ e w. (e, omega arith))
-    (named-next b 85 4 _ (λ e w. (e, omega arith))
-    (named-next b 79 5 _ (λ e w. (e, omega arith))
-    (named-next b 80 6 _ (λ e w. (e, omega arith))
-    (named-next b 65 7 _ (λ e w. (e, omega arith)) (λ w. absurd (omega arith))))))))
-
 letter-read : (k : ℕ) → Among 7 k → letterOf (letterByte k) ≡ k
-unfolding every letterOf letterByte
+unfolding every first letterOf
 letter-read k w = eqb-true (letterOf (letterByte k)) k (every-at (λ j. eqb (letterOf (letterByte j)) j) 7 refl k w)
 
 pub letter-iff : (b k : ℕ) → ((letterOf b ≡ k) × (1 ≤ k)) ↔ ((b ≡ letterByte k) × Among 7 k)
-letter-iff b k = (λ (e, l). let (p, q) = named b (rw e l) in (rw e at p, omega arith), λ (e, w). (rw e (letter-read k w), w .0))
+unfolding letterOf
+letter-iff b k = (
+  λ (e, l). let low = first-lowest (λ j. eqb b (letterByte j)) 7 k l .0 e in (eqb-true b (letterByte k) (low .holds), low .inside),
+  λ (e, w). (rw e (letter-read k w), w .0),
+)
 
 -- ---- its fields
 

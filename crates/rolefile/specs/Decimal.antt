@@ -5,10 +5,10 @@ use mathlib.Core.Path.{_≡_}
 use mathlib.Core.List.{List, [], _∷_, _++_}
 use mathlib.Core.Bool.{Bool, true, false, cond}
 use lib.Dec.{ltb}
-use lib.ListN.{length, getD, replicate}
+use lib.ListN.{length, replicate}
 use Rattle.search.specs.Search.{Among}
 use Rattle.rolefile.specs.declared.Line.{Line}
-use Rattle.rolefile.specs.Line.{fieldUsed}
+use Rattle.rolefile.specs.Line.{letterByte, fieldUsed}
 
 -- the last k digits of n; 48 is the byte of the digit 0
 unfoldable pub lastDigits : ℕ → ℕ → List ℕ
@@ -31,10 +31,6 @@ abbrev pub blanks : List ℕ
 blanks = inColumns 5 []
 
 -- ---- lines
-
--- the byte of a letter by its row in the document's table: H, D, S, U, O, P, A
-unfoldable pub letterByte : ℕ → ℕ
-letterByte k = getD (72 ∷ 68 ∷ 83 ∷ 85 ∷ 79 ∷ 80 ∷ 65 ∷ []) (k - 1) 0
 
 abbrev pub columnsOf : Bool → ℕ → List ℕ
 columnsOf used n = cond used (padded n) blanks

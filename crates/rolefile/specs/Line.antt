@@ -4,12 +4,13 @@ use mathlib.Core.List.{List, []}
 use mathlib.Core.Bool.{Bool, true, _&&_, cond}
 use lib.Dec.{leb, eqb}
 use lib.ListN.{length, getD, take, drop}
-use Rattle.search.specs.Search.{among}
+use Rattle.search.specs.Search.{among, first}
 use Rattle.rolefile.specs.declared.Field.{Field}
 use Rattle.rolefile.specs.declared.Line.{Line}
+use Rattle.rolefile.specs.Ascii.{ascii}
 use Rattle.rolefile.specs.Field.{fieldAt, fieldNumber, value}
 
--- a letter by its row in the document's table: H, D, S, U, O, P, A; 0 is none of them
+-- a letter by its row in the document's table
 abbrev pub H : ℕ
 H = 1
 
@@ -31,9 +32,13 @@ P = 6
 abbrev pub A : ℕ
 A = 7
 
+-- and its byte
+abbrev pub letterByte : ℕ → ℕ
+letterByte k = getD (ascii "HDSUOPA") (k - 1) 0
+
+-- the row of the letter that has the byte b, or 0 where none has
 unfoldable pub letterOf : ℕ → ℕ
-letterOf b =
-    cond (eqb b 72) H (cond (eqb b 68) D (cond (eqb b 83) S (cond (eqb b 85) U (cond (eqb b 79) O (cond (eqb b 80) P (cond (eqb b 65) A 0))))))
+letterOf b = first 7 (λ k. eqb b (letterByte k))
 
 -- how many fields a letter's lines have
 unfoldable pub fields : ℕ → ℕ
