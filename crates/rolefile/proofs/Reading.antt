@@ -12,7 +12,7 @@ use Rattle.search.proofs.Truth.{eqb-iff, and-both, same}
 use types.Run
 use Rattle.rolefile.specs.declared.Field.{Field}
 use Rattle.rolefile.specs.declared.Field.the-variants.{Blank, Number, Bad}
-use Rattle.rolefile.specs.Field.{fieldAt, fieldNumber, value}
+use Rattle.rolefile.specs.Field.{blank, fieldAt, fieldNumber, value}
 use Rattle.rolefile.specs.Line.{noLine, lineFrom}
 use Rattle.rolefile.specs.inner.Field.{takenOut}
 use Rattle.rolefile.proofs.Decimals.{field-blank}
@@ -23,31 +23,34 @@ use Rattle.rolefile.proofs.Field as field-type
 abbrev four : List ℕ → ℕ → ℕ
 four f at = getD f at 0 + 256 * getD f (at + 1) 0 + 65536 * getD f (at + 2) 0 + 16777216 * getD f (at + 3) 0
 
+abbrev fourBlanks : ℕ
+fourBlanks = 538976288
+
 -- five blanks, four of them tested at once
 module _ (f : List ℕ) (at : ℕ) where
   pub blank-tested : getD f at 0 < 256 → getD f (at + 1) 0 < 256 → getD f (at + 2) 0 < 256 → getD f (at + 3) 0 < 256
-      → (eqb (four f at) 538976288 && eqb (getD f (at + 4) 0) 32) ≡ eqb (fieldNumber false (fieldAt f at)) 0
+      → (eqb (four f at) fourBlanks && eqb (getD f (at + 4) 0) blank) ≡ eqb (fieldNumber false (fieldAt f at)) 0
   blank-tested l m n o = same _ _ to of
     where
-      to : (eqb (four f at) 538976288 && eqb (getD f (at + 4) 0) 32) ≡ true → eqb (fieldNumber false (fieldAt f at)) 0 ≡ true
+      to : (eqb (four f at) fourBlanks && eqb (getD f (at + 4) 0) blank) ≡ true → eqb (fieldNumber false (fieldAt f at)) 0 ≡ true
       to e =
-          let (h, e₄) = and-both (eqb-iff (four f at) 538976288) (eqb-iff (getD f (at + 4) 0) 32) .0 e in
-          let e₃ : getD f (at + 3) 0 ≡ 32 = omega arith in
-          let e₂ : getD f (at + 2) 0 ≡ 32 = omega arith in
-          let e₁ : getD f (at + 1) 0 ≡ 32 = omega arith in
-          let e₀ : getD f at 0 ≡ 32 = omega arith in
+          let (h, e₄) = and-both (eqb-iff (four f at) fourBlanks) (eqb-iff (getD f (at + 4) 0) blank) .0 e in
+          let e₃ : getD f (at + 3) 0 ≡ blank = omega arith in
+          let e₂ : getD f (at + 2) 0 ≡ blank = omega arith in
+          let e₁ : getD f (at + 1) 0 ≡ blank = omega arith in
+          let e₀ : getD f at 0 ≡ blank = omega arith in
           let b : fieldAt f at ≡ Blank = field-blank f at .1 (rw (e₀, e₁, e₂, e₃, e₄)) in
           rw b
 
-      of : eqb (fieldNumber false (fieldAt f at)) 0 ≡ true → (eqb (four f at) 538976288 && eqb (getD f (at + 4) 0) 32) ≡ true
+      of : eqb (fieldNumber false (fieldAt f at)) 0 ≡ true → (eqb (four f at) fourBlanks && eqb (getD f (at + 4) 0) blank) ≡ true
       of e =
           let s = field-blank f at .0 (number-stands false (fieldAt f at) e .0) in
-          let e₀ : getD f at 0 ≡ 32 = cc in
-          let e₁ : getD f (at + 1) 0 ≡ 32 = cc in
-          let e₂ : getD f (at + 2) 0 ≡ 32 = cc in
-          let e₃ : getD f (at + 3) 0 ≡ 32 = cc in
-          let e₄ : getD f (at + 4) 0 ≡ 32 = cc in
-          and-both (eqb-iff (four f at) 538976288) (eqb-iff (getD f (at + 4) 0) 32) .1 (omega arith, e₄)
+          let e₀ : getD f at 0 ≡ blank = cc in
+          let e₁ : getD f (at + 1) 0 ≡ blank = cc in
+          let e₂ : getD f (at + 2) 0 ≡ blank = cc in
+          let e₃ : getD f (at + 3) 0 ≡ blank = cc in
+          let e₄ : getD f (at + 4) 0 ≡ blank = cc in
+          and-both (eqb-iff (four f at) fourBlanks) (eqb-iff (getD f (at + 4) 0) blank) .1 (omega arith, e₄)
 
 -- what is taken out of a field without use
 pub taken-blank : (f : Field) → eqb (fieldNumber false f) 0 ≡ true → Number 0 ≡ takenOut false f

@@ -18,7 +18,7 @@ use Rattle.rolefile.specs.declared.Field.{Field}
 use Rattle.rolefile.specs.declared.Field.the-variants.{Blank, Number, Bad}
 use Rattle.rolefile.specs.declared.Line.{Line}
 use Rattle.rolefile.specs.Field.{five, fieldAt, fieldNumber, value}
-use Rattle.rolefile.specs.Line.{letterByte, letterOf, fieldUsed, formed, noLine, lineOf, start, lineAt, lines}
+use Rattle.rolefile.specs.Line.{lineLength, newline, letterByte, letterOf, fieldUsed, formed, noLine, lineOf, start, lineAt, lines}
 use Rattle.rolefile.specs.Decimal.{columnsOf, asWritten, FieldHolds, Writable}
 use Rattle.rolefile.proofs.Decimals.{padded-length, field-number, field-blank}
 
@@ -79,7 +79,7 @@ split used f at n {rest} {more} h e =
 pub record Makes (k last : ℕ) (p q r s : Field) (l : Line) : Type 0 where
   pub letter : k ≡ l .letter
   pub some : 1 ≤ l .letter
-  pub end : last ≡ 10
+  pub end : last ≡ newline
   pub a : p ≡ Number (l .a)
   pub b : q ≡ Number (l .b)
   pub c : Stands (fieldUsed 3 (l .letter)) r (l .c)
@@ -94,14 +94,14 @@ module _ (k last : ℕ) (p q r s : Field) where
   unfolding formed
   formed-makes e =
       let (e₁, t₁) = and-iff (leb 1 k) _ .0 e in
-      let (e₂, t₂) = and-iff (eqb last 10) _ .0 t₁ in
+      let (e₂, t₂) = and-iff (eqb last newline) _ .0 t₁ in
       let (e₃, t₃) = and-iff (eqb (fieldNumber true p) 0) _ .0 t₂ in
       let (e₄, t₄) = and-iff (eqb (fieldNumber true q) 0) _ .0 t₃ in
       let (e₅, e₆) = and-iff (eqb (fieldNumber (fieldUsed 3 k) r) 0) _ .0 t₄ in
       record {
         letter = refl;
         some = leb-true 1 k e₁;
-        end = eqb-true last 10 e₂;
+        end = eqb-true last newline e₂;
         a = number-stands true p e₃;
         b = number-stands true q e₄;
         c = number-stands (fieldUsed 3 k) r e₅;
@@ -129,7 +129,7 @@ module _ (k last : ℕ) (p q r s : Field) where
         let (e₂, b) = stands-number true q (l .b) (w .b) in
         let (e₃, c) = stands-number (fieldUsed 3 (l .letter)) r (l .c) (w .c) in
         let (e₄, d) = stands-number (fieldUsed 4 (l .letter)) s (l .d) (w .d) in
-        let good : formed (l .letter) last p q r s ≡ true = rw (le-leb 1 (l .letter) (w .some), eq-eqb last 10 (w .end), e₁, e₂, e₃, e₄) in
+        let good : formed (l .letter) last p q r s ≡ true = rw (le-leb 1 (l .letter) (w .some), eq-eqb last newline (w .end), e₁, e₂, e₃, e₄) in
         (rw (w .letter, good) (λ i. record { letter = l .letter; a = a i; b = b i; c = c i; d = d i }), w .some)
 
 -- the line of f that starts at i is l
@@ -151,12 +151,12 @@ take-bytes : (f : List ℕ) (i n : ℕ) → i + n ≤ length f → take n (drop 
 take-bytes f i zero h = refl
 take-bytes f i (suc n) h = rw (drop-cons f i 0 (omega arith), ← (add-one i), take-bytes f (i + 1) n (omega arith))
 
-module _ (f : List ℕ) (i : ℕ) (l : Line) (h : i + 22 ≤ length f) where
+module _ (f : List ℕ) (i : ℕ) (l : Line) (h : i + lineLength ≤ length f) where
   line-bytes :
-      take 22 (drop i f) ≡ getD f i 0 ∷ (five f (i + 1) ++ (five f (i + 6) ++ (five f (i + 11) ++ (five f (i + 16) ++ (getD f (i + 21) 0 ∷ [])))))
-  line-bytes = take-bytes f i 22 h ∙ simp add-assoc
+      take lineLength (drop i f) ≡ getD f i 0 ∷ (five f (i + 1) ++ (five f (i + 6) ++ (five f (i + 11) ++ (five f (i + 16) ++ (getD f (i + 21) 0 ∷ [])))))
+  line-bytes = take-bytes f i lineLength h ∙ simp add-assoc
 
-  to-bytes : Reads f i l → (take 22 (drop i f) ≡ asWritten l) × Writable l
+  to-bytes : Reads f i l → (take lineLength (drop i f) ≡ asWritten l) × Writable l
   unfolding asWritten
   to-bytes w =
       let (e₀, h₀) = letter-iff (getD f i 0) (l .letter) .0 (w .letter, w .some) in
@@ -169,7 +169,7 @@ module _ (f : List ℕ) (i : ℕ) (l : Line) (h : i + 22 ≤ length f) where
         record { letter = h₀; a = h₁; b = h₂; c = h₃; d = h₄ },
       )
 
-  from-bytes : (take 22 (drop i f) ≡ asWritten l) × Writable l → Reads f i l
+  from-bytes : (take lineLength (drop i f) ≡ asWritten l) × Writable l → Reads f i l
   unfolding asWritten
   from-bytes (e, w) =
       let all = sym line-bytes ∙ e in
@@ -181,7 +181,7 @@ module _ (f : List ℕ) (i : ℕ) (l : Line) (h : i + 22 ≤ length f) where
       record { letter = letter; some = some; end = ap (λ x. getD x 0 0) t₄; a = a; b = b; c = c; d = d }
 
 pub reads-line : (f : List ℕ) (k : ℕ) (l : Line) → 1 ≤ k → k ≤ lines f
-    → ((lineAt f k ≡ l) × (1 ≤ l .letter)) ↔ ((take 22 (drop (start k) f) ≡ asWritten l) × Writable l)
+    → ((lineAt f k ≡ l) × (1 ≤ l .letter)) ↔ ((take lineLength (drop (start k) f) ≡ asWritten l) × Writable l)
 reads-line f k l p q =
-    let h : start k + 22 ≤ length f = omega arith in
+    let h : start k + lineLength ≤ length f = omega arith in
     Iff·trans (line-iff f k l) (to-bytes f (start k) l h, from-bytes f (start k) l h)

@@ -8,20 +8,21 @@ use lib.Dec.{ltb}
 use lib.ListN.{length, replicate}
 use Rattle.search.specs.Search.{Among}
 use Rattle.rolefile.specs.declared.Line.{Line}
-use Rattle.rolefile.specs.Line.{letterByte, fieldUsed}
+use Rattle.rolefile.specs.Field.{blank, digitZero}
+use Rattle.rolefile.specs.Line.{newline, letterByte, fieldUsed}
 
--- the last k digits of n; 48 is the byte of the digit 0
+-- the last k digits of n
 unfoldable pub lastDigits : ℕ → ℕ → List ℕ
 lastDigits zero n = []
-lastDigits (suc k) n = cond (ltb n 10) ((48 + n) ∷ []) (lastDigits k (n / 10) ++ ((48 + n % 10) ∷ []))
+lastDigits (suc k) n = cond (ltb n 10) ((digitZero + n) ∷ []) (lastDigits k (n / 10) ++ ((digitZero + n % 10) ∷ []))
 
 -- n has no more than n + 1 digits
 unfoldable pub digits : ℕ → List ℕ
 digits n = lastDigits (suc n) n
 
--- up to k digits in k columns, with blanks before them; 32 is the byte of a blank
+-- up to k digits in k columns, with blanks before them
 abbrev pub inColumns : ℕ → List ℕ → List ℕ
-inColumns k ds = replicate (k - length ds) 32 ++ ds
+inColumns k ds = replicate (k - length ds) blank ++ ds
 
 -- the five columns of a number, and those of a field without use
 unfoldable pub padded : ℕ → List ℕ
@@ -38,7 +39,7 @@ columnsOf used n = cond used (padded n) blanks
 unfoldable pub asWritten : Line → List ℕ
 asWritten l =
     letterByte (l .letter)
-    ∷ (padded (l .a) ++ (padded (l .b) ++ (columnsOf (fieldUsed 3 (l .letter)) (l .c) ++ (columnsOf (fieldUsed 4 (l .letter)) (l .d) ++ (10 ∷ [])))))
+    ∷ (padded (l .a) ++ (padded (l .b) ++ (columnsOf (fieldUsed 3 (l .letter)) (l .c) ++ (columnsOf (fieldUsed 4 (l .letter)) (l .d) ++ (newline ∷ [])))))
 
 -- five columns hold the number of a field in use; that of a field without use is 0
 abbrev pub FieldHolds : Bool → ℕ → Type 0
@@ -48,7 +49,7 @@ FieldHolds false n = n ≡ 0
 -- a line that can be written
 pub record Writable (l : Line) : Type 0 where
   pub letter : Among 7 (l .letter)
-  pub a : l .a < 100000
-  pub b : l .b < 100000
+  pub a : FieldHolds true (l .a)
+  pub b : FieldHolds true (l .b)
   pub c : FieldHolds (fieldUsed 3 (l .letter)) (l .c)
   pub d : FieldHolds (fieldUsed 4 (l .letter)) (l .d)

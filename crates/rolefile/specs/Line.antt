@@ -10,6 +10,13 @@ use Rattle.rolefile.specs.declared.Line.{Line}
 use Rattle.rolefile.specs.Ascii.{ascii}
 use Rattle.rolefile.specs.Field.{fieldAt, fieldNumber, value}
 
+-- a line's length, and the byte at its end
+abbrev pub lineLength : ℕ
+lineLength = 22
+
+abbrev pub newline : ℕ
+newline = 10
+
 -- a letter by its row in the document's table
 abbrev pub H : ℕ
 H = 1
@@ -52,7 +59,7 @@ fieldUsed j k = leb j (fields k)
 unfoldable pub formed : ℕ → ℕ → Field → Field → Field → Field → Bool
 formed k end p q r s =
     leb 1 k
-    && (eqb end 10
+    && (eqb end newline
     && (eqb (fieldNumber true p) 0
     && (eqb (fieldNumber true q) 0 && (eqb (fieldNumber (fieldUsed 3 k) r) 0 && eqb (fieldNumber (fieldUsed 4 k) s) 0))))
 
@@ -70,17 +77,17 @@ lineFrom f i =
 
 -- line k, counted from 1, starts here
 abbrev pub start : ℕ → ℕ
-start k = 22 * (k - 1)
+start k = lineLength * (k - 1)
 
 unfoldable pub lineAt : List ℕ → ℕ → Line
 lineAt f k = lineFrom f (start k)
 
 abbrev pub lines : List ℕ → ℕ
-lines f = length f / 22
+lines f = length f / lineLength
 
 -- "Each letter's lines are handed on as the part of the file that starts there": the part after the first j lines
 abbrev pub part : List ℕ → ℕ → List ℕ
-part f j = drop (22 * j) f
+part f j = drop (lineLength * j) f
 
 -- the bytes of line k before its byte 10; none where the file has no such line
 unfoldable pub textAt : List ℕ → ℕ → List ℕ
