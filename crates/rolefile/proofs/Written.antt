@@ -1,10 +1,11 @@
--- A line reads as l just where its 22 bytes are l as it is written. Assumes nothing.
+-- A line reads as l just where its 22 bytes are l as it is written, and is malformed just where they are no line as it is written. Assumes nothing.
 use Prim.Native.Nat.{ℕ, zero, suc, _+_, _≤_, _<_}
 use mathlib.Core.Path.{_≡_, refl, sym, ap, ap₂, subst, _∙_}
 use mathlib.Core.Logic.{_↔_, Iff·trans, _⊎_, inl, inr, ⊎-elim}
 use mathlib.Core.List.{List, _∷_, _++_, []}
 use mathlib.Core.Bool.{Bool, true, false, cond}
 use native.Mathlib.Omega.{arith}
+use native.Mathlib.Decide.{decLt}
 use native.Mathlib.Nat.{add-assoc}
 use native.Mathlib.Numerals.{add-one}
 use lib.Dec.{leb, eqb}
@@ -60,6 +61,14 @@ stands-number false p n (e, z) = rw (e, z) (refl, refl)
 stands-iff : (used : Bool) (f : List ℕ) (at n : ℕ) → Stands used (fieldAt f at) n ↔ ((five f at ≡ columnsOf used n) × FieldHolds used n)
 stands-iff true f at n = (λ e. let (l, s) = field-number f at n .0 e in (s, l), λ (s, l). field-number f at n .1 (l, s))
 stands-iff false f at n = (λ (e, z). (field-blank f at .0 e, z), λ (s, z). (field-blank f at .1 s, z))
+
+-- a field ends its line just where its columns are not those that its use asks
+pub ends-line-iff : (used : Bool) (f : List ℕ) (at : ℕ)
+    → (fieldNumber used (fieldAt f at) ≡ 2) ↔ ((n : ℕ) → FieldHolds used n → five f at ≡ columnsOf used n → ⊥)
+ends-line-iff used f at = (
+  λ z n h e. omega (arith, stands-number used (fieldAt f at) n (stands-iff used f at n .1 (e, h)) .0),
+  λ none. ⊎-elim (λ s. let (e, h) = stands-iff used f at _ .0 s in absurd (none _ h e)) (λ z. z) (field-told used (fieldAt f at)),
+)
 
 pub columns-length : (used : Bool) (n : ℕ) → (used ≡ true → n < 100000) → length (columnsOf used n) ≡ 5
 columns-length true n l = padded-length n (l refl)
@@ -180,8 +189,18 @@ module _ (f : List ℕ) (i : ℕ) (l : Line) (h : i + lineLength ≤ length f) w
       let (d, t₄) = split (fieldUsed 4 (l .letter)) f (i + 16) (l .d) (w .d) t₃ in
       record { letter = letter; some = some; end = ap (λ x. getD x 0 0) t₄; a = a; b = b; c = c; d = d }
 
-pub reads-line : (f : List ℕ) (k : ℕ) (l : Line) → 1 ≤ k → k ≤ lines f
-    → ((lineAt f k ≡ l) × (1 ≤ l .letter)) ↔ ((take lineLength (drop (start k) f) ≡ asWritten l) × Writable l)
-reads-line f k l p q =
-    let h : start k + lineLength ≤ length f = omega arith in
-    Iff·trans (line-iff f k l) (to-bytes f (start k) l h, from-bytes f (start k) l h)
+module _ (f : List ℕ) (k : ℕ) (w : Among (lines f) k) where
+  pub reads-line : (l : Line) → ((lineAt f k ≡ l) × (1 ≤ l .letter)) ↔ ((take lineLength (drop (start k) f) ≡ asWritten l) × Writable l)
+  reads-line l =
+      let h : start k + lineLength ≤ length f = omega arith in
+      Iff·trans (line-iff f k l) (to-bytes f (start k) l h, from-bytes f (start k) l h)
+
+  -- and malformed just where they are no line as it is written
+  pub malformed-iff : (lineAt f k .letter ≡ 0) ↔ ((l : Line) → Writable l → take lineLength (drop (start k) f) ≡ asWritten l → ⊥)
+  malformed-iff = (
+    λ z l u e. let (i, m) = reads-line l .1 (e, u) in omega (arith, ap (λ x. x .letter) i),
+    λ none. elim (decLt 0 (lineAt f k .letter)) [
+      | yes m ↦ let (e, u) = reads-line (lineAt f k) .0 (refl, m) in absurd (none (lineAt f k) u e)
+      | no m ↦ omega arith
+    ],
+  )
