@@ -57,7 +57,7 @@ computed = (refl, refl, refl, refl)
 -- ---- the pair falls under demand 3 for label 2
 
 one-list : sharedCalls (settings file) 2 noneOpen firstRun ≡ sharedCalls (settings file) 2 noneOpen secondRun
-unfolding file bytes firstRun secondRun column columns letterOf fields formed lineOf lineAt says last labelBy some via dominates grants track shared sharedCalls
+unfolding file bytes firstRun secondRun column columns letterOf fields formed lineOf lineAt says last labelBy some first via dominates grants track shared sharedCalls
 one-list = refl
 
 one-length : (length firstStore ≡ 192) × (length secondStore ≡ 192)
@@ -65,7 +65,7 @@ unfolding firstStore secondStore
 one-length = (refl, refl)
 
 three-cards : (cards file ≡ 3) × (dominates file 2 (cardLabel file 3) ≡ false)
-unfolding file bytes column columns letterOf fields formed lineOf lineAt says last labelBy some via dominates
+unfolding file bytes column columns letterOf fields formed lineOf lineAt says last labelBy some first via dominates
 three-cards = (refl, refl)
 
 same-cards : SameCards (settings file) 2 firstStore secondStore

@@ -13,10 +13,10 @@ use Rattle.search.proofs.Truth.{and-iff, among-iff, same}
 use Rattle.order.specs.Closure.{Relation}
 use Rattle.order.specs.Bound.{converse}
 use Rattle.rolefile.specs.declared.Verdict.{Verdict}
-use Rattle.rolefile.specs.Line.{A, lineAt, lines}
+use Rattle.rolefile.specs.Line.{A, lineAt, lines, part}
 use Rattle.rolefile.specs.Form.{refusal, header, scan}
 use Rattle.rolefile.specs.Said.{labels, clearance}
-use Rattle.rolefile.specs.Section.{part, one, two}
+use Rattle.rolefile.specs.inner.Section.{one, two}
 use Rattle.rolefile.specs.WellFormed.{GoodCounts, GoodLines}
 use Rattle.rolefile.proofs.Verdicts.{Clean, unless-clean}
 use Rattle.rolefile.proofs.Sections.{Section, told}

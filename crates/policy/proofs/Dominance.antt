@@ -11,10 +11,9 @@ use Rattle.order.specs.Bound.{partnerWithoutBound, lowestWithoutBound, FirstWit
 use Rattle.order.specs.Table.{mark, Rows}
 use Rattle.order.proofs.Closure.{loop-circle}
 use Rattle.order.proofs.Bound.{first-without-agree}
-use Rattle.rolefile.specs.Line.{D, fields}
+use Rattle.rolefile.specs.Line.{D, fields, part}
 use Rattle.rolefile.specs.Form.{refusal, found}
 use Rattle.rolefile.specs.Said.{labels, over}
-use Rattle.rolefile.specs.Section.{part}
 use Rattle.rolefile.proofs.Sections.{Section, says-two}
 use Rattle.rolefile.specs.WellFormed.{GoodLines}
 use Rattle.policy.specs.Settings.{dominates}

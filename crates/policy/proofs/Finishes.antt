@@ -7,8 +7,8 @@ use native.Mathlib.Omega.{arith}
 use Rattle.roleset.specs.Row.{rowOf, Kept}
 use Rattle.roleset.proofs.Rows.{row-kept, kept-both}
 use Rattle.rolefile.specs.declared.Line.{Line}
-use Rattle.rolefile.specs.Line.{fields}
-use Rattle.rolefile.specs.Section.{part, pairs}
+use Rattle.rolefile.specs.Line.{fields, part}
+use Rattle.rolefile.specs.inner.Section.{pairs}
 use Rattle.rolefile.proofs.Sections.{says-two}
 use Rattle.policy.specs.declared.build.Parts.{Parts}
 use Rattle.policy.specs.Tables.{word, assignedAt}

@@ -19,10 +19,10 @@ use Rattle.order.specs.Closure.{Relation, Agree}
 use Rattle.order.specs.Bound.{converse}
 use Rattle.order.specs.Table.{mark, related}
 use Rattle.rolefile.specs.declared.Line.{Line}
-use Rattle.rolefile.specs.Line.{P}
+use Rattle.rolefile.specs.Line.{P, part}
 use Rattle.rolefile.specs.Form.{header}
 use Rattle.rolefile.specs.Said.{labels, roles, cards, above, permits, cardLabel}
-use Rattle.rolefile.specs.Section.{part, one, two, three}
+use Rattle.rolefile.specs.inner.Section.{one, two, three}
 use Rattle.rolefile.specs.WellFormed.{GoodCounts, GoodLines}
 use Rattle.rolefile.proofs.Sections.{Section, says-three}
 use Rattle.policy.specs.declared.build.Parts.{Parts}

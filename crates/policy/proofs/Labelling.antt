@@ -14,10 +14,10 @@ use Rattle.search.proofs.Found.{first-none, first-agree}
 use Rattle.roleset.specs.Row.{Kept}
 use Rattle.roleset.proofs.Rows.{kept-both}
 use Rattle.rolefile.specs.declared.Verdict.{Verdict}
-use Rattle.rolefile.specs.Line.{H, U, O}
+use Rattle.rolefile.specs.Line.{H, U, O, part}
 use Rattle.rolefile.specs.Form.{fine, refusal, header, firstLimit, secondLimit, linesAbout, notOne, unlabelled, linesVerdict, unlabelledVerdict, count}
 use Rattle.rolefile.specs.Said.{users, cards, last, labelBy}
-use Rattle.rolefile.specs.Section.{part, one, two}
+use Rattle.rolefile.specs.inner.Section.{one, two}
 use Rattle.rolefile.proofs.Counts.{count-none}
 use Rattle.rolefile.proofs.Sections.{Section, count-about, label-section}
 use Rattle.rolefile.specs.WellFormed.{GoodLines}

@@ -14,7 +14,7 @@ use Rattle.search.specs.Search.{Among}
 use Rattle.search.proofs.Found.{among-next}
 use Rattle.roleset.proofs.Rows.{kept-both}
 use Rattle.order.specs.Table.{marks, mark, Upto}
-use Rattle.rolefile.specs.Section.{one, two}
+use Rattle.rolefile.specs.inner.Section.{one, two}
 use Rattle.policy.specs.Tables.{dominanceAt, markAt}
 use Rattle.policy.specs.inner.Filling.{Bytes, Marking, WithPair, DominanceRows}
 use Rattle.policy.proofs.Relating.{pairs-more, pairs-none}

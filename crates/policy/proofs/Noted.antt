@@ -10,7 +10,7 @@ use lib.Seq.{getD-set-same, getD-set-other}
 use borrow.Author.Tests.{eq-eqb, ne-eqb}
 use Rattle.search.specs.Search.{Among}
 use Rattle.roleset.proofs.Rows.{Written, kept-wider, kept-both, kept-more}
-use Rattle.rolefile.specs.Section.{one, two}
+use Rattle.rolefile.specs.inner.Section.{one, two}
 use Rattle.policy.specs.Tables.{byteOf}
 use Rattle.policy.specs.inner.Filling.{Bytes, noted, afterNote, notes, NotedBytes}
 

@@ -16,10 +16,10 @@ use Rattle.order.specs.Table.{related, Tabled}
 use Rattle.order.proofs.Closure.{via-converse, circle-converse, loop-circle}
 use Rattle.rolefile.specs.declared.Line.{Line}
 use Rattle.rolefile.specs.declared.Verdict.{Verdict}
-use Rattle.rolefile.specs.Line.{fields}
+use Rattle.rolefile.specs.Line.{fields, part}
 use Rattle.rolefile.specs.Form.{fine, refusal}
 use Rattle.rolefile.specs.Said.{roles, above}
-use Rattle.rolefile.specs.Section.{part, pairs}
+use Rattle.rolefile.specs.inner.Section.{pairs}
 use Rattle.rolefile.proofs.Sections.{says-two}
 use Rattle.rolefile.proofs.Verdicts.{refuses}
 use Rattle.policy.specs.Settings.{senior}

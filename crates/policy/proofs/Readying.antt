@@ -7,12 +7,11 @@ use native.Mathlib.Omega.{arith}
 use native.Mathlib.Decide.{ℕ-discrete}
 use Rattle.search.specs.Search.{Among}
 use Rattle.rolefile.specs.declared.Line.{Line}
-use Rattle.rolefile.specs.Line.{H, D, S, U, O, P, A, lineAt, lines}
+use Rattle.rolefile.specs.Line.{H, D, S, U, O, P, A, letterByte, lineAt, lines, part}
 use Rattle.rolefile.specs.Form.{header, firstLimit, secondLimit, linesVerdict}
 use Rattle.rolefile.specs.Said.{labels, roles}
-use Rattle.rolefile.specs.Section.{part, one, two}
+use Rattle.rolefile.specs.inner.Section.{one, two}
 use Rattle.rolefile.specs.WellFormed.{Sized, GoodCounts, GoodNumbers, GoodLines}
-use Rattle.rolefile.specs.Decimal.{letterByte}
 use Rattle.rolefile.proofs.Decides.{decides-zero}
 use Rattle.rolefile.proofs.Formed.{header-counts, lines-decides}
 use Rattle.rolefile.proofs.Sections.{Cut, Section, cut-first, section-next, told}
@@ -39,7 +38,6 @@ module _ (f : List ℕ) (q : Parts) (e : linesVerdict f .number ≡ 0) (laid : L
   good = good-of f e
 
   bytes : (letterByte D ≡ 68) × (letterByte S ≡ 83) × (letterByte U ≡ 85) × (letterByte O ≡ 79) × (letterByte P ≡ 80) × (letterByte A ≡ 65)
-  unfolding letterByte
   bytes = (refl, refl, refl, refl, refl, refl)
 
   d-begins : Cut f D (q .d .start)

@@ -15,7 +15,7 @@ use Rattle.search.proofs.Found.{some-more, some-yet}
 use Rattle.roleset.specs.Row.{member, rowOf, added, joined, Kept, Placed}
 use Rattle.roleset.proofs.Rows.{row-kept, other-kept, kept-wider, kept-both, whole-true, zero-row}
 use Rattle.order.specs.Closure.{Relation, Agree}
-use Rattle.rolefile.specs.Section.{one, two, three, pairs}
+use Rattle.rolefile.specs.inner.Section.{one, two, three, pairs}
 use Rattle.order.specs.Table.{related}
 use Rattle.policy.specs.Tables.{seniorsAt, readersAt, tableOf}
 use Rattle.policy.specs.inner.Filling.{lineGrants, grantedByLines, Related, GrantedRows, Unites}

@@ -14,7 +14,7 @@ use Rattle.rolefile.specs.Line.{A, lineAt, lines, fields, fieldUsed, start}
 use Rattle.rolefile.specs.Form.{about}
 use Rattle.rolefile.specs.Said.{is, says, assigned, last, labelBy}
 use Rattle.rolefile.specs.WellFormed.{One}
-use Rattle.rolefile.proofs.Written.{Stands, line-iff}
+use Rattle.rolefile.proofs.Written.{FieldIs, line-iff}
 use Rattle.policy.specs.Settings.{settings}
 use Rattle.policy.specs.Accepted.{AllWithinLevels, GoodAssignment}
 
@@ -34,7 +34,7 @@ says-iff f k x y z =
 pub no-third : (f : List ℕ) (i : ℕ) → 1 ≤ lineAt f i .letter → fields (lineAt f i .letter) ≡ 2 → lineAt f i .c ≡ 0
 no-third f i some e = third false (rw e) .1
   where
-    third : (t : Bool) → fieldUsed 3 (lineAt f i .letter) ≡ t → Stands t (fieldAt f (start i + 11)) (lineAt f i .c)
+    third : (t : Bool) → fieldUsed 3 (lineAt f i .letter) ≡ t → FieldIs t (fieldAt f (start i + 11)) (lineAt f i .c)
     third t q = rw q at (line-iff f i (lineAt f i) .0 (refl, some) .c)
 
 -- assignments by the lines and by the relation that they say

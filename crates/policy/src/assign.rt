@@ -10,7 +10,7 @@ ghost use lib.ListN.{length};
 ghost use Rattle.search.specs.Search.{Among};
 ghost use Rattle.rolefile.specs.Line.{lines};
 ghost use Rattle.rolefile.specs.Form.{scan};
-ghost use Rattle.rolefile.specs.Section.{one, two};
+ghost use Rattle.rolefile.specs.inner.Section.{one, two};
 ghost use Rattle.policy.specs.Tables.{seniorsAt};
 ghost use Rattle.policy.specs.inner.Filling.{assignByTables};
 

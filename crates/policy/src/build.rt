@@ -15,9 +15,9 @@ ghost use Prim.Native.Nat.{_+_, _*_, _≤_, _<_, min};
 ghost use lib.ListN.{length};
 ghost use Rattle.roleset.specs.Row.{Kept};
 ghost use Rattle.order.specs.Table.{mark};
-ghost use Rattle.rolefile.specs.Line.{lines};
+ghost use Rattle.rolefile.specs.Line.{lines, part};
 ghost use Rattle.rolefile.specs.Form.{scan};
-ghost use Rattle.rolefile.specs.Section.{part, Leads};
+ghost use Rattle.rolefile.specs.inner.Section.{Leads};
 ghost use Rattle.rolefile.specs.WellFormed.{GoodCounts};
 ghost use Rattle.policy.specs.Tables.{clearancesAt, rLevelsAt, seniorsAt, assignedAt, readersAt, writersAt, stateSize, word};
 ghost use Rattle.policy.specs.Settings.{settings};
@@ -53,12 +53,12 @@ fn part_after(f: &[u8], start: usize, letter: u8) -> Part
 fn lay_out(f: &[u8]) -> Parts
     ensures { λ q. ⌜ Laid (now (f .entry)) q ⌝ }
 {
-    let d = part_after(f, 1, 68);
-    let s = part_after(f, d.start + d.count, 83);
-    let u = part_after(f, s.start + s.count, 85);
-    let o = part_after(f, u.start + u.count, 79);
-    let p = part_after(f, o.start + o.count, 80);
-    let a = part_after(f, p.start + p.count, 65);
+    let d = part_after(f, 1, read::D_BYTE);
+    let s = part_after(f, d.start + d.count, read::S_BYTE);
+    let u = part_after(f, s.start + s.count, read::U_BYTE);
+    let o = part_after(f, u.start + u.count, read::O_BYTE);
+    let p = part_after(f, o.start + o.count, read::P_BYTE);
+    let a = part_after(f, p.start + p.count, read::A_BYTE);
     Parts { d, s, u, o, p, a }
 }
 

@@ -7,7 +7,7 @@ ghost use Prim.Native.Nat.{_+_, _*_, _≤_};
 ghost use lib.Dec.{eqb};
 ghost use lib.ListN.{length};
 ghost use Rattle.rolefile.specs.Line.{lines};
-ghost use Rattle.rolefile.specs.Section.{pairs};
+ghost use Rattle.rolefile.specs.inner.Section.{pairs};
 ghost use Rattle.policy.specs.Tables.{writersAt};
 ghost use Rattle.policy.specs.inner.Filling.{lineGrants, grantedByLines, Related, GrantedRows};
 

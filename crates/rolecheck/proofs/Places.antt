@@ -9,8 +9,8 @@ use Rattle.rolefile.specs.declared.Field.{Field}
 use Rattle.rolefile.specs.declared.Field.the-variants.{Blank, Number, Bad}
 use Rattle.rolefile.specs.declared.Line.{Line}
 use Rattle.rolefile.specs.declared.Verdict.{Verdict}
-use Rattle.rolefile.specs.Field.{fieldAt}
-use Rattle.rolefile.specs.Line.{value, formed, lineOf, start, lineAt, noLine}
+use Rattle.rolefile.specs.Field.{fieldAt, value}
+use Rattle.rolefile.specs.Line.{formed, lineOf, start, lineAt, noLine}
 use Rattle.rolefile.proofs.Decimals.{field-number}
 use Rattle.policy.specs.Verdict.{verdict}
 use Rattle.policy.specs.Accepted.{Outcome, accepted, badSize, badLine, badUser, badCard, labelCircle, noBound, roleCircle, badAssignment}

@@ -7,44 +7,45 @@ use mathlib.Core.List.{List, [], _∷_, _++_, append-assoc, append-nil}
 use mathlib.Core.Bool.{true, _&&_}
 use native.Mathlib.Omega.{arith}
 use native.Mathlib.Decide.{decLt}
+use lib.Dec.{eqb}
 use lib.ListN.{length, replicate, length-append, length-replicate, replicate-append-replicate}
 use borrow.Author.Tests.{lt-ltb, le-ltb, eqb-true, ne-eqb}
 use Rattle.search.specs.Search.{among, Among}
 use Rattle.search.proofs.Truth.{leb-iff, and-iff, and-both, among-iff, either-by}
 use Rattle.rolefile.specs.declared.Field.{Field}
 use Rattle.rolefile.specs.declared.Field.the-variants.{Blank, Number, Bad}
-use Rattle.rolefile.specs.Field.{isBlank, isDigit, column, columns, five, fieldAt}
-use Rattle.rolefile.specs.Section.{figure}
+use Rattle.rolefile.specs.Field.{blank, digitZero, digitNine, isDigit, column, columns, five, fieldAt}
+use Rattle.rolefile.specs.inner.Section.{figure}
 use Rattle.rolefile.specs.Decimal.{lastDigits, digits, padded, blanks}
 
 abbrev pub IsDigit : ℕ → Type 0
-IsDigit b = (48 ≤ b) × (b ≤ 57)
+IsDigit b = (digitZero ≤ b) × (b ≤ digitNine)
 
 pub isDigit-iff : (b : ℕ) → (isDigit b ≡ true) ↔ IsDigit b
-isDigit-iff b = and-both (leb-iff 48 b) (leb-iff b 57)
+isDigit-iff b = and-both (leb-iff digitZero b) (leb-iff b digitNine)
 
 -- ---- what one column more reads as
 
 module _ (P : Field → Type 0) (bad : P Bad) where
-  after-blank : (b : ℕ) → (b ≡ 32 → P Blank) → (IsDigit b → P (Number (b - 48))) → P (column Blank b)
+  after-blank : (b : ℕ) → (b ≡ blank → P Blank) → (IsDigit b → P (Number (b - digitZero))) → P (column Blank b)
   unfolding column
-  after-blank b blank digit =
-      either-by P (isBlank b) Blank _ (λ p. blank (eqb-true b 32 p)) (λ p.
-      either-by P (isDigit b) (Number (b - 48)) Bad (λ q. digit (isDigit-iff b .0 q)) (λ q. bad))
+  after-blank b onBlank onDigit =
+      either-by P (eqb b blank) Blank _ (λ p. onBlank (eqb-true b blank p)) (λ p.
+      either-by P (isDigit b) (Number (b - digitZero)) Bad (λ q. onDigit (isDigit-iff b .0 q)) (λ q. bad))
 
-  after-number : (n b : ℕ) → (IsDigit b → Among 9999 n → P (Number (10 * n + (b - 48)))) → P (column (Number n) b)
+  after-number : (n b : ℕ) → (IsDigit b → Among 9999 n → P (Number (10 * n + (b - digitZero)))) → P (column (Number n) b)
   unfolding column
-  after-number n b digit =
-      either-by P (isDigit b && among 9999 n) (Number (10 * n + (b - 48))) Bad
-      (λ p. let (d, a) = and-iff (isDigit b) (among 9999 n) .0 p in digit (isDigit-iff b .0 d) (among-iff 9999 n .0 a)) (λ p. bad)
+  after-number n b onDigit =
+      either-by P (isDigit b && among 9999 n) (Number (10 * n + (b - digitZero))) Bad
+      (λ p. let (d, a) = and-iff (isDigit b) (among 9999 n) .0 p in onDigit (isDigit-iff b .0 d) (among-iff 9999 n .0 a)) (λ p. bad)
 
 -- ---- the digits of n, by those of n / 10
 
-pub last-single : (k n : ℕ) → n < 10 → lastDigits (suc k) n ≡ (48 + n) ∷ []
+pub last-single : (k n : ℕ) → n < 10 → lastDigits (suc k) n ≡ (digitZero + n) ∷ []
 unfolding lastDigits
 last-single k n l = rw (lt-ltb n 10 l)
 
-pub last-more : (k n : ℕ) → 10 ≤ n → lastDigits (suc k) n ≡ lastDigits k (n / 10) ++ ((48 + n % 10) ∷ [])
+pub last-more : (k n : ℕ) → 10 ≤ n → lastDigits (suc k) n ≡ lastDigits k (n / 10) ++ ((digitZero + n % 10) ∷ [])
 unfolding lastDigits
 last-more k n l = rw (le-ltb n 10 l)
 
@@ -63,11 +64,11 @@ power-above : (n : ℕ) → n < 10 ^ suc n
 power-above zero = omega arith
 power-above (suc n) = omega (arith, power-above n)
 
-single-digit : (n : ℕ) → n < 10 → digits n ≡ (48 + n) ∷ []
+single-digit : (n : ℕ) → n < 10 → digits n ≡ (digitZero + n) ∷ []
 unfolding digits
 single-digit n l = last-single n n l
 
-more-digits : (n : ℕ) → 10 ≤ n → digits n ≡ digits (n / 10) ++ ((48 + n % 10) ∷ [])
+more-digits : (n : ℕ) → 10 ≤ n → digits n ≡ digits (n / 10) ++ ((digitZero + n % 10) ∷ [])
 unfolding digits
 more-digits n l = rw (last-more n n l, same-digits (n / 10) n (n / 10) (power-above (n / 10)) (omega arith))
 
@@ -86,25 +87,25 @@ padded-length n l = simp (length-append, length-replicate) (omega (arith, few-di
 
 -- the columns cs show what f says: blanks, or blanks and then the digits of a number
 abbrev Shows : List ℕ → Field → Type 0
-Shows cs Blank = (k : ℕ) × (cs ≡ replicate k 32)
-Shows cs (Number n) = (k : ℕ) × (n < 100000) × (cs ≡ replicate k 32 ++ digits n)
+Shows cs Blank = (k : ℕ) × (cs ≡ replicate k blank)
+Shows cs (Number n) = (k : ℕ) × (n < 100000) × (cs ≡ replicate k blank ++ digits n)
 Shows cs Bad = Unit {0}
 
-shown-first : (b : ℕ) → IsDigit b → digits (b - 48) ≡ b ∷ []
+shown-first : (b : ℕ) → IsDigit b → digits (b - digitZero) ≡ b ∷ []
 shown-first b d =
-    let whole : 48 + (b - 48) ≡ b = omega arith in
-    single-digit (b - 48) (omega arith) ∙ rw whole
+    let whole : digitZero + (b - digitZero) ≡ b = omega arith in
+    single-digit (b - digitZero) (omega arith) ∙ rw whole
 
-shown-next : (n b : ℕ) → 1 ≤ n → IsDigit b → digits (10 * n + (b - 48)) ≡ digits n ++ (b ∷ [])
+shown-next : (n b : ℕ) → 1 ≤ n → IsDigit b → digits (10 * n + (b - digitZero)) ≡ digits n ++ (b ∷ [])
 shown-next n b l d =
-    let front : (10 * n + (b - 48)) / 10 ≡ n = omega arith in
-    let last : 48 + (10 * n + (b - 48)) % 10 ≡ b = omega arith in
-    more-digits (10 * n + (b - 48)) (omega arith) ∙ rw (front, last)
+    let front : (10 * n + (b - digitZero)) / 10 ≡ n = omega arith in
+    let last : digitZero + (10 * n + (b - digitZero)) % 10 ≡ b = omega arith in
+    more-digits (10 * n + (b - digitZero)) (omega arith) ∙ rw (front, last)
 
 shows-more : (cs : List ℕ) (f : Field) (b : ℕ) → Shows cs f → Shows (cs ++ (b ∷ [])) (column f b)
 unfolding column
 shows-more cs Blank b (k, e) =
-    after-blank (Shows (cs ++ (b ∷ []))) tt b (λ p. (k + 1, rw (e, p) (replicate-append-replicate k 1 32))) (λ d. (k, omega arith, rw (e, shown-first b d)))
+    after-blank (Shows (cs ++ (b ∷ []))) tt b (λ p. (k + 1, rw (e, p) (replicate-append-replicate k 1 blank))) (λ d. (k, omega arith, rw (e, shown-first b d)))
 shows-more cs (Number n) b (k, l, e) =
     after-number (Shows (cs ++ (b ∷ []))) tt n b (λ d w. (k, omega arith, rw (e, shown-next n b (w .0) d, append-assoc)))
 shows-more cs Bad b s = tt
@@ -124,22 +125,22 @@ unfolding columns
 columns-append f [] ys = refl
 columns-append f (b ∷ xs) ys = columns-append (column f b) xs ys
 
-blanks-read : (k : ℕ) → columns Blank (replicate k 32) ≡ Blank
+blanks-read : (k : ℕ) → columns Blank (replicate k blank) ≡ Blank
 unfolding columns column
 blanks-read zero = refl
 blanks-read (suc k) = blanks-read k
 
-first-read : (n : ℕ) → n < 10 → column Blank (48 + n) ≡ Number n
+first-read : (n : ℕ) → n < 10 → column Blank (digitZero + n) ≡ Number n
 unfolding column
 first-read n l =
-    let whole : 48 + n - 48 ≡ n = omega arith in
-    rw (ne-eqb (48 + n) 32 (omega arith), isDigit-iff (48 + n) .1 (omega arith), whole)
+    let whole : digitZero + n - digitZero ≡ n = omega arith in
+    rw (ne-eqb (digitZero + n) blank (omega arith), isDigit-iff (digitZero + n) .1 (omega arith), whole)
 
-next-read : (n : ℕ) → 10 ≤ n → n < 100000 → column (Number (n / 10)) (48 + n % 10) ≡ Number n
+next-read : (n : ℕ) → 10 ≤ n → n < 100000 → column (Number (n / 10)) (digitZero + n % 10) ≡ Number n
 unfolding column
 next-read n l m =
-    let whole : 10 * (n / 10) + (48 + n % 10 - 48) ≡ n = omega arith in
-    rw (isDigit-iff (48 + n % 10) .1 (omega arith), among-iff 9999 (n / 10) .1 (omega arith), whole)
+    let whole : 10 * (n / 10) + (digitZero + n % 10 - digitZero) ≡ n = omega arith in
+    rw (isDigit-iff (digitZero + n % 10) .1 (omega arith), among-iff 9999 (n / 10) .1 (omega arith), whole)
 
 digits-read : (k n : ℕ) → n < k → n < 100000 → columns Blank (digits n) ≡ Number n
 unfolding columns

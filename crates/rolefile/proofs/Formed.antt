@@ -14,7 +14,8 @@ use Rattle.search.proofs.Truth.{eqb-iff, leb-iff, ltb-iff, and-both, or-both, i
 use Rattle.search.proofs.Found.{first-none-of}
 use Rattle.rolefile.specs.declared.Line.{Line}
 use Rattle.rolefile.specs.declared.Verdict.{Verdict}
-use Rattle.rolefile.specs.Line.{H, U, O, P, lineAt, lines}
+use Rattle.rolefile.specs.Line.{lineLength, H, U, O, P, lineAt, lines}
+use Rattle.rolefile.specs.Form.{lengthLimit, labelLimit, roleLimit, userLimit, cardLimit, modeLimit}
 use Rattle.rolefile.specs.Form.{refusal, sized, header, goodCounts, firstLimit, secondLimit, ranged, before, rises, headVerdict, bodyVerdict, lineVerdict, about, unlabelled, found, unlabelledVerdict, linesVerdict, formVerdict, withinLimits, linesAbout, notOne}
 use Rattle.rolefile.specs.Said.{users, cards}
 use Rattle.rolefile.specs.WellFormed.{Sized, GoodCounts, GoodNumbers, Before, Rises, GoodHead, GoodBody, GoodLine, GoodLines, LineRefused, noHeader, badCounts, malformed, badNumbers, unordered, One, OneEach, LowestUnlabelled, WellFormed}
@@ -27,15 +28,15 @@ use Rattle.rolefile.proofs.Counts.{count-one}
 pub sized-iff : (f : List ℕ) → (sized f ≡ true) ↔ Sized f
 unfolding sized
 sized-iff f =
-    let t = and-both (leb-iff 1 (length f)) (and-both (eqb-iff (length f % 22) 0) (leb-iff (length f) 63800)) in (
+    let t = and-both (leb-iff 1 (length f)) (and-both (eqb-iff (length f % lineLength) 0) (leb-iff (length f) lengthLimit)) in (
       λ e. let (p, (q, r)) = t .0 e in record { some = p; whole = q; short = r },
       λ s. t .1 (s .some, (s .whole, s .short)),
     )
 
 -- ---- 2 to 5
 
-pub limits-iff : (a b c d : ℕ) → (withinLimits a b c d ≡ true) ↔ (Among 32 a × ((b ≤ 128) × ((c ≤ 256) × (d ≤ 512))))
-limits-iff a b c d = and-both (among-iff 32 a) (and-both (leb-iff b 128) (and-both (leb-iff c 256) (leb-iff d 512)))
+pub limits-iff : (a b c d : ℕ) → (withinLimits a b c d ≡ true) ↔ (Among labelLimit a × ((b ≤ roleLimit) × ((c ≤ userLimit) × (d ≤ cardLimit))))
+limits-iff a b c d = and-both (among-iff labelLimit a) (and-both (leb-iff b roleLimit) (and-both (leb-iff c userLimit) (leb-iff d cardLimit)))
 
 good-counts-iff : (h : Line) → (goodCounts h ≡ true) ↔ GoodCounts h
 unfolding goodCounts
@@ -50,7 +51,7 @@ unfolding ranged
 ranged-iff h l =
     let one = among-iff (firstLimit h (l .letter)) (l .a) in
     let two = among-iff (secondLimit h (l .letter)) (l .b) in
-    let t = and-both one (and-both two (implies-both (eqb-iff (l .letter) P) (among-iff 2 (l .c)))) in (
+    let t = and-both one (and-both two (implies-both (eqb-iff (l .letter) P) (among-iff modeLimit (l .c)))) in (
       λ e. let (p, (q, r)) = t .0 e in record { one = p; two = q; mode = r },
       λ g. t .1 (g .one, (g .two, g .mode)),
     )

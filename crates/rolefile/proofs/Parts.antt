@@ -7,11 +7,10 @@ use native.Mathlib.Omega.{arith}
 use native.Mathlib.Nat.{add-assoc}
 use lib.ListN.{length-drop}
 use lib.Seq.{getD-drop}
-use Rattle.rolefile.specs.Line.{lineAt, lines, start}
-use Rattle.rolefile.specs.Section.{part}
+use Rattle.rolefile.specs.Line.{lineLength, start, lineAt, lines, part}
 
 -- line k of the part starts where the file's line j + k does
-pub part-start : (j k : ℕ) → 1 ≤ k → start (j + k) ≡ 22 * j + start k
+pub part-start : (j k : ℕ) → 1 ≤ k → start (j + k) ≡ lineLength * j + start k
 part-start j k l = omega arith
 
 pub part-line : (f : List ℕ) (j k : ℕ) → 1 ≤ k → lineAt (part f j) k ≡ lineAt f (j + k)

@@ -12,58 +12,62 @@ use Rattle.search.proofs.Truth.{eqb-iff, and-both, same}
 use types.Run
 use Rattle.rolefile.specs.declared.Field.{Field}
 use Rattle.rolefile.specs.declared.Field.the-variants.{Blank, Number, Bad}
-use Rattle.rolefile.specs.Field.{fieldAt}
-use Rattle.rolefile.specs.Line.{fits, value, takenOut, noLine, lineFrom}
+use Rattle.rolefile.specs.Field.{blank, fieldAt, fieldNumber, value}
+use Rattle.rolefile.specs.Line.{noLine, lineFrom}
+use Rattle.rolefile.specs.inner.Field.{takenOut}
 use Rattle.rolefile.proofs.Decimals.{field-blank}
-use Rattle.rolefile.proofs.Written.{Stands, fits-stands, stands-fits, not-made}
+use Rattle.rolefile.proofs.Written.{FieldIs, number-stands, stands-number, not-made}
 use Rattle.rolefile.proofs.Field as field-type
 
 -- four columns as one number, the first lowest
 abbrev four : List ℕ → ℕ → ℕ
 four f at = getD f at 0 + 256 * getD f (at + 1) 0 + 65536 * getD f (at + 2) 0 + 16777216 * getD f (at + 3) 0
 
+abbrev fourBlanks : ℕ
+fourBlanks = 538976288
+
 -- five blanks, four of them tested at once
 module _ (f : List ℕ) (at : ℕ) where
   pub blank-tested : getD f at 0 < 256 → getD f (at + 1) 0 < 256 → getD f (at + 2) 0 < 256 → getD f (at + 3) 0 < 256
-      → (eqb (four f at) 538976288 && eqb (getD f (at + 4) 0) 32) ≡ fits false (fieldAt f at)
+      → (eqb (four f at) fourBlanks && eqb (getD f (at + 4) 0) blank) ≡ eqb (fieldNumber false (fieldAt f at)) 0
   blank-tested l m n o = same _ _ to of
     where
-      to : (eqb (four f at) 538976288 && eqb (getD f (at + 4) 0) 32) ≡ true → fits false (fieldAt f at) ≡ true
+      to : (eqb (four f at) fourBlanks && eqb (getD f (at + 4) 0) blank) ≡ true → eqb (fieldNumber false (fieldAt f at)) 0 ≡ true
       to e =
-          let (h, e₄) = and-both (eqb-iff (four f at) 538976288) (eqb-iff (getD f (at + 4) 0) 32) .0 e in
-          let e₃ : getD f (at + 3) 0 ≡ 32 = omega arith in
-          let e₂ : getD f (at + 2) 0 ≡ 32 = omega arith in
-          let e₁ : getD f (at + 1) 0 ≡ 32 = omega arith in
-          let e₀ : getD f at 0 ≡ 32 = omega arith in
+          let (h, e₄) = and-both (eqb-iff (four f at) fourBlanks) (eqb-iff (getD f (at + 4) 0) blank) .0 e in
+          let e₃ : getD f (at + 3) 0 ≡ blank = omega arith in
+          let e₂ : getD f (at + 2) 0 ≡ blank = omega arith in
+          let e₁ : getD f (at + 1) 0 ≡ blank = omega arith in
+          let e₀ : getD f at 0 ≡ blank = omega arith in
           let b : fieldAt f at ≡ Blank = field-blank f at .1 (rw (e₀, e₁, e₂, e₃, e₄)) in
           rw b
 
-      of : fits false (fieldAt f at) ≡ true → (eqb (four f at) 538976288 && eqb (getD f (at + 4) 0) 32) ≡ true
+      of : eqb (fieldNumber false (fieldAt f at)) 0 ≡ true → (eqb (four f at) fourBlanks && eqb (getD f (at + 4) 0) blank) ≡ true
       of e =
-          let s = field-blank f at .0 (fits-stands false (fieldAt f at) e .0) in
-          let e₀ : getD f at 0 ≡ 32 = cc in
-          let e₁ : getD f (at + 1) 0 ≡ 32 = cc in
-          let e₂ : getD f (at + 2) 0 ≡ 32 = cc in
-          let e₃ : getD f (at + 3) 0 ≡ 32 = cc in
-          let e₄ : getD f (at + 4) 0 ≡ 32 = cc in
-          and-both (eqb-iff (four f at) 538976288) (eqb-iff (getD f (at + 4) 0) 32) .1 (omega arith, e₄)
+          let s = field-blank f at .0 (number-stands false (fieldAt f at) e .0) in
+          let e₀ : getD f at 0 ≡ blank = cc in
+          let e₁ : getD f (at + 1) 0 ≡ blank = cc in
+          let e₂ : getD f (at + 2) 0 ≡ blank = cc in
+          let e₃ : getD f (at + 3) 0 ≡ blank = cc in
+          let e₄ : getD f (at + 4) 0 ≡ blank = cc in
+          and-both (eqb-iff (four f at) fourBlanks) (eqb-iff (getD f (at + 4) 0) blank) .1 (omega arith, e₄)
 
 -- what is taken out of a field without use
-pub taken-blank : (f : Field) → fits false f ≡ true → Number 0 ≡ takenOut false f
+pub taken-blank : (f : Field) → eqb (fieldNumber false f) 0 ≡ true → Number 0 ≡ takenOut false f
 unfolding takenOut
-taken-blank f e = rw (fits-stands false f e .0)
+taken-blank f e = rw (number-stands false f e .0)
 
-pub taken-spoilt : (f : Field) → fits false f ≡ false → Bad ≡ takenOut false f
+pub taken-spoilt : (f : Field) → eqb (fieldNumber false f) 0 ≡ false → Bad ≡ takenOut false f
 unfolding takenOut
 taken-spoilt f e = rw e
 
 -- a number is taken out of a field just where the field stands as it
-pub taken-iff : (used : Bool) (f : Field) (n : ℕ) → (takenOut used f ≡ Number n) ↔ Stands used f n
+pub taken-iff : (used : Bool) (f : Field) (n : ℕ) → (takenOut used f ≡ Number n) ↔ FieldIs used f n
 unfolding takenOut
-taken-iff used f n = (to (fits used f) refl, λ h. let (e, v) = stands-fits used f n h in rw (e, v))
+taken-iff used f n = (to (eqb (fieldNumber used f) 0) refl, λ h. let (e, v) = stands-number used f n h in rw (e, v))
   where
-    to : (b : Bool) → fits used f ≡ b → cond b (Number (value f)) Bad ≡ Number n → Stands used f n
-    to true q e = let v : value f ≡ n = cc in rw v at (fits-stands used f q)
+    to : (b : Bool) → eqb (fieldNumber used f) 0 ≡ b → cond b (Number (value f)) Bad ≡ Number n → FieldIs used f n
+    to true q e = let v : value f ≡ n = cc in rw v at (number-stands used f q)
     to false q e = let z : _≡_ {A = ℕ} 0 1 = cc in absurd (omega arith)
 
 -- a number is none of the other fields that a match saw

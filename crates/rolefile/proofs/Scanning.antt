@@ -13,7 +13,7 @@ use Rattle.rolefile.specs.declared.Verdict.{Verdict}
 use Rattle.rolefile.specs.declared.check.Seen.{Seen}
 use Rattle.rolefile.specs.Line.{lineAt, lines}
 use Rattle.rolefile.specs.Form.{refusal, header, headVerdict, bodyVerdict, lineVerdict, scan, linesVerdict}
-use Rattle.rolefile.specs.Scan.{seen, goesOn, looked}
+use Rattle.rolefile.specs.inner.Scan.{seen, goesOn, looked}
 use Rattle.rolefile.specs.WellFormed.{Sized}
 use Rattle.rolefile.proofs.Verdicts.{scan-last, scan-stays}
 use Rattle.rolefile.proofs.Formed.{sized-iff}

@@ -16,14 +16,13 @@ use Rattle.search.specs.Search.{Among, some}
 use Rattle.search.proofs.Truth.{and-iff}
 use Rattle.rolefile.specs.declared.Line.{Line}
 use Rattle.rolefile.specs.Field.{fieldAt}
-use Rattle.rolefile.specs.Line.{P, letterOf, fields, start, lineAt, lines, fieldUsed}
+use Rattle.rolefile.specs.Line.{P, letterByte, letterOf, fields, fieldUsed, start, lineAt, lines, part}
 use Rattle.rolefile.specs.Form.{count, about, linesAbout}
 use Rattle.rolefile.specs.Said.{is, says, last, labelBy}
 use Rattle.rolefile.specs.WellFormed.{GoodLines}
-use Rattle.rolefile.specs.Decimal.{letterByte}
-use Rattle.rolefile.specs.Section.{part, one, two, three, letterAt, Leads, pairs}
+use Rattle.rolefile.specs.inner.Section.{one, two, three, letterAt, Leads, pairs}
 use Rattle.rolefile.proofs.Decimals.{figures}
-use Rattle.rolefile.proofs.Written.{Reads, Stands, letter-iff, line-iff}
+use Rattle.rolefile.proofs.Written.{Reads, FieldIs, letter-iff, line-iff}
 use Rattle.rolefile.proofs.Parts.{part-start, part-line, part-lines}
 use Rattle.rolefile.proofs.Within.{Within, some-within, count-within, last-within}
 
@@ -147,7 +146,7 @@ module _ (f : List ℕ) (good : GoodLines f) {k j m : ℕ} (s : Section f k j m)
       line-iff (part f j) i (lineAt f (j + i)) .0 (part-line f j i (w .0), some-letter f good (j + i) (omega arith))
 
   third : (i : ℕ) → Among m i → (t : Bool) → fieldUsed 3 (lineAt f (j + i) .letter) ≡ t
-      → Stands t (fieldAt (part f j) (start i + 11)) (lineAt f (j + i) .c)
+      → FieldIs t (fieldAt (part f j) (start i + 11)) (lineAt f (j + i) .c)
   third i w t e = rw e at (line-reads i w .c)
 
   there : (i : ℕ) → Among m i → leb i (lines (part f j)) ≡ true

@@ -1,4 +1,4 @@
--- Quoted texts as bytes, for the cases of `monitor` and the texts of `report` and `graph`. Assumes nothing.
+-- Quoted texts as bytes, for the letters of lines, the cases of `monitor` and the texts of `report` and `graph`. Assumes nothing.
 use Prim.Native.Nat.{ℕ}
 use Prim.Native.Char.{code}
 use Prim.Native.String.{String}

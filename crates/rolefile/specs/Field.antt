@@ -9,17 +9,23 @@ use Rattle.search.specs.Search.{among}
 use Rattle.rolefile.specs.declared.Field.{Field}
 use Rattle.rolefile.specs.declared.Field.the-variants.{Blank, Number, Bad}
 
--- the bytes of blank and of the digits
-abbrev pub isBlank : ℕ → Bool
-isBlank b = eqb b 32
+-- the bytes of a blank, of the digit 0 and of the digit 9
+abbrev pub blank : ℕ
+blank = 32
+
+abbrev pub digitZero : ℕ
+digitZero = 48
+
+abbrev pub digitNine : ℕ
+digitNine = 57
 
 abbrev pub isDigit : ℕ → Bool
-isDigit b = leb 48 b && leb b 57
+isDigit b = leb digitZero b && leb b digitNine
 
 -- one column more: after blanks a blank or a first digit; after a number, unless it is 0 or has five digits, a digit
 unfoldable pub column : Field → ℕ → Field
-column Blank b = cond (isBlank b) Blank (cond (isDigit b) (Number (b - 48)) Bad)
-column (Number n) b = cond (isDigit b && among 9999 n) (Number (10 * n + (b - 48))) Bad
+column Blank b = cond (eqb b blank) Blank (cond (isDigit b) (Number (b - digitZero)) Bad)
+column (Number n) b = cond (isDigit b && among 9999 n) (Number (10 * n + (b - digitZero))) Bad
 column Bad b = Bad
 
 unfoldable pub columns : Field → List ℕ → Field
@@ -32,3 +38,15 @@ five f at = getD f at 0 ∷ getD f (at + 1) 0 ∷ getD f (at + 2) 0 ∷ getD f (
 
 abbrev pub fieldAt : List ℕ → ℕ → Field
 fieldAt f at = columns Blank (five f at)
+
+-- the number of a field by its cases, where its line's letter uses it and where not: "A field that doesn't read as a number ends its line with 2"
+abbrev pub fieldNumber : Bool → Field → ℕ
+fieldNumber used Blank = cond used 2 0
+fieldNumber used (Number n) = cond used 0 2
+fieldNumber used Bad = 2
+
+-- and its value, for a line that it does not end
+abbrev pub value : Field → ℕ
+value Blank = 0
+value (Number n) = n
+value Bad = 0

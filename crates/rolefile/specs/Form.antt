@@ -7,7 +7,7 @@ use lib.ListN.{length}
 use Rattle.search.specs.Search.{among, first, implies}
 use Rattle.rolefile.specs.declared.Line.{Line}
 use Rattle.rolefile.specs.declared.Verdict.{Verdict}
-use Rattle.rolefile.specs.Line.{H, D, S, U, O, P, A, lineAt, lines}
+use Rattle.rolefile.specs.Line.{lineLength, H, D, S, U, O, P, A, lineAt, lines}
 
 -- ---- verdicts: a number and its place
 
@@ -33,8 +33,11 @@ scan (suc n) v = scan n v then v (suc n)
 
 -- ---- 1: "length 0, not a multiple of 22, or above 63,800"
 
+abbrev pub lengthLimit : ℕ
+lengthLimit = 63800
+
 unfoldable pub sized : List ℕ → Bool
-sized f = leb 1 (length f) && (eqb (length f % 22) 0 && leb (length f) 63800)
+sized f = leb 1 (length f) && (eqb (length f % lineLength) 0 && leb (length f) lengthLimit)
 
 -- ---- line by line 2 to 5
 
@@ -43,22 +46,38 @@ abbrev pub header : List ℕ → Line
 header f = lineAt f 1
 
 -- 3: "labels 1 to 32, roles 0 to 128, users 0 to 256, cards 0 to 512"
+abbrev pub labelLimit : ℕ
+labelLimit = 32
+
+abbrev pub roleLimit : ℕ
+roleLimit = 128
+
+abbrev pub userLimit : ℕ
+userLimit = 256
+
+abbrev pub cardLimit : ℕ
+cardLimit = 512
+
 abbrev pub withinLimits : ℕ → ℕ → ℕ → ℕ → Bool
-withinLimits labels roles users cards = among 32 labels && (leb roles 128 && (leb users 256 && leb cards 512))
+withinLimits labels roles users cards = among labelLimit labels && (leb roles roleLimit && (leb users userLimit && leb cards cardLimit))
 
 unfoldable pub goodCounts : Line → Bool
 goodCounts h = withinLimits (h .a) (h .b) (h .c) (h .d)
 
--- 4: the count that the first and the second field of a letter's lines go up to; a mode is 1 or 2
+-- 4: the count that the first and the second field of a letter's lines go up to
 unfoldable pub firstLimit : Line → ℕ → ℕ
 firstLimit h k = cond (eqb k D) (h .a) (cond (eqb k S || eqb k P) (h .b) (cond (eqb k O) (h .d) (h .c)))
 
 unfoldable pub secondLimit : Line → ℕ → ℕ
 secondLimit h k = cond (eqb k S || eqb k A) (h .b) (cond (eqb k P) (h .d) (h .a))
 
+-- "read (m = 1) or write (m = 2)"
+abbrev pub modeLimit : ℕ
+modeLimit = 2
+
 unfoldable pub ranged : Line → Line → Bool
 ranged h l =
-    among (firstLimit h (l .letter)) (l .a) && (among (secondLimit h (l .letter)) (l .b) && implies (eqb (l .letter) P) (among 2 (l .c)))
+    among (firstLimit h (l .letter)) (l .a) && (among (secondLimit h (l .letter)) (l .b) && implies (eqb (l .letter) P) (among modeLimit (l .c)))
 
 -- 5: "the letters come in the table's order, and lines of a letter rise strictly by their fields read left to right"
 abbrev pub before : ℕ → ℕ → Bool → Bool

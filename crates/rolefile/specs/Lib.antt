@@ -4,6 +4,5 @@ pub mod Line
 pub mod Form
 pub mod Said
 pub mod WellFormed
-pub mod Section
 pub mod Decimal
-pub mod Scan
+pub mod inner

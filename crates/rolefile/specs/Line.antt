@@ -1,16 +1,23 @@
 -- The lines of a role file: "A line is 22 bytes: one letter, four fields of 5 columns, and byte 10." Assumes nothing.
 use Prim.Native.Nat.{ℕ, _+_, _*_, _-_, _/_}
 use mathlib.Core.List.{List, []}
-use mathlib.Core.Bool.{Bool, true, false, not, _&&_, cond}
+use mathlib.Core.Bool.{Bool, true, _&&_, cond}
 use lib.Dec.{leb, eqb}
 use lib.ListN.{length, getD, take, drop}
-use Rattle.search.specs.Search.{among}
+use Rattle.search.specs.Search.{among, first}
 use Rattle.rolefile.specs.declared.Field.{Field}
-use Rattle.rolefile.specs.declared.Field.the-variants.{Blank, Number, Bad}
 use Rattle.rolefile.specs.declared.Line.{Line}
-use Rattle.rolefile.specs.Field.{fieldAt}
+use Rattle.rolefile.specs.Ascii.{ascii}
+use Rattle.rolefile.specs.Field.{fieldAt, fieldNumber, value}
 
--- a letter by its row in the document's table: H, D, S, U, O, P, A; 0 is none of them
+-- a line's length, and the byte at its end
+abbrev pub lineLength : ℕ
+lineLength = 22
+
+abbrev pub newline : ℕ
+newline = 10
+
+-- a letter by its row in the document's table
 abbrev pub H : ℕ
 H = 1
 
@@ -32,9 +39,13 @@ P = 6
 abbrev pub A : ℕ
 A = 7
 
+-- and its byte
+abbrev pub letterByte : ℕ → ℕ
+letterByte k = getD (ascii "HDSUOPA") (k - 1) 0
+
+-- the row of the letter that has the byte b, or 0 where none has
 unfoldable pub letterOf : ℕ → ℕ
-letterOf b =
-    cond (eqb b 72) H (cond (eqb b 68) D (cond (eqb b 83) S (cond (eqb b 85) U (cond (eqb b 79) O (cond (eqb b 80) P (cond (eqb b 65) A 0))))))
+letterOf b = first 7 (λ k. eqb b (letterByte k))
 
 -- how many fields a letter's lines have
 unfoldable pub fields : ℕ → ℕ
@@ -44,25 +55,13 @@ fields k = cond (eqb k H) 4 (cond (eqb k P) 3 2)
 abbrev pub fieldUsed : ℕ → ℕ → Bool
 fieldUsed j k = leb j (fields k)
 
--- "A field without use is five blanks", and one in use is a number
-abbrev pub fits : Bool → Field → Bool
-fits used Blank = not used
-fits used (Number n) = used
-fits used Bad = false
-
--- the number in a field, 0 where it has none
-abbrev pub value : Field → ℕ
-value Blank = 0
-value (Number n) = n
-value Bad = 0
-
--- what a line reader takes out of a field: its number, or 0 where it has no use; "a field that doesn't read as a number ends its line with 2"
-unfoldable pub takenOut : Bool → Field → Field
-takenOut used f = cond (fits used f) (Number (value f)) Bad
-
--- the line is not malformed: it has a letter, byte 10 at its end, numbers in the fields that its letter uses and blanks in the others
+-- the line is not malformed: it has a letter, byte 10 at its end, and no field that ends it
 unfoldable pub formed : ℕ → ℕ → Field → Field → Field → Field → Bool
-formed k end p q r s = leb 1 k && (eqb end 10 && (fits true p && (fits true q && (fits (fieldUsed 3 k) r && fits (fieldUsed 4 k) s))))
+formed k end p q r s =
+    leb 1 k
+    && (eqb end newline
+    && (eqb (fieldNumber true p) 0
+    && (eqb (fieldNumber true q) 0 && (eqb (fieldNumber (fieldUsed 3 k) r) 0 && eqb (fieldNumber (fieldUsed 4 k) s) 0))))
 
 -- a malformed line has no letter
 abbrev pub noLine : Line
@@ -78,13 +77,17 @@ lineFrom f i =
 
 -- line k, counted from 1, starts here
 abbrev pub start : ℕ → ℕ
-start k = 22 * (k - 1)
+start k = lineLength * (k - 1)
 
 unfoldable pub lineAt : List ℕ → ℕ → Line
 lineAt f k = lineFrom f (start k)
 
 abbrev pub lines : List ℕ → ℕ
-lines f = length f / 22
+lines f = length f / lineLength
+
+-- "Each letter's lines are handed on as the part of the file that starts there": the part after the first j lines
+abbrev pub part : List ℕ → ℕ → List ℕ
+part f j = drop (lineLength * j) f
 
 -- the bytes of line k before its byte 10; none where the file has no such line
 unfoldable pub textAt : List ℕ → ℕ → List ℕ

@@ -7,25 +7,25 @@ use mathlib.Core.Bool.{true}
 use lib.ListN.{length}
 use Rattle.search.specs.Search.{Among, LowestOf}
 use Rattle.rolefile.specs.declared.Line.{Line}
-use Rattle.rolefile.specs.Line.{H, U, O, P, lineAt, lines}
-use Rattle.rolefile.specs.Form.{header, firstLimit, secondLimit, about}
+use Rattle.rolefile.specs.Line.{lineLength, H, U, O, P, lineAt, lines}
+use Rattle.rolefile.specs.Form.{lengthLimit, header, labelLimit, roleLimit, userLimit, cardLimit, firstLimit, secondLimit, modeLimit, about}
 use Rattle.rolefile.specs.Said.{users, cards}
 
 pub record Sized (f : List ℕ) : Type 0 where
   pub some : 1 ≤ length f
-  pub whole : length f % 22 ≡ 0
-  pub short : length f ≤ 63800
+  pub whole : length f % lineLength ≡ 0
+  pub short : length f ≤ lengthLimit
 
 pub record GoodCounts (h : Line) : Type 0 where
-  pub labels : Among 32 (h .a)
-  pub roles : h .b ≤ 128
-  pub users : h .c ≤ 256
-  pub cards : h .d ≤ 512
+  pub labels : Among labelLimit (h .a)
+  pub roles : h .b ≤ roleLimit
+  pub users : h .c ≤ userLimit
+  pub cards : h .d ≤ cardLimit
 
 pub record GoodNumbers (h l : Line) : Type 0 where
   pub one : Among (firstLimit h (l .letter)) (l .a)
   pub two : Among (secondLimit h (l .letter)) (l .b)
-  pub mode : l .letter ≡ P → Among 2 (l .c)
+  pub mode : l .letter ≡ P → Among modeLimit (l .c)
 
 -- x is less than y, or is y and the rest decides
 abbrev pub Before : ℕ → ℕ → Type 0 → Type 0

@@ -7,7 +7,22 @@ ghost use mathlib.Core.Path.{_≡_};
 ghost use Prim.Native.Nat.{_≤_};
 ghost use Rattle.rolefile.specs.Line.{lines};
 ghost use Rattle.rolefile.specs.Form.{fine, refusal, withinLimits, firstLimit, secondLimit, ranged, before, rises, headVerdict, bodyVerdict, lineVerdict, scan, linesVerdict};
-ghost use Rattle.rolefile.specs.Scan.{seen, goesOn, looked};
+ghost use Rattle.rolefile.specs.inner.Scan.{seen, goesOn, looked};
+
+// 1: a file's length at most.
+const LENGTH_LIMIT: usize = 63800;
+
+// 3: the counts at most.
+const LABEL_LIMIT: u64 = 32;
+
+const ROLE_LIMIT: u64 = 128;
+
+const USER_LIMIT: u64 = 256;
+
+const CARD_LIMIT: u64 = 512;
+
+// 4: the highest mode.
+const MODE_LIMIT: u64 = 2;
 
 // Nothing to refuse.
 pub fn nothing() -> Verdict
@@ -35,7 +50,8 @@ pub fn refused(number: u64, first: u64, second: u64) -> Verdict
 pub fn counts_fit(labels: u64, roles: u64, users: u64, cards: u64) -> bool
     ensures { λ r. ⌜ r ≡ withinLimits labels roles users cards ⌝ }
 {
-    search::among(32, labels) & ((roles <= 128) & ((users <= 256) & (cards <= 512)))
+    search::among(LABEL_LIMIT, labels)
+        & ((roles <= ROLE_LIMIT) & ((users <= USER_LIMIT) & (cards <= CARD_LIMIT)))
 }
 
 // 4: the count that the first field of a letter's lines goes up to, and the second.
@@ -43,10 +59,10 @@ fn first_limit(h: Line, k: u64) -> u64
     ensures { λ r. ⌜ r ≡ firstLimit h k ⌝ }
 {
     match k {
-        2 => h.a,
-        3 => h.b,
-        6 => h.b,
-        5 => h.d,
+        read::D => h.a,
+        read::S => h.b,
+        read::P => h.b,
+        read::O => h.d,
         _ => h.c,
     }
 }
@@ -55,9 +71,9 @@ fn second_limit(h: Line, k: u64) -> u64
     ensures { λ r. ⌜ r ≡ secondLimit h k ⌝ }
 {
     match k {
-        3 => h.b,
-        7 => h.b,
-        6 => h.d,
+        read::S => h.b,
+        read::A => h.b,
+        read::P => h.d,
         _ => h.a,
     }
 }
@@ -69,7 +85,7 @@ fn numbers_fit(h: Line, l: Line) -> bool
     let k = l.letter;
     let one = search::among(first_limit(h, k), l.a);
     let two = search::among(second_limit(h, k), l.b);
-    one & (two & ((k != 6) | search::among(2, l.c)))
+    one & (two & ((k != read::P) | search::among(MODE_LIMIT, l.c)))
 }
 
 // x is less than y, or is y and the rest decides.
@@ -92,7 +108,7 @@ fn comes_after(p: Line, l: Line) -> bool
 fn head(l: Line) -> Verdict
     ensures { λ v. ⌜ v ≡ headVerdict l ⌝ }
 {
-    if l.letter != 1 {
+    if l.letter != read::H {
         return refused(2, 1, 0);
     }
     if !counts_fit(l.a, l.b, l.c, l.d) {
@@ -105,7 +121,7 @@ fn head(l: Line) -> Verdict
 fn body(h: Line, p: Line, k: u64, l: Line) -> Verdict
     ensures { λ v. ⌜ v ≡ bodyVerdict h p k l ⌝ }
 {
-    if l.letter <= 1 {
+    if l.letter <= read::H {
         return refused(2, k, 0);
     }
     if !numbers_fit(h, l) {
@@ -140,7 +156,7 @@ fn begun(f: &[u8]) -> Seen
 fn goes_on(s: Seen, f: &[u8], k: usize) -> bool
     ensures { λ r. ⌜ r ≡ goesOn s (now (f .entry)) k ⌝ }
 {
-    (s.verdict.number == 0) & (k <= f.len() / 22)
+    (s.verdict.number == 0) & (k <= f.len() / read::LINE_LENGTH)
 }
 
 // Line k has been looked at too.
@@ -184,10 +200,10 @@ pub fn lines(f: &[u8]) -> Verdict
     if f.len() < 1 {
         return refused(1, 0, 0);
     }
-    if f.len() % 22 != 0 {
+    if f.len() % read::LINE_LENGTH != 0 {
         return refused(1, 0, 0);
     }
-    if 63800 < f.len() {
+    if LENGTH_LIMIT < f.len() {
         return refused(1, 0, 0);
     }
     scan(f)

@@ -4,16 +4,60 @@ use super::Line;
 ghost use mathlib.Core.Path.{_≡_};
 ghost use mathlib.Core.Bool.{false};
 ghost use Prim.Native.Nat.{_+_, _%_, _≤_, _<_};
+ghost use lib.Dec.{eqb};
 ghost use lib.ListN.{length};
-ghost use Rattle.rolefile.specs.Field.{isDigit, column, fieldAt};
-ghost use Rattle.rolefile.specs.Section.{part, figure, figureOf, one, two, three, Leads};
-ghost use Rattle.rolefile.specs.Line.{letterOf, fields, fits, takenOut, noLine, lineOf, lineFrom, lineAt, textAt};
+ghost use Rattle.rolefile.specs.Field.{isDigit, column, fieldAt, fieldNumber};
+ghost use Rattle.rolefile.specs.inner.Field.{takenOut};
+ghost use Rattle.rolefile.specs.inner.Section.{figure, figureOf, one, two, three, Leads};
+ghost use Rattle.rolefile.specs.Line.{lineLength, letterOf, fields, noLine, lineOf, lineFrom, lineAt, textAt, part};
+
+// A line's length, and the byte at its end.
+pub const LINE_LENGTH: usize = 22;
+
+const NEWLINE: u8 = 10;
+
+// The letters by their rows in the table of letters.
+pub const H: u64 = 1;
+
+pub const D: u64 = 2;
+
+pub const S: u64 = 3;
+
+pub const U: u64 = 4;
+
+pub const O: u64 = 5;
+
+pub const P: u64 = 6;
+
+pub const A: u64 = 7;
+
+// Their bytes.
+pub const H_BYTE: u8 = b'H';
+
+pub const D_BYTE: u8 = b'D';
+
+pub const S_BYTE: u8 = b'S';
+
+pub const U_BYTE: u8 = b'U';
+
+pub const O_BYTE: u8 = b'O';
+
+pub const P_BYTE: u8 = b'P';
+
+pub const A_BYTE: u8 = b'A';
+
+// The bytes of a blank, of the digit 0 and of the digit 9.
+const BLANK: u8 = b' ';
+
+const DIGIT_ZERO: u8 = b'0';
+
+const DIGIT_NINE: u8 = b'9';
 
 // Whether the byte is a digit.
 pub fn is_digit(b: u8) -> bool
     ensures { λ r. ⌜ r ≡ isDigit b ⌝ }
 {
-    (48 <= b) & (b <= 57)
+    (DIGIT_ZERO <= b) & (b <= DIGIT_NINE)
 }
 
 // The number n with the digit b after it, unless n is 0 or has five digits.
@@ -26,20 +70,20 @@ fn next_digit(n: u64, b: u8) -> Field
     if !search::among(9999, n) {
         return Field::Bad;
     }
-    Field::Number(10 * n + (b - 48) as u64)
+    Field::Number(10 * n + (b - DIGIT_ZERO) as u64)
 }
 
 // A blank, or a first digit.
 fn first_digit(b: u8) -> Field
     ensures { λ r. ⌜ r ≡ column Field.Blank b ⌝ }
 {
-    if b == 32 {
+    if b == BLANK {
         return Field::Blank;
     }
     if !is_digit(b) {
         return Field::Bad;
     }
-    Field::Number((b - 48) as u64)
+    Field::Number((b - DIGIT_ZERO) as u64)
 }
 
 // What the columns so far say, with one column more.
@@ -70,13 +114,13 @@ fn letter(b: u8) -> u64
     ensures { λ r. ⌜ r ≡ letterOf b ⌝ }
 {
     match b {
-        72 => 1,
-        68 => 2,
-        83 => 3,
-        85 => 4,
-        79 => 5,
-        80 => 6,
-        65 => 7,
+        H_BYTE => H,
+        D_BYTE => D,
+        S_BYTE => S,
+        U_BYTE => U,
+        O_BYTE => O,
+        P_BYTE => P,
+        A_BYTE => A,
         _ => 0,
     }
 }
@@ -85,10 +129,10 @@ fn letter(b: u8) -> u64
 fn field_count(k: u64) -> u64
     ensures { λ r. ⌜ r ≡ fields k ⌝ }
 {
-    if k == 1 {
+    if k == H {
         return 4;
     }
-    if k == 6 {
+    if k == P {
         return 3;
     }
     2
@@ -138,7 +182,7 @@ fn line_of(k: u64, end: u8, p: Field, q: Field, r: Field, s: Field) -> Line
     if k < 1 {
         return no_line();
     }
-    if end != 10 {
+    if end != NEWLINE {
         return no_line();
     }
     Line {
@@ -154,7 +198,7 @@ fn line_of(k: u64, end: u8, p: Field, q: Field, r: Field, s: Field) -> Line
 pub fn first_line(f: &[u8]) -> Line
     ensures { λ l. ⌜ l ≡ lineAt (now (f .entry)) 1 ⌝ }
 {
-    if f.len() < 22 {
+    if f.len() < LINE_LENGTH {
         return no_line();
     }
     let p = field(f, 1);
@@ -164,13 +208,16 @@ pub fn first_line(f: &[u8]) -> Line
     line_of(letter(f[0]), f[21], p, q, r, s)
 }
 
-// Whether the five columns at `at` are blanks, four of them compared at once as one number.
+// Four blanks as one number.
+const FOUR_BLANKS: u64 = 0x2020_2020;
+
+// Whether the five columns at `at` are blanks, four of them compared at once.
 fn blank(s: &[u8], at: usize) -> bool
     requires { ⌜ at + 5 ≤ length (now s) ⌝ }
-    ensures { λ r. ⌜ r ≡ fits false (fieldAt (now (s .entry)) at) ⌝ }
+    ensures { λ r. ⌜ r ≡ eqb (fieldNumber false (fieldAt (now (s .entry)) at)) 0 ⌝ }
 {
     let four = number::four(s[at], s[at + 1], s[at + 2], s[at + 3]);
-    (four == 538976288) & (s[at + 4] == 32)
+    (four == FOUR_BLANKS) & (s[at + 4] == BLANK)
 }
 
 // What a line takes out of the field at `at`, which is read only where it is in use.
@@ -189,7 +236,7 @@ fn taken_out_at(s: &[u8], at: usize, used: bool) -> Field
 
 // The line that starts at `at`, field by field.
 fn line_from(f: &[u8], at: usize) -> Line
-    requires { ⌜ at + 22 ≤ length (now f) ⌝ }
+    requires { ⌜ at + lineLength ≤ length (now f) ⌝ }
     ensures { λ l. ⌜ l ≡ lineFrom (now (f .entry)) at ⌝ }
 {
     let k = letter(f[at]);
@@ -208,7 +255,7 @@ fn line_from(f: &[u8], at: usize) -> Line
     let Field::Number(d) = taken_out_at(f, at + 16, 4 <= field_count(k)) else {
         return no_line();
     };
-    if f[at + 21] != 10 {
+    if f[at + 21] != NEWLINE {
         return no_line();
     }
     Line {
@@ -228,10 +275,10 @@ pub fn line(f: &[u8], k: usize) -> Line
     if 1 < k {
         i = k - 1;
     }
-    if f.len() / 22 <= i {
+    if f.len() / LINE_LENGTH <= i {
         return no_line();
     }
-    line_from(f, 22 * i)
+    line_from(f, LINE_LENGTH * i)
 }
 
 // The text of line k of the file, counted from 1, without byte 10; empty where the
@@ -239,10 +286,10 @@ pub fn line(f: &[u8], k: usize) -> Line
 pub fn text(f: &[u8], k: usize) -> &[u8]
     ensures { λ t. ⌜ now t ≡ textAt (now (f .entry)) k ⌝ }
 {
-    if !search::among((f.len() / 22) as u64, k as u64) {
+    if !search::among((f.len() / LINE_LENGTH) as u64, k as u64) {
         return &f[..0];
     }
-    let at = 22 * (k - 1);
+    let at = LINE_LENGTH * (k - 1);
     let end = at + 21;
     &f[at..end]
 }
@@ -269,10 +316,10 @@ fn figure_of(p: &[u8], i: usize, k: usize) -> usize
     requires { ⌜ k ≤ 17 ⌝ }
     ensures { λ r. ⌜ r ≡ figureOf k (now (p .entry)) (i + 1) ⌝ }
 {
-    if p.len() / 22 <= i {
+    if p.len() / LINE_LENGTH <= i {
         return 0;
     }
-    figure(p, 22 * i + k)
+    figure(p, LINE_LENGTH * i + k)
 }
 
 // The first number of line i + 1 of a part whose lines are known to be well formed, or 0 where the
@@ -301,10 +348,10 @@ pub fn third_number(p: &[u8], i: usize) -> usize
 pub fn leading(p: &[u8], letter: u8) -> usize
     ensures { λ m. ⌜ Leads (now (p .entry)) letter m ⌝ }
 {
-    let n = p.len() / 22;
+    let n = p.len() / LINE_LENGTH;
     let mut i = 0;
     while i < n {
-        if p[22 * i] != letter {
+        if p[LINE_LENGTH * i] != letter {
             return i;
         }
         i += 1;
@@ -316,11 +363,11 @@ pub fn leading(p: &[u8], letter: u8) -> usize
 pub fn part(f: &[u8], j: usize) -> &[u8]
     ensures { λ p. ⌜ now p ≡ part (now (f .entry)) j ⌝ }
 {
-    let n = f.len() / 22;
+    let n = f.len() / LINE_LENGTH;
     if n < j {
         let end = f.len();
         return &f[end..];
     }
-    let at = 22 * j;
+    let at = LINE_LENGTH * j;
     &f[at..]
 }

@@ -1,2 +1,2 @@
--- Vocabulary of the contracts of private functions. No promise rests on it: that a function meets its public contract is proved, whatever stands here.
+-- What only contracts between functions cite. No promise rests on it, so a reader need not believe it.
 pub mod Digit

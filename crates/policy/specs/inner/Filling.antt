@@ -11,7 +11,7 @@ use Rattle.order.specs.Closure.{Relation, Agree}
 use Rattle.order.specs.Table.{mark, related}
 use Rattle.rolefile.specs.declared.Verdict.{Verdict}
 use Rattle.rolefile.specs.Form.{fine, refusal, unless}
-use Rattle.rolefile.specs.Section.{one, two, three, pairs}
+use Rattle.rolefile.specs.inner.Section.{one, two, three, pairs}
 use Rattle.policy.specs.Tables.{dominanceAt, clearancesAt, cardLabelsAt, rLevelsAt, wLevelsAt, seniorsAt, readersAt, tableOf, byteOf, markAt, flowsByCard, passesIn}
 
 -- ---- what the first m lines of a part put into the tables

@@ -12,7 +12,8 @@ use Rattle.rolefile.specs.declared.Line.{Line}
 use Rattle.rolefile.specs.declared.Verdict.{Verdict}
 use Rattle.rolefile.specs.Form.{header, linesVerdict, unlabelledVerdict}
 use Rattle.rolefile.specs.Said.{labels, over, assigned}
-use Rattle.rolefile.specs.Section.{part, Leads}
+use Rattle.rolefile.specs.Line.{part}
+use Rattle.rolefile.specs.inner.Section.{Leads}
 use Rattle.policy.specs.declared.build.Parts.{Parts}
 use Rattle.policy.specs.Settings.{dominates, settings}
 use Rattle.policy.specs.Verdict.{roleVerdict, verdict}

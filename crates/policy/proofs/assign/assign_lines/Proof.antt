@@ -5,7 +5,7 @@ use native.Mathlib.Omega.{arith}
 use borrow.Author.Needs.{needs}
 use denote.Ref.{now}
 use Rattle.rolefile.specs.Form.{scan}
-use Rattle.rolefile.specs.Section.{one, two}
+use Rattle.rolefile.specs.inner.Section.{one, two}
 use Rattle.rolefile.proofs.Verdicts.{scan-yet, scan-found, scan-more, scan-clean}
 use Rattle.policy.specs.inner.Filling.{assignByTables}
 use Rattle.policy.proofs.Assigning.{tables-clean}

@@ -5,8 +5,8 @@ use mathlib.Core.List.{List}
 use native.Mathlib.Omega.{arith}
 use borrow.Author.Needs.{needs}
 use denote.Ref.{now}
-use Rattle.rolefile.specs.Line.{lines}
-use Rattle.rolefile.specs.Section.{part, Leads}
+use Rattle.rolefile.specs.Line.{lines, part}
+use Rattle.rolefile.specs.inner.Section.{Leads}
 use Rattle.rolefile.proofs.Parts.{part-lines}
 use Rattle.policy.specs.declared.build.Part.{Part}
 use Rattle.policy.proofs.build.lay_out.Statement.{statement}

@@ -5,7 +5,7 @@ use native.Mathlib.Omega.{arith}
 use borrow.Author.Needs.{needs}
 use denote.Ref.{now}
 use lib.ListN.{length}
-use Rattle.rolefile.specs.Section.{pairs}
+use Rattle.rolefile.specs.inner.Section.{pairs}
 use Rattle.policy.specs.inner.Filling.{Related}
 use Rattle.policy.proofs.Relating.{related-none, related-as, related-more, pairs-more, pairs-none}
 use Rattle.policy.proofs.rows.relate_lines.Statement.{statement}

@@ -43,7 +43,7 @@ use denote.Triple.Walked.{says, needs, Stays, stay-none-slice, walkOf, goes-none
 use denote.Exit.{yes}
 use Rattle.rolefile.specs.Line.{lineAt, lines}
 use Rattle.rolefile.specs.Form.{lineVerdict, scan as scanned}
-use Rattle.rolefile.specs.Scan.{seen, goesOn, looked as lookedAt}
+use Rattle.rolefile.specs.inner.Scan.{seen, goesOn, looked as lookedAt}
 use Rattle.rolefile.specs.declared.reader.Reader.{Reader}
 use Rattle.rolefile.specs.declared.Line.{Line}
 use Rattle.rolefile.specs.declared.Verdict.{Verdict}

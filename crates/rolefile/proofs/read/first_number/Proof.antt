@@ -1,6 +1,6 @@
 -- The first number by its column.
 use borrow.Author.Needs.{needs}
-use Rattle.rolefile.specs.Section.{one}
+use Rattle.rolefile.specs.inner.Section.{one}
 use Rattle.rolefile.proofs.read.first_number.Statement.{statement}
 use Rattle.rolefile.proofs.read.first_number.Tie as tie
 

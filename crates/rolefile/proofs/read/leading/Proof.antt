@@ -8,7 +8,7 @@ use denote.Ref.{now}
 use Rattle.search.specs.Search.{Among}
 use Rattle.search.proofs.Found.{among-next}
 use Rattle.rolefile.specs.Line.{lines}
-use Rattle.rolefile.specs.Section.{letterAt}
+use Rattle.rolefile.specs.inner.Section.{letterAt}
 use Rattle.rolefile.proofs.read.leading.Statement.{statement}
 use Rattle.rolefile.proofs.read.leading.Tie as tie
 

@@ -5,7 +5,7 @@ use mathlib.Core.Logic.{⊎-elim}
 use native.Mathlib.Omega.{arith}
 use denote.Ref.{now}
 use borrow.Author.Needs.{needs}
-use Rattle.rolefile.specs.Line.{lineAt}
+use Rattle.rolefile.specs.Line.{lineLength, lineAt}
 use Rattle.rolefile.proofs.Reading.{past-end}
 use Rattle.rolefile.proofs.read.line.Statement.{statement}
 use Rattle.rolefile.proofs.read.line.Tie as tie
@@ -18,7 +18,7 @@ returns : tie.Need-returns
 unfolding lineAt
 returns c =
     let j = c .before .before in
-    rw (← (chosen j)) (c .no-line .ensures ∙ past-end (now (j .before .before .args .f)) (22 * j .if1 .i) (search needs))
+    rw (← (chosen j)) (c .no-line .ensures ∙ past-end (now (j .before .before .args .f)) (lineLength * j .if1 .i) (search needs))
 
 returns-2 : tie.Need-returns-2
 unfolding lineAt

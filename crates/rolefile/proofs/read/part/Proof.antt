@@ -7,6 +7,7 @@ use borrow.Author.Needs.{needs}
 use borrow.Rule.Slice.PartAt.{part-to-end}
 use lib.ListN.{length, drop, drop-of-length-le}
 use denote.Ref.{now}
+use Rattle.rolefile.specs.Line.{lineLength}
 use Rattle.rolefile.proofs.read.part.Statement.{statement}
 use Rattle.rolefile.proofs.read.part.Tie as tie
 
@@ -17,10 +18,10 @@ returns : tie.Need-returns
 returns c =
     let a = c .before .before .args in
     let f = now (a .f) in
-    part-to-end f (length f) ∙ past-the-end f (length f) (22 * a .j) (omega arith) (omega arith)
+    part-to-end f (length f) ∙ past-the-end f (length f) (lineLength * a .j) (omega arith) (omega arith)
 
 returns-2 : tie.Need-returns-2
-returns-2 c = let a = c .before .before .args in part-to-end (now (a .f)) (22 * a .j)
+returns-2 c = let a = c .before .before .args in part-to-end (now (a .f)) (lineLength * a .j)
 
 pub part-spec : {M : Type 1} → statement M
 part-spec =

@@ -1,6 +1,6 @@
 -- The second number by its column.
 use borrow.Author.Needs.{needs}
-use Rattle.rolefile.specs.Section.{two}
+use Rattle.rolefile.specs.inner.Section.{two}
 use Rattle.rolefile.proofs.read.second_number.Statement.{statement}
 use Rattle.rolefile.proofs.read.second_number.Tie as tie
 

@@ -1,6 +1,6 @@
 -- By cases on the field and on whether it is in use.
 use borrow.Author.Needs.{needs}
-use Rattle.rolefile.specs.Line.{takenOut}
+use Rattle.rolefile.specs.inner.Field.{takenOut}
 use Rattle.rolefile.proofs.read.taken_out.Statement.{statement}
 use Rattle.rolefile.proofs.read.taken_out.Tie as tie
 

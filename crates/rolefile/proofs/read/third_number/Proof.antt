@@ -1,6 +1,6 @@
 -- The third number by its column.
 use borrow.Author.Needs.{needs}
-use Rattle.rolefile.specs.Section.{three}
+use Rattle.rolefile.specs.inner.Section.{three}
 use Rattle.rolefile.proofs.read.third_number.Statement.{statement}
 use Rattle.rolefile.proofs.read.third_number.Tie as tie
 

@@ -14,7 +14,7 @@ use denote.Laws.{Is}
 use denote.Ref.{RefT, now}
 use Rattle.search.proofs.Truth.{and-iff}
 use Rattle.rolefile.specs.Line.{lineAt, lines}
-use Rattle.rolefile.specs.Scan.{seen, goesOn, looked as lookedAt}
+use Rattle.rolefile.specs.inner.Scan.{seen, goesOn, looked as lookedAt}
 use Rattle.rolefile.specs.declared.reader.Reader.{Reader}
 use Rattle.rolefile.specs.declared.check.Seen.{Seen}
 use Rattle.rolefile.specs.declared.Line.{Line}

@@ -1,17 +1,12 @@
--- "Each letter's lines are handed on as the part of the file that starts there": the lines of one letter as a section of the file, and the numbers of a
--- line that is known to be well formed. Assumes nothing.
+-- The lines of one letter as a section of the file, and the numbers of a line that is known to be well formed. Assumes nothing.
 use Prim.Native.Nat.{ℕ, _+_, _*_, _%_, _≤_, _<_}
 use mathlib.Core.Path.{_≡_}
 use mathlib.Core.List.{List}
 use mathlib.Core.Bool.{Bool, _&&_, cond}
 use lib.Dec.{leb, eqb}
-use lib.ListN.{getD, drop}
+use lib.ListN.{getD}
 use Rattle.search.specs.Search.{Among, some}
 use Rattle.rolefile.specs.Line.{start, lines}
-
--- the part of a file after its first j lines
-abbrev pub part : List ℕ → ℕ → List ℕ
-part f j = drop (22 * j) f
 
 -- what five columns come to, each by its last four bits: a blank counts 0, and a digit its value
 abbrev pub figure : List ℕ → ℕ → ℕ
