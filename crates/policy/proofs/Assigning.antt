@@ -151,4 +151,4 @@ module _ (f : List ℕ) (good : GoodLines f) (counts : GoodCounts (header f)) {j
       (λ i w.
       let n = numbers-within i w in
       let numbers = told f good s in
-      rw (s .inside i w, ← (numbers .one i w), ← (numbers .two i w)) (sym (agree (one (part f j) i) (two (part f j) i) (n .0) (n .1)))))
+      rw (s .inside i w, ← (numbers .a i w), ← (numbers .b i w)) (sym (agree (one (part f j) i) (two (part f j) i) (n .0) (n .1)))))

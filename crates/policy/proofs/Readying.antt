@@ -85,10 +85,10 @@ module _ (f : List ℕ) (good : GoodLines f) {k j m : ℕ} (s : Section f k j m)
   numbers i w = let fits = s .fits in numbers-known f good k after (j + i) (omega arith) (s .inside i w)
 
   pub one-within : (i : ℕ) → Among m i → Among (firstLimit (header f) k) (one (part f j) i)
-  one-within i w = rw (told f good s .one i w) (rw (s .inside i w) at (numbers i w .one))
+  one-within i w = rw (told f good s .a i w) (rw (s .inside i w) at (numbers i w .one))
 
   pub two-within : (i : ℕ) → Among m i → Among (secondLimit (header f) k) (two (part f j) i)
-  two-within i w = rw (told f good s .two i w) (rw (s .inside i w) at (numbers i w .two))
+  two-within i w = rw (told f good s .b i w) (rw (s .inside i w) at (numbers i w .two))
 
 -- the limits of each letter's numbers
 module _ (h : Line) where

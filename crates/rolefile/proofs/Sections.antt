@@ -134,8 +134,8 @@ module _ {f : List ℕ} {k j m : ℕ} (s : Section f k j m) where
 
 -- the numbers of the m lines l of the part p are its figures; a letter of two fields has no third
 pub record Told (p : List ℕ) (l : ℕ → Line) (m : ℕ) : Type 0 where
-  pub one : (i : ℕ) → Among m i → one p i ≡ l i .a
-  pub two : (i : ℕ) → Among m i → two p i ≡ l i .b
+  pub a : (i : ℕ) → Among m i → one p i ≡ l i .a
+  pub b : (i : ℕ) → Among m i → two p i ≡ l i .b
   pub mode : (i : ℕ) → Among m i → l i .letter ≡ P → three p i ≡ l i .c
   pub none : (i : ℕ) → Among m i → fields (l i .letter) ≡ 2 → l i .c ≡ 0
 
@@ -157,8 +157,8 @@ module _ (f : List ℕ) (good : GoodLines f) {k j m : ℕ} (s : Section f k j m)
   told =
       let p = part f j in
       record {
-        one = λ i w. rw (there i w) (figures p (start i + 1) (lineAt f (j + i) .a) (line-reads i w .a));
-        two = λ i w. rw (there i w) (figures p (start i + 6) (lineAt f (j + i) .b) (line-reads i w .b));
+        a = λ i w. rw (there i w) (figures p (start i + 1) (lineAt f (j + i) .a) (line-reads i w .a));
+        b = λ i w. rw (there i w) (figures p (start i + 6) (lineAt f (j + i) .b) (line-reads i w .b));
         mode = λ i w e. rw (there i w) (figures p (start i + 11) (lineAt f (j + i) .c) (third i w true (rw e)));
         none = λ i w e. third i w false (rw e) .1;
       }
@@ -170,7 +170,7 @@ module _ (f : List ℕ) (good : GoodLines f) {k j m : ℕ} (s : Section f k j m)
   unfolding says pairs
   says-two e x y =
       sym (some-within (lines f) j m (s .fits) (λ i. is (lineAt f i) k x y 0) _ (tested s _)
-      (λ i w. rw (s .inside i w, eq-eqb k k refl, told .none i w (rw (s .inside i w) e), and-true, told .one i w, told .two i w)))
+      (λ i w. rw (s .inside i w, eq-eqb k k refl, told .none i w (rw (s .inside i w) e), and-true, told .a i w, told .b i w)))
 
   -- the letter of three
   pub says-three : k ≡ P → (x y z : ℕ)
@@ -178,11 +178,11 @@ module _ (f : List ℕ) (good : GoodLines f) {k j m : ℕ} (s : Section f k j m)
   unfolding says
   says-three e x y z =
       some-within (lines f) j m (s .fits) (λ i. is (lineAt f i) k x y z) _ (tested s _)
-      (λ i w. rw (s .inside i w, eq-eqb k k refl, told .one i w, told .two i w, told .mode i w (s .inside i w ∙ e)))
+      (λ i w. rw (s .inside i w, eq-eqb k k refl, told .a i w, told .b i w, told .mode i w (s .inside i w ∙ e)))
 
   module _ (x : ℕ) where
     about-one : (i : ℕ) → Among m i → about f k x (j + i) ≡ eqb (one (part f j) i) x
-    about-one i w = rw (s .inside i w, eq-eqb k k refl, told .one i w)
+    about-one i w = rw (s .inside i w, eq-eqb k k refl, told .a i w)
 
     pub count-about : linesAbout f k x ≡ count m (λ i. eqb (one (part f j) i) x)
     count-about = count-within (lines f) j m (s .fits) (about f k x) _ (tested s _) about-one
@@ -190,4 +190,4 @@ module _ (f : List ℕ) (good : GoodLines f) {k j m : ℕ} (s : Section f k j m)
     pub label-section : labelBy f k x ≡ last m (λ i. eqb (one (part f j) i) x) (two (part f j))
     unfolding labelBy
     label-section =
-        last-within (lines f) j m (s .fits) (about f k x) _ (tested s _) about-one _ _ (λ i w. sym (told .two i w))
+        last-within (lines f) j m (s .fits) (about f k x) _ (tested s _) about-one _ _ (λ i w. sym (told .b i w))
