@@ -198,26 +198,26 @@ module _ (σ : Settings) (α : Relation) where
   unfolding byte
   count i l = at i (omega arith) ∙ table-in 0 8 counts from-dominance i (omega arith) (omega arith) ∙ ap counts (let z : i - 0 ≡ i = omega arith in z)
 
-  member-row : (start size : ℕ) (said : ℕ → ℕ → Bool) → start + 16 * size ≤ 65536
-      → ((i : ℕ) → start ≤ i → i < start + 16 * size → byte i ≡ rows said (i - start))
-      → Agree size 128 (related state start) said
+  member-row : (base size : ℕ) (said : ℕ → ℕ → Bool) → base + 16 * size ≤ 65536
+      → ((i : ℕ) → base ≤ i → i < base + 16 * size → byte i ≡ rows said (i - base))
+      → Agree size 128 (related state base) said
   unfolding member rows
-  member-row start size said fits told x r v w =
-      let i = rowOf start x + roleByte r in
-      let row : (i - start) / 16 + 1 ≡ x = omega arith in
-      let role : 8 * ((i - start) % 16) + roleBit r + 1 ≡ r = omega arith in
-      rw (among-iff 128 r .1 w, at i (omega arith), told i (omega arith) (omega arith), low-bit (λ j. said ((i - start) / 16 + 1) (8 * ((i - start) % 16) + j + 1)) 8 (omega arith) (roleBit r) (omega arith))
-      (ap (λ (y : ℕ). said y (8 * ((i - start) % 16) + roleBit r + 1)) row ∙ ap (said x) role)
+  member-row base size said fits told x r v w =
+      let i = rowOf base x + roleByte r in
+      let row : (i - base) / 16 + 1 ≡ x = omega arith in
+      let role : 8 * ((i - base) % 16) + roleBit r + 1 ≡ r = omega arith in
+      rw (among-iff 128 r .1 w, at i (omega arith), told i (omega arith) (omega arith), low-bit (λ j. said ((i - base) / 16 + 1) (8 * ((i - base) % 16) + j + 1)) 8 (omega arith) (roleBit r) (omega arith))
+      (ap (λ (y : ℕ). said y (8 * ((i - base) % 16) + roleBit r + 1)) row ∙ ap (said x) role)
 
   word-of : (i n : ℕ) → i + 1 < 8 → counts i ≡ n % 256 → counts (i + 1) ≡ n / 256 → word state i ≡ n
   word-of i n l low high = rw (count i (omega arith), count (i + 1) l, low, high) (omega arith)
 
   -- a table of bytes
-  byte-of : (start size : ℕ) (said : ℕ → ℕ) → start + size ≤ 65536 → ((i : ℕ) → start ≤ i → i < start + size → byte i ≡ said (i - start + 1))
-      → (x : ℕ) → Among size x → byteOf state start x ≡ said x
-  byte-of start size said fits told x w =
-      let i = start + (x - 1) in
-      at i (omega arith) ∙ told i (omega arith) (omega arith) ∙ ap said (let z : i - start + 1 ≡ x = omega arith in z)
+  byte-of : (base size : ℕ) (said : ℕ → ℕ) → base + size ≤ 65536 → ((i : ℕ) → base ≤ i → i < base + size → byte i ≡ said (i - base + 1))
+      → (x : ℕ) → Among size x → byteOf state base x ≡ said x
+  byte-of base size said fits told x w =
+      let i = base + (x - 1) in
+      at i (omega arith) ∙ told i (omega arith) (omega arith) ∙ ap said (let z : i - base + 1 ≡ x = omega arith in z)
 
   dominance-byte : Dominating σ state
   unfolding marks

@@ -26,8 +26,8 @@ made-once m (writes p o k bytes) a n (h, s, b) = answered m n (writes p o k byte
 makes-run : (σ : Settings) (L : ℕ) (cs : List Call) (t : Open) (m e : Memory) (xs : List Shown) → Makes σ L t m cs xs e → (xs ≡ shown σ L t m cs) × (e ≡ run m cs)
 unfolding shown run
 makes-run σ L [] t m e xs h = h
-makes-run σ L (c ∷ cs) t m e xs (a, n, ys, made, rest, shows) =
-    let (x, y) = made-once m c a n made in
+makes-run σ L (c ∷ cs) t m e xs (a, n, ys, call, rest, shows) =
+    let (x, y) = made-once m c a n call in
     let (z, w) = makes-run σ L cs (track σ t c) n e ys rest in
     (shows ∙ rw (z, x, y), w ∙ rw y)
 

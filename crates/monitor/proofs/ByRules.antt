@@ -141,7 +141,7 @@ module _ (σ : Settings) (bounded : Bounded σ) (α : Relation) (t : Sessions) (
         test-same (among (rolesIn xs) r) (among (σ .roles) r) 25 (rw (stands .tables .counted .roles)) (λ role.
         let w = among-iff (σ .roles) r .0 role in
         test-same (entitled xs (userAt xs p) r) (entitledBy σ α (s .user) r) 27
-        (ap (λ (u : ℕ). entitled xs u r) (a .user) ∙ entitled-by (s .user) r (adm .user) w) (λ member.
+        (ap (λ (u : ℕ). entitled xs u r) (a .user) ∙ entitled-by (s .user) r (adm .user) w) (λ assigned.
         test-same (fitting xs (labelAt xs p) r) (fittingBy σ (s .label) r) 28
         (ap (λ (l : ℕ). fitting xs l r) (a .label) ∙ fitting-by (s .label) r w) (λ suited. refl))))
 

@@ -89,7 +89,7 @@ module _ (σ : Settings) (bounded : Bounded σ) (α : Relation) (t : Sessions) (
 
   -- ---- what a set of roles gives
 
-  module _ (o m : ℕ) (held : ℕ → Bool) (i : Among (σ .cards) o) (j : Among 2 m) (known : (r : ℕ) → held r ≡ true → Among (σ .roles) r) where
+  module _ (o m : ℕ) (held : ℕ → Bool) (i : Among (σ .cards) o) (j : Among 2 m) (counted : (r : ℕ) → held r ≡ true → Among (σ .roles) r) where
     abbrev gives : ℕ → Bool
     gives r = member xs (rowOf (tableOf m) o) r && held r
 
@@ -98,7 +98,7 @@ module _ (σ : Settings) (bounded : Bounded σ) (α : Relation) (t : Sessions) (
     unfolding giveCard
     gives-by p agree =
         rw (card o i, among-iff 2 m .1 j)
-        (some-first (σ .roles) (bounded .roles) gives p (λ r k e. known r (and-iff (member xs (rowOf (tableOf m) o) r) (held r) .0 e .1)) agree)
+        (some-first (σ .roles) (bounded .roles) gives p (λ r k e. counted r (and-iff (member xs (rowOf (tableOf m) o) r) (held r) .0 e .1)) agree)
 
     pub review-gives : giveCard xs m o held ≡ search.some (σ .roles) (λ r. may σ m r o && held r)
     review-gives =

@@ -75,7 +75,7 @@ module _ (f : List ℕ) (q : Parts) (h : Line) (ready : Ready f q h) where
 -- a line of a letter after H is not the first, so its numbers are within the counts
 pub numbers-known : (f : List ℕ) → GoodLines f → (k : ℕ) → H < k → (i : ℕ) → Among (lines f) i → lineAt f i .letter ≡ k → GoodNumbers (header f) (lineAt f i)
 numbers-known f good k after i w e = elim (ℕ-discrete i 1) [
-  | yes one ↦ let h = good i w .head one .letter in let l = rw one at e in absurd (omega arith)
+  | yes first ↦ let h = good i w .head first .letter in let l = rw first at e in absurd (omega arith)
   | no more ↦ good i w .body more .numbers
 ]
 

@@ -52,7 +52,7 @@ no-line f good k after x out =
     out (rw (letter, a) at (numbers-known f good k after i w letter .one))))
 
 module _ (f g : List ℕ) (f-good : GoodLines f) (g-good : GoodLines g) (k : ℕ) (after : H < k) (two : fields k ≡ 2) (n : ℕ)
-    (f-limit : firstLimit (header f) k ≡ n) (g-limit : firstLimit (header g) k ≡ n) (f-one : OneEach f k n) (g-one : OneEach g k n) (lines : SameLines k f g) where
+    (f-limit : firstLimit (header f) k ≡ n) (g-limit : firstLimit (header g) k ≡ n) (f-one : OneEach f k n) (g-one : OneEach g k n) (agree : SameLines k f g) where
   label-same : (x : ℕ) → labelBy f k x ≡ labelBy g k x
   label-same x = go (among n x) refl
     where
@@ -60,7 +60,7 @@ module _ (f g : List ℕ) (f-good : GoodLines f) (g-good : GoodLines g) (k : ℕ
       go true e =
           let w = among-iff n x .0 e in
           let y = labelBy f k x in
-          sym (said-label g k x (g-one x w) (omega arith) two y (sym (lines x y 0) ∙ label-said f k x (f-one x w) (omega arith) two))
+          sym (said-label g k x (g-one x w) (omega arith) two y (sym (agree x y 0) ∙ label-said f k x (f-one x w) (omega arith) two))
       go false e =
           let out = other-iff false (among-iff n x) .0 e in
           no-line f f-good k after x (λ w. out (rw f-limit at w)) ∙ sym (no-line g g-good k after x (λ w. out (rw g-limit at w)))
