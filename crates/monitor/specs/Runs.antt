@@ -3,6 +3,7 @@ use Prim.Native.Nat.{ℕ, _≤_}
 use mathlib.Core.List.{List, [], _∷_}
 use lib.ListN.{length}
 use Rattle.rolefile.specs.declared.Verdict.{Verdict}
+use Rattle.policy.specs.Tables.{stateSize}
 use Rattle.policy.specs.Image.{Loaded}
 use Rattle.monitor.specs.Calls.{openNumber, openState, closeNumber, closeState, takeNumber, takeState, dropNumber, dropState}
 use Rattle.monitor.specs.Calls.{readNumber, partBytes, writeNumber, partStore}
@@ -24,7 +25,7 @@ pub record Memory : Type 0 where
 -- the state that one load of the file f left, whatever 65,536 bytes or more were there before
 pub record Start (f : List ℕ) : Type 0 where
   pub before : List ℕ
-  pub enough : 65536 ≤ length before
+  pub enough : stateSize ≤ length before
   pub verdict : Verdict
   pub state : List ℕ
   pub load : Loaded f verdict before state

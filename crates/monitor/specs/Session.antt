@@ -28,8 +28,11 @@ sound xs = isState xs && withinLimits (labelsIn xs) (rolesIn xs) (usersIn xs) (c
 
 -- ---- places, document 01's word for the 64 numbered entries that hold a session each: 20 bytes, 1 where in use, the user less 1, the label, 0, and the row of held roles
 
+abbrev pub placesAt : ℕ
+placesAt = 61456
+
 abbrev pub placeAt : ℕ → ℕ
-placeAt p = 61456 + 20 * (p - 1)
+placeAt p = placesAt + 20 * (p - 1)
 
 unfoldable pub inUse : List ℕ → ℕ → Bool
 inUse xs p = eqb (getD xs (placeAt p) 0) 1

@@ -1,5 +1,5 @@
 -- What a state holds after a load: each table says what the file's settings and assignments say, and every other byte of the state is 0. Assumes nothing.
-use Prim.Native.Nat.{ℕ, _≤_, _<_}
+use Prim.Native.Nat.{ℕ, _+_, _*_, _≤_, _<_}
 use mathlib.Core.Path.{_≡_}
 use mathlib.Core.List.{List}
 use mathlib.Core.Bool.{_&&_, cond}
@@ -13,7 +13,7 @@ use Rattle.rolefile.specs.Form.{fine, refusal, unless, _then_}
 use Rattle.rolefile.specs.Said.{assigned}
 use Rattle.policy.specs.Settings.{Settings, settings}
 use Rattle.policy.specs.Policy.{may, rLevel, wLevel, levelNumber}
-use Rattle.policy.specs.Tables.{labelCountAt, roleCountAt, userCountAt, cardCountAt, clearancesAt, cardLabelsAt, rLevelsAt, wLevelsAt, seniorsAt, assignedAt, readersAt, writersAt, stateSize, word, byteOf, markAt}
+use Rattle.policy.specs.Tables.{labelCountAt, roleCountAt, userCountAt, cardCountAt, dominanceAt, clearancesAt, cardLabelsAt, rLevelsAt, wLevelsAt, seniorsAt, assignedAt, readersAt, writersAt, stateSize, word, byteOf, markAt}
 use Rattle.policy.specs.Verdict.{verdict}
 
 pub record Counts (a b c d : ℕ) (ys : List ℕ) : Type 0 where
@@ -57,7 +57,7 @@ Assigning α ys = Agree 256 128 (related ys assignedAt) α
 
 -- byte i belongs to no table: those after the counts, those kept for later tables, and those after the last one, among them the places: "closes all sessions"
 abbrev pub Unused : ℕ → Type 0
-Unused i = (8 ≤ i) × (16 ≤ i → 8208 ≤ i) × (12304 ≤ i → 28688 ≤ i)
+Unused i = (cardCountAt + 2 ≤ i) × (dominanceAt ≤ i → assignedAt + 16 * 256 ≤ i) × (readersAt ≤ i → writersAt + 16 * 512 ≤ i)
 
 -- each table of ys but that of assignments says what the settings say
 pub record Describes (σ : Settings) (ys : List ℕ) : Type 0 where

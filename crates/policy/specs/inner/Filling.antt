@@ -12,7 +12,7 @@ use Rattle.order.specs.Table.{mark, related}
 use Rattle.rolefile.specs.declared.Verdict.{Verdict}
 use Rattle.rolefile.specs.Form.{fine, refusal, unless}
 use Rattle.rolefile.specs.inner.Section.{one, two, three, pairs}
-use Rattle.policy.specs.Tables.{dominanceAt, clearancesAt, cardLabelsAt, rLevelsAt, wLevelsAt, seniorsAt, readersAt, tableOf, byteOf, markAt, flowsByCard, passesIn}
+use Rattle.policy.specs.Tables.{dominanceAt, clearancesAt, cardLabelsAt, rLevelsAt, wLevelsAt, seniorsAt, readersAt, writersAt, tableOf, byteOf, markAt, flowsByCard, passesIn}
 
 -- ---- what the first m lines of a part put into the tables
 
@@ -74,7 +74,7 @@ NotedBytes at size p i xs ys = Bytes at size (λ x. notes p i x (byteOf xs at x)
 -- the readers' and the writers' rows, each with what `said` gives for its mode
 pub record GrantedRows (said : ℕ → ℕ → ℕ → Bool) (xs ys : List ℕ) : Type 0 where
   pub rows : (d : ℕ) → Among 2 d → Unites (tableOf d) 512 (said d) xs ys
-  pub rest : Kept readersAt 28688 xs ys
+  pub rest : Kept readersAt (writersAt + 16 * 512) xs ys
 
 -- tables of marks: t has those of the first m lines of the part p
 abbrev pub Marking : List ℕ → ℕ → List (List Bool) → Type 0

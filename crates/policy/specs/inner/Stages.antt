@@ -1,5 +1,5 @@
 -- What each stage of a load finds and leaves, for the contracts of the functions that make it. Assumes nothing.
-use Prim.Native.Nat.{ℕ, _+_, _≤_, _<_}
+use Prim.Native.Nat.{ℕ, _+_, _*_, _≤_, _<_}
 use mathlib.Core.Path.{_≡_}
 use mathlib.Core.List.{List}
 use mathlib.Core.Bool.{Bool, false, _&&_}
@@ -10,29 +10,30 @@ use Rattle.order.specs.Closure.{Relation, Agree, path}
 use Rattle.order.specs.Table.{mark, Rows}
 use Rattle.rolefile.specs.declared.Line.{Line}
 use Rattle.rolefile.specs.declared.Verdict.{Verdict}
+use Rattle.rolefile.specs.Line.{D, S, U, O, P, A, letterByte, part}
 use Rattle.rolefile.specs.Form.{header, linesVerdict, unlabelledVerdict}
 use Rattle.rolefile.specs.Said.{labels, over, assigned}
-use Rattle.rolefile.specs.Line.{part}
 use Rattle.rolefile.specs.inner.Section.{Leads}
 use Rattle.policy.specs.declared.build.Parts.{Parts}
 use Rattle.policy.specs.Settings.{dominates, settings}
+use Rattle.policy.specs.Tables.{labelCountAt, cardCountAt, dominanceAt, clearancesAt, rLevelsAt, seniorsAt, assignedAt, readersAt, writersAt}
 use Rattle.policy.specs.Verdict.{roleVerdict, verdict}
 use Rattle.policy.specs.Image.{Labelled, Dominating, Seniors, Permitting, Levelled, Assigning, Counts, Counted, Image}
 
 -- the lines of each letter stand where q says
 pub record Laid (f : List ℕ) (q : Parts) : Type 0 where
   pub first : q .d .start ≡ 1
-  pub d : Leads (part f (q .d .start)) 68 (q .d .count)
+  pub d : Leads (part f (q .d .start)) (letterByte D) (q .d .count)
   pub s-after : q .s .start ≡ q .d .start + q .d .count
-  pub s : Leads (part f (q .s .start)) 83 (q .s .count)
+  pub s : Leads (part f (q .s .start)) (letterByte S) (q .s .count)
   pub u-after : q .u .start ≡ q .s .start + q .s .count
-  pub u : Leads (part f (q .u .start)) 85 (q .u .count)
+  pub u : Leads (part f (q .u .start)) (letterByte U) (q .u .count)
   pub o-after : q .o .start ≡ q .u .start + q .u .count
-  pub o : Leads (part f (q .o .start)) 79 (q .o .count)
+  pub o : Leads (part f (q .o .start)) (letterByte O) (q .o .count)
   pub p-after : q .p .start ≡ q .o .start + q .o .count
-  pub p : Leads (part f (q .p .start)) 80 (q .p .count)
+  pub p : Leads (part f (q .p .start)) (letterByte P) (q .p .count)
   pub a-after : q .a .start ≡ q .p .start + q .p .count
-  pub a : Leads (part f (q .a .start)) 65 (q .a .count)
+  pub a : Leads (part f (q .a .start)) (letterByte A) (q .a .count)
 
 -- a file whose lines have nothing to refuse, laid out, with its counts in h
 pub record Ready (f : List ℕ) (q : Parts) (h : Line) : Type 0 where
@@ -48,7 +49,7 @@ Zeros a b xs = (i : ℕ) → a ≤ i → i < b → getD xs i 0 ≡ 0
 pub record Noting (f : List ℕ) (v : Verdict) (xs ys : List ℕ) : Type 0 where
   pub answer : v ≡ unlabelledVerdict f
   pub done : v .number ≡ 0 → Labelled (settings f) ys
-  pub rest : Kept 1040 1808 xs ys
+  pub rest : Kept clearancesAt rLevelsAt xs ys
 
 -- u has the paths of e among the things 1 to n, and nothing in the rows after
 abbrev pub PathRows : ℕ → ℕ → Relation → Relation → Type 0
@@ -65,25 +66,25 @@ Closed f t = Agree 32 32 (mark t) (λ a b. leb a (labels f) && dominates f a b)
 pub record Ranking (f : List ℕ) (v : Verdict) (xs ys : List ℕ) : Type 0 where
   pub answer : v ≡ roleVerdict f
   pub done : v .number ≡ 0 → Seniors (settings f) ys
-  pub rest : Kept 2064 4112 xs ys
+  pub rest : Kept seniorsAt assignedAt xs ys
 
 -- dominance, permissions and levels are in; three stretches of bytes have changed
 pub record Granting (f xs ys : List ℕ) : Type 0 where
   pub dominating : Dominating (settings f) ys
   pub permitting : Permitting (settings f) ys
   pub levelled : Levelled (settings f) ys
-  pub rest : (i : ℕ) → (16 ≤ i → 1040 ≤ i) → (1808 ≤ i → 2064 ≤ i) → (12304 ≤ i → 28688 ≤ i) → getD ys i 0 ≡ getD xs i 0
+  pub rest : (i : ℕ) → (dominanceAt ≤ i → clearancesAt ≤ i) → (rLevelsAt ≤ i → seniorsAt ≤ i) → (readersAt ≤ i → writersAt + 16 * 512 ≤ i) → getD ys i 0 ≡ getD xs i 0
 
 -- the counts of h are in
 pub record Counting (h : Line) (xs ys : List ℕ) : Type 0 where
   pub counts : Counts (h .a) (h .b) (h .c) (h .d) ys
-  pub rest : Kept 0 8 xs ys
+  pub rest : Kept labelCountAt (cardCountAt + 2) xs ys
 
 -- the assigned roles and the counts are in
 pub record Finishing (f xs ys : List ℕ) : Type 0 where
   pub assigning : Assigning (assigned f) ys
   pub counted : Counted (settings f) ys
-  pub rest : (i : ℕ) → 8 ≤ i → (4112 ≤ i → 8208 ≤ i) → getD ys i 0 ≡ getD xs i 0
+  pub rest : (i : ℕ) → cardCountAt + 2 ≤ i → (assignedAt ≤ i → assignedAt + 16 * 256 ≤ i) → getD ys i 0 ≡ getD xs i 0
 
 -- the whole check, into bytes that were all 0; after a refusal nobody reads them
 pub record Built (f : List ℕ) (v : Verdict) (ys : List ℕ) : Type 0 where
