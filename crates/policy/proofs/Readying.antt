@@ -7,7 +7,7 @@ use native.Mathlib.Omega.{arith}
 use native.Mathlib.Decide.{ℕ-discrete}
 use Rattle.search.specs.Search.{Among}
 use Rattle.rolefile.specs.declared.Line.{Line}
-use Rattle.rolefile.specs.Line.{H, D, S, U, O, P, A, letterByte, lineAt, lines, part}
+use Rattle.rolefile.specs.Line.{H, D, S, U, O, P, A, lineAt, lines, part}
 use Rattle.rolefile.specs.Form.{header, firstLimit, secondLimit, linesVerdict}
 use Rattle.rolefile.specs.Said.{labels, roles}
 use Rattle.rolefile.specs.inner.Section.{one, two}
@@ -37,29 +37,26 @@ module _ (f : List ℕ) (q : Parts) (e : linesVerdict f .number ≡ 0) (laid : L
   good : GoodLines f
   good = good-of f e
 
-  bytes : (letterByte D ≡ 68) × (letterByte S ≡ 83) × (letterByte U ≡ 85) × (letterByte O ≡ 79) × (letterByte P ≡ 80) × (letterByte A ≡ 65)
-  bytes = (refl, refl, refl, refl, refl, refl)
-
   d-begins : Cut f D (q .d .start)
   d-begins = rw (laid .first) (cut-first f good (some-line f e))
 
   pub d-lines : Section f D (q .d .start) (q .d .count) × Cut f S (q .s .start)
-  d-lines = rw (laid .s-after) (section-next f good d-begins (bytes .0) (omega arith) (laid .d))
+  d-lines = rw (laid .s-after) (section-next f good d-begins (omega arith) (laid .d))
 
   pub s-lines : Section f S (q .s .start) (q .s .count) × Cut f U (q .u .start)
-  s-lines = rw (laid .u-after) (section-next f good (d-lines .1) (bytes .1) (omega arith) (laid .s))
+  s-lines = rw (laid .u-after) (section-next f good (d-lines .1) (omega arith) (laid .s))
 
   pub u-lines : Section f U (q .u .start) (q .u .count) × Cut f O (q .o .start)
-  u-lines = rw (laid .o-after) (section-next f good (s-lines .1) (bytes .2) (omega arith) (laid .u))
+  u-lines = rw (laid .o-after) (section-next f good (s-lines .1) (omega arith) (laid .u))
 
   pub o-lines : Section f O (q .o .start) (q .o .count) × Cut f P (q .p .start)
-  o-lines = rw (laid .p-after) (section-next f good (u-lines .1) (bytes .3) (omega arith) (laid .o))
+  o-lines = rw (laid .p-after) (section-next f good (u-lines .1) (omega arith) (laid .o))
 
   pub p-lines : Section f P (q .p .start) (q .p .count) × Cut f A (q .a .start)
-  p-lines = rw (laid .a-after) (section-next f good (o-lines .1) (bytes .4) (omega arith) (laid .p))
+  p-lines = rw (laid .a-after) (section-next f good (o-lines .1) (omega arith) (laid .p))
 
   pub a-lines : Section f A (q .a .start) (q .a .count)
-  a-lines = section-next f good (p-lines .1) (bytes .5) (omega arith) (laid .a) .0
+  a-lines = section-next f good (p-lines .1) (omega arith) (laid .a) .0
 
 -- the counts in line 1
 module _ (f : List ℕ) (q : Parts) (h : Line) (ready : Ready f q h) where

@@ -85,17 +85,17 @@ module _ (f : List ℕ) (good : GoodLines f) where
     rest = λ i p q. good i (omega arith) .body (λ e. omega arith) .letter;
   }
 
-  module _ {k j m b : ℕ} (c : Cut f k j) (e : letterByte k ≡ b) (u : Among 7 k) (h : Leads (part f j) b m) where
+  module _ {k j m : ℕ} (c : Cut f k j) (u : Among 7 k) (h : Leads (part f j) (letterByte k) m) where
     cut-fits : j + m ≤ lines f
     cut-fits = omega (arith, c .fits, h .fits, part-lines f j)
 
     leads-letter : (i : ℕ) → Among m i → lineAt f (j + i) .letter ≡ k
     leads-letter i w =
-        letter-byte (j + i) k (omega (arith, cut-fits)) u .1 (sym (part-letter f j i (w .0)) ∙ h .front i w ∙ sym e)
+        letter-byte (j + i) k (omega (arith, cut-fits)) u .1 (sym (part-letter f j i (w .0)) ∙ h .front i w)
 
     next-other : j + m < lines f → lineAt f (j + (m + 1)) .letter ≡ k → ⊥
     next-other l g =
-        h .next (omega (arith, part-lines f j)) (part-letter f j (m + 1) (omega arith) ∙ letter-byte (j + (m + 1)) k (omega arith) u .0 g ∙ e)
+        h .next (omega (arith, part-lines f j)) (part-letter f j (m + 1) (omega arith) ∙ letter-byte (j + (m + 1)) k (omega arith) u .0 g)
 
     -- the lines of one letter are a section, and the next letter begins where it ends
     pub section-next : Section f k j m × Cut f (k + 1) (j + m)

@@ -20,20 +20,20 @@ ends : (f : List ℕ) (j b : ℕ) (q : Part) → (q .start ≡ j) × Leads (part
 ends f j b q (e, h) l = omega (arith, h .fits, part-lines f (q .start))
 
 d-ends : (c : tie.After-part-after) → Ends (now (c .before .before .args .f)) (c .part-after .result)
-d-ends c = ends (now (c .before .before .args .f)) 1 68 (c .part-after .result) (c .part-after .ensures) (omega arith)
+d-ends c = ends (now (c .before .before .args .f)) 1 _ (c .part-after .result) (c .part-after .ensures) (omega arith)
 
 s-ends : (c : tie.After-part-after2) → Ends (now (c .before .before .before .before .args .f)) (c .part-after2 .result)
-s-ends c = ends _ _ 83 (c .part-after2 .result) (c .part-after2 .ensures) (d-ends (c .before .before))
+s-ends c = ends _ _ _ (c .part-after2 .result) (c .part-after2 .ensures) (d-ends (c .before .before))
 
 u-ends : (c : tie.After-part-after3) → Ends (now (c .before .before .before .before .before .before .args .f)) (c .part-after3 .result)
-u-ends c = ends _ _ 85 (c .part-after3 .result) (c .part-after3 .ensures) (s-ends (c .before .before))
+u-ends c = ends _ _ _ (c .part-after3 .result) (c .part-after3 .ensures) (s-ends (c .before .before))
 
 o-ends : (c : tie.After-part-after4) → Ends (now (c .before .before .before .before .before .before .before .before .args .f)) (c .part-after4 .result)
-o-ends c = ends _ _ 79 (c .part-after4 .result) (c .part-after4 .ensures) (u-ends (c .before .before))
+o-ends c = ends _ _ _ (c .part-after4 .result) (c .part-after4 .ensures) (u-ends (c .before .before))
 
 p-ends : (c : tie.After-part-after5)
     → Ends (now (c .before .before .before .before .before .before .before .before .before .before .args .f)) (c .part-after5 .result)
-p-ends c = ends _ _ 80 (c .part-after5 .result) (c .part-after5 .ensures) (o-ends (c .before .before))
+p-ends c = ends _ _ _ (c .part-after5 .result) (c .part-after5 .ensures) (o-ends (c .before .before))
 
 returns : tie.Need-returns
 returns c =
