@@ -23,12 +23,13 @@ made-once m (drops p r) a n (h, s, b) = answered m n (drops p r) a (h .number) b
 made-once m (reads p o k x) a n (h, s, b) = answered m n (reads p o k x) a h b (ap (λ (y : Memory). y .state) s) (ap (λ (y : Memory). y .store) s)
 made-once m (writes p o k bytes) a n (h, s, b) = answered m n (writes p o k bytes) a (h .number) b s (h .store)
 
-makes-run : (σ : Settings) (L : ℕ) (cs : List Call) (t : Open) (m e : Memory) (xs : List Shown) → Makes σ L t m cs xs e → (xs ≡ shown σ L t m cs) × (e ≡ run m cs)
+-- and of a list of calls one outcome
+pub makes-once : (σ : Settings) (L : ℕ) (cs : List Call) (t : Open) (m e : Memory) (xs : List Shown) → Makes σ L t m cs xs e → (xs ≡ shown σ L t m cs) × (e ≡ run m cs)
 unfolding shown run
-makes-run σ L [] t m e xs h = h
-makes-run σ L (c ∷ cs) t m e xs (a, n, ys, call, rest, shows) =
+makes-once σ L [] t m e xs h = h
+makes-once σ L (c ∷ cs) t m e xs (a, n, ys, call, rest, shows) =
     let (x, y) = made-once m c a n call in
-    let (z, w) = makes-run σ L cs (track σ t c) n e ys rest in
+    let (z, w) = makes-once σ L cs (track σ t c) n e ys rest in
     (shows ∙ rw (z, x, y), w ∙ rw y)
 
 -- ---- and there is one
@@ -53,6 +54,6 @@ makes σ L (c ∷ cs) t m =
 pub exported : (f : List ℕ) → IsolatedExports f
 exported f accepted a b L label s₁ s₂ long same cs₁ cs₂ same-shared xs₁ xs₂ e₁ e₂ makes₁ makes₂ =
     let claim = isolation f accepted a b L label s₁ s₂ long same cs₁ cs₂ same-shared in
-    let (x₁, y₁) = makes-run (settings f) L cs₁ noneOpen _ e₁ xs₁ makes₁ in
-    let (x₂, y₂) = makes-run (settings f) L cs₂ noneOpen _ e₂ xs₂ makes₂ in
+    let (x₁, y₁) = makes-once (settings f) L cs₁ noneOpen _ e₁ xs₁ makes₁ in
+    let (x₂, y₂) = makes-once (settings f) L cs₂ noneOpen _ e₂ xs₂ makes₂ in
     rw (x₁, x₂, y₁, y₂) (record { answers = claim .answers; cards = claim .cards })

@@ -93,10 +93,10 @@ shows a L store cs long =
 
 -- label 2 is shown the same, and not refusals alone; label 4, one step higher, is shown more, and not the same
 pub record Separated (a b : Start file) : Type 0 where
-  pub sharedCalls : sharedCalls (settings file) 2 noneOpen firstRun ≡ sharedCalls (settings file) 2 noneOpen secondRun
+  pub calls : sharedCalls (settings file) 2 noneOpen firstRun ≡ sharedCalls (settings file) 2 noneOpen secondRun
   pub stores : (length firstStore ≡ length secondStore) × SameCards (settings file) 2 firstStore secondStore
-  pub low : (answersOf a 2 firstStore firstRun ≡ low) × (answersOf b 2 secondStore secondRun ≡ low)
-  pub high : (answersOf a 4 firstStore firstRun ≡ highFirst) × (answersOf b 4 secondStore secondRun ≡ highSecond)
+  pub lowAnswers : (answersOf a 2 firstStore firstRun ≡ low) × (answersOf b 2 secondStore secondRun ≡ low)
+  pub highAnswers : (answersOf a 4 firstStore firstRun ≡ highFirst) × (answersOf b 4 secondStore secondRun ≡ highSecond)
   pub differ : highFirst ≡ highSecond → ⊥
 
 -- the first byte that the seventh call shown handed back
@@ -106,10 +106,10 @@ seventh xs = getD (getD xs 6 done .bytes) 0 0
 pub separated : (a b : Start file) → Separated a b
 unfolding highFirst highSecond
 separated a b = record {
-  sharedCalls = one-list;
+  calls = one-list;
   stores = (one-length .0 ∙ sym (one-length .1), same-cards);
-  low = (shows a 2 firstStore firstRun (one-length .0) ∙ computed .0, shows b 2 secondStore secondRun (one-length .1) ∙ computed .1);
-  high = (shows a 4 firstStore firstRun (one-length .0) ∙ computed .2, shows b 4 secondStore secondRun (one-length .1) ∙ computed .3);
+  lowAnswers = (shows a 2 firstStore firstRun (one-length .0) ∙ computed .0, shows b 2 secondStore secondRun (one-length .1) ∙ computed .1);
+  highAnswers = (shows a 4 firstStore firstRun (one-length .0) ∙ computed .2, shows b 4 secondStore secondRun (one-length .1) ∙ computed .3);
   differ = λ e. let z : _≡_ {A = ℕ} 66 67 = ap seventh e in omega arith;
 }
 

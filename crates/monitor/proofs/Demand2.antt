@@ -1,4 +1,4 @@
--- Demand 2's session half: on every state that a load of an accepted file and any calls left, each call is answered as the file and the calls so far say. Each call keeps
+-- Demand 2's session half: on every state that a load of an accepted file and any calls left, each call is answered as the settings and what stands after the calls so far say. Each call keeps
 -- the state standing for the sessions, and a load's image stands for none. Assumes nothing.
 use Prim.Native.Nat.{ℕ, _≤_}
 use mathlib.Core.Path.{_≡_, refl, sym, _∙_}
@@ -189,7 +189,7 @@ module _ {f : List ℕ} (accepted : Accepted f) (a : Start f) where
     left-sound : sound (left a store cs .state) ≡ true
     left-sound = sound-by (settings f) (file-bounded f (accepted .form)) _ (afterCalls f cs .sessions) (left a store cs .state) left-stands
 
-    -- what each call is answered, whatever store it is lent, by the file and the calls so far
+    -- what each call is answered, whatever store it is lent, by the settings and what stands after the calls so far
     pub answers : (lent : List ℕ) (c : Call) → number (record { state = left a store cs .state; store = lent }) c ≡ rule (settings f) (length lent) (afterCalls f cs) c
     answers lent c = let r = left-runs in runs-number (settings f) _ (length lent) (record { state = left a store cs .state; store = lent }) (record { bounded = r .bounded; known = r .known; stands = r .stands; stored = refl }) c
 

@@ -30,6 +30,12 @@ unfolding standing
 standing-append σ [] cs now = refl
 standing-append σ (c ∷ ds) cs now = standing-append σ ds cs (next σ now c)
 
+-- no call changes the assignments
+pub assigned-kept : (σ : Settings) (cs : List Call) (now : Standing) → standing σ now cs .assigned ≡ now .assigned
+unfolding standing
+assigned-kept σ [] now = refl
+assigned-kept σ (c ∷ cs) now = assigned-kept σ cs (next σ now c)
+
 pub orderly-standing : (σ : Settings) (cs : List Call) (now : Standing) → Orderly σ (now .sessions) → Orderly σ (standing σ now cs .sessions)
 unfolding standing
 orderly-standing σ [] now k = k
@@ -52,16 +58,16 @@ unfolding ifDone
 which-way P zero new old h = inl (refl, h)
 which-way P (suc n) new old h = inr (λ e. omega arith, h)
 
--- ---- what begins with a call at place p and ends with a closing, or with a dropping of a role of the set
-record Kind (p : ℕ) (set : ℕ → Bool) (call : Call) (Good : Session → Type 0) : Type 0 where
+-- ---- what begins with a call at place p and ends with a closing, or with a dropping of a role of those that `which` tells
+record Kind (p : ℕ) (which : ℕ → Bool) (call : Call) (Good : Session → Type 0) : Type 0 where
   pub opened : (u l : ℕ) → Good (sessionOf u l) → opens p u l ≡ call
   pub taken : (r : ℕ) (s : Session) → Good (holding r s) → Good s ⊎ (takes p r ≡ call)
   pub keeps : (r : ℕ) (s : Session) → Good s → Good (holding r s)
-  pub dropped : (r : ℕ) (s : Session) → Good (without r s) → Good s × (set r ≡ false)
-  pub spares : (r : ℕ) (s : Session) → Good s → set r ≡ false → Good (without r s)
-  pub role : (σ : Settings) (s : Session) → Admitted σ p s → Good s → (r : ℕ) → set r ≡ true → Among (σ .roles) r
+  pub dropped : (r : ℕ) (s : Session) → Good (without r s) → Good s × (which r ≡ false)
+  pub spares : (r : ℕ) (s : Session) → Good s → which r ≡ false → Good (without r s)
+  pub role : (σ : Settings) (s : Session) → Admitted σ p s → Good s → (r : ℕ) → which r ≡ true → Among (σ .roles) r
 
-module _ (σ : Settings) (α : Relation) (p : ℕ) (set : ℕ → Bool) (call : Call) (Good : Session → Type 0) (kind : Kind p set call Good) (t : Sessions) where
+module _ (σ : Settings) (α : Relation) (p : ℕ) (which : ℕ → Bool) (call : Call) (Good : Session → Type 0) (kind : Kind p which call Good) (t : Sessions) where
   -- what is so at place p
   abbrev So : Sessions → Type 0
   So u = SessionWith Good (u p)
@@ -77,7 +83,7 @@ module _ (σ : Settings) (α : Relation) (p : ℕ) (set : ℕ → Bool) (call : 
   back-elsewhere q s n h = rw (put-other t q s p n) at h
 
   -- it lasts through each call that does not end it
-  lasts-next : (c : Call) → So t → ends σ (stand α t) p set c ≡ false → So (sessionsAfter σ (stand α t) c)
+  lasts-next : (c : Call) → So t → ends σ (stand α t) p which c ≡ false → So (sessionsAfter σ (stand α t) c)
   unfolding sessionsAfter closeRule dropRule
   lasts-next (opens q u l) h e = either-way So (openRule σ t q u l) (put t q (some (sessionOf u l))) t
       (λ z. elim (ℕ-discrete q p) [
@@ -99,7 +105,7 @@ module _ (σ : Settings) (α : Relation) (p : ℕ) (set : ℕ → Bool) (call : 
   lasts-next (drops q r) h e = either-way So (dropRule σ t q r) (put t q (Option·map (without r) (t q))) t
       (λ z. elim (ℕ-discrete q p) [
         | yes i ↦
-            let other : set r ≡ false = rw (eq-eqb q p i) at e in
+            let other : which r ≡ false = rw (eq-eqb q p i) at e in
             rw (put-at t q (Option·map (without r) (t q)) p i, i) (changed (without r) (λ s g. kind .spares r s g other) (t p) h)
         | no n ↦ elsewhere q (Option·map (without r) (t q)) n h
       ])
@@ -109,13 +115,13 @@ module _ (σ : Settings) (α : Relation) (p : ℕ) (set : ℕ → Bool) (call : 
 
   -- and where it is so after a call, it was so and the call did not end it, or the call began it
   abbrev Came : Call → Type 0
-  Came c = (So t × (ends σ (stand α t) p set c ≡ false)) ⊎ ((c ≡ call) × (rule σ 0 (stand α t) c ≡ 0))
+  Came c = (So t × (ends σ (stand α t) p which c ≡ false)) ⊎ ((c ≡ call) × (rule σ 0 (stand α t) c ≡ 0))
 
   back-taken : (r : ℕ) (o : Option Session) → SessionWith Good (Option·map (holding r) o) → SessionWith Good o ⊎ (takes p r ≡ call)
   back-taken r none h = inl h
   back-taken r (some s) h = kind .taken r s h
 
-  back-dropped : (r : ℕ) (o : Option Session) → SessionWith Good (Option·map (without r) o) → SessionWith Good o × (set r ≡ false)
+  back-dropped : (r : ℕ) (o : Option Session) → SessionWith Good (Option·map (without r) o) → SessionWith Good o × (which r ≡ false)
   back-dropped r none h = absurd h
   back-dropped r (some s) h = kind .dropped r s h
 
@@ -161,8 +167,8 @@ module _ (σ : Settings) (α : Relation) (p : ℕ) (set : ℕ → Bool) (call : 
       let (s, found, good) = session-with Good (t p) g in
       inl (
         g,
-        untrue (eqb q p && set r) (λ e.
-            let (i, j) = and-iff (eqb q p) (set r) .0 e in
+        untrue (eqb q p && which r) (λ e.
+            let (i, j) = and-iff (eqb q p) (which r) .0 e in
             z (rw (eqb-true q p i) (session-granted σ t known p s found _ (rw (among-iff (σ .roles) r .1 (kind .role σ s (admitted σ t known p s found) good r j)))))),
       ))
       (which-way So (dropRule σ t q r) (put t q (Option·map (without r) (t q))) t h)
@@ -171,15 +177,15 @@ module _ (σ : Settings) (α : Relation) (p : ℕ) (set : ℕ → Bool) (call : 
 
 -- ---- along a list
 
-module _ (σ : Settings) (p : ℕ) (set : ℕ → Bool) (call : Call) (Good : Session → Type 0) (kind : Kind p set call Good)
+module _ (σ : Settings) (p : ℕ) (which : ℕ → Bool) (call : Call) (Good : Session → Type 0) (kind : Kind p which call Good)
     (begins : (now : Standing) → rule σ 0 now call ≡ 0 → SessionWith Good (next σ now call .sessions p)) where
-  lasts-on : (cs : List Call) (now : Standing) → SessionWith Good (now .sessions p) → NoneEnds σ now p set cs → SessionWith Good (standing σ now cs .sessions p)
+  lasts-on : (cs : List Call) (now : Standing) → SessionWith Good (now .sessions p) → NoneEnds σ now p which cs → SessionWith Good (standing σ now cs .sessions p)
   unfolding standing
   lasts-on [] now h lasting = h
-  lasts-on (c ∷ cs) now h (e, lasting) = lasts-on cs (next σ now c) (lasts-next σ (now .assigned) p set call Good kind (now .sessions) c h e) lasting
+  lasts-on (c ∷ cs) now h (e, lasting) = lasts-on cs (next σ now c) (lasts-next σ (now .assigned) p which call Good kind (now .sessions) c h e) lasting
 
   came : (cs : List Call) (now : Standing) → Orderly σ (now .sessions) → SessionWith Good (standing σ now cs .sessions p)
-      → (SessionWith Good (now .sessions p) × NoneEnds σ now p set cs) ⊎ Since σ now p set call cs
+      → (SessionWith Good (now .sessions p) × NoneEnds σ now p which cs) ⊎ Since σ now p which call cs
   unfolding standing
   came [] now k h = inl (h, tt)
   came (c ∷ cs) now k h =
@@ -188,12 +194,12 @@ module _ (σ : Settings) (p : ℕ) (set : ℕ → Bool) (call : Call) (Good : Se
       ⊎-elim
       (λ (before, e). inl (before, (e, lasting)))
       (λ (e, z). inr (record { earlier = []; later = cs; split = ap (λ (d : Call). d ∷ cs) e; done = rw e at z; lasts = rw e at lasting }))
-      (back-next σ (now .assigned) p set call Good kind (now .sessions) k c so))
+      (back-next σ (now .assigned) p which call Good kind (now .sessions) k c so))
       (λ s.
       inr (record { earlier = c ∷ s .earlier; later = s .later; split = ap (λ (ds : List Call). c ∷ ds) (s .split); done = s .done; lasts = s .lasts }))
       (came cs (next σ now c) (orderly-next σ (now .assigned) (now .sessions) k c) h)
 
-  since-iff : (α : Relation) (cs : List Call) → SessionWith Good (standing σ (begun α) cs .sessions p) ↔ Since σ (begun α) p set call cs
+  since-iff : (α : Relation) (cs : List Call) → SessionWith Good (standing σ (begun α) cs .sessions p) ↔ Since σ (begun α) p which call cs
   unfolding standing
   since-iff α cs = (
     λ h. ⊎-elim (λ (so, lasting). absurd so) (λ s. s) (came cs (begun α) (no-sessions-orderly σ) h),

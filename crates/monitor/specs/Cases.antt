@@ -7,6 +7,7 @@ use mathlib.Core.Bool.{Bool, false}
 use mathlib.Core.Option.{Option, none, some, Option·map}
 use Rattle.rolefile.specs.declared.Verdict.{Verdict}
 use Rattle.rolefile.specs.Ascii.{ascii}
+use Rattle.rolefile.specs.Line.{newline}
 use Rattle.rolefile.specs.Form.{fine, refusal}
 use Rattle.rolefile.specs.Said.{assigned}
 use Rattle.policy.specs.Settings.{Settings, settings}
@@ -19,14 +20,14 @@ use Rattle.monitor.specs.Rules.{Standing, begun, rule, next}
 -- each text as a line: its bytes, and byte 10
 unfoldable pub bytes : List String → List ℕ
 bytes [] = []
-bytes (text ∷ texts) = ascii text ++ (10 ∷ bytes texts)
+bytes (text ∷ texts) = ascii text ++ (newline ∷ bytes texts)
 
 -- "R for each role (role, r-level, w-level; 0 free, 99 undefined)"
 abbrev pub Row : Type 0
 Row = ℕ × ℕ × ℕ
 
 abbrev pub row : Settings → ℕ → Row
-row s r = (r, levelNumber (rLevel s r), levelNumber (wLevel s r))
+row σ r = (r, levelNumber (rLevel σ r), levelNumber (wLevel σ r))
 
 -- two roles, and whether the first flows to the second: a line F or none
 abbrev pub Flow : Type 0

@@ -16,27 +16,27 @@ use Rattle.monitor.specs.Rules.{Standing, begun, rule, next, standing}
 
 -- ---- what stands since a call
 
--- a closing of place p, or a dropping there of a role of the set
+-- a closing of place p, or a dropping there of a role of those that `which` tells
 abbrev pub ends : Settings → Standing → ℕ → (ℕ → Bool) → Call → Bool
-ends σ now p set (opens q u l) = false
-ends σ now p set (closes q) = eqb q p
-ends σ now p set (takes q r) = false
-ends σ now p set (drops q r) = eqb q p && set r
-ends σ now p set (reads q o k n) = false
-ends σ now p set (writes q o k bytes) = false
+ends σ now p which (opens q u l) = false
+ends σ now p which (closes q) = eqb q p
+ends σ now p which (takes q r) = false
+ends σ now p which (drops q r) = eqb q p && which r
+ends σ now p which (reads q o k n) = false
+ends σ now p which (writes q o k bytes) = false
 
 abbrev pub NoneEnds : Settings → Standing → ℕ → (ℕ → Bool) → List Call → Type 0
-NoneEnds σ now p set [] = Unit {0}
-NoneEnds σ now p set (c ∷ cs) = (ends σ now p set c ≡ false) × NoneEnds σ (next σ now c) p set cs
+NoneEnds σ now p which [] = Unit {0}
+NoneEnds σ now p which (c ∷ cs) = (ends σ now p which c ≡ false) × NoneEnds σ (next σ now c) p which cs
 
 -- cs, which found things standing so, has this call, it was done, and no later call of cs ends what it began. (The number of an opening or a taking does not depend on the store,
 -- hence size 0.)
-pub record Since (σ : Settings) (now : Standing) (p : ℕ) (set : ℕ → Bool) (call : Call) (cs : List Call) : Type 0 where
+pub record Since (σ : Settings) (now : Standing) (p : ℕ) (which : ℕ → Bool) (call : Call) (cs : List Call) : Type 0 where
   pub earlier : List Call
   pub later : List Call
   pub split : cs ≡ earlier ++ (call ∷ later)
   pub done : rule σ 0 (standing σ now earlier) call ≡ 0
-  pub lasts : NoneEnds σ (next σ (standing σ now earlier) call) p set later
+  pub lasts : NoneEnds σ (next σ (standing σ now earlier) call) p which later
 
 -- place p was opened for user u at label l, and not closed since
 abbrev pub OpenFor : Settings → Relation → List Call → ℕ → ℕ → ℕ → Type 0

@@ -3,13 +3,13 @@
 // The row of a thing has the things under it. So lower bounds are what rows have in common, and
 // upper bounds are lower bounds in the order turned round: who asks for many turns the order once.
 use super::marks;
-use super::marks::Relation;
 use super::marks::Set;
 use super::marks::THINGS;
+use super::marks::Table;
 ghost use mathlib.Core.Path.{_≡_};
 ghost use mathlib.Core.Bool.{_&&_};
 ghost use Prim.Native.Nat.{_+_, _≤_, _<_, min};
-ghost use Rattle.search.specs.Search.{among, every, implies};
+ghost use Rattle.search.specs.Search.{every, implies};
 ghost use Rattle.order.specs.Closure.{Agree};
 ghost use Rattle.order.specs.Bound.{upper, leastOf, converse, partnerWithoutBound, FirstWithoutBound};
 ghost use Rattle.order.specs.Table.{marks, mark, Upto, FirstThings};
@@ -64,7 +64,7 @@ fn leads(s: Set, under: Set, inside: bool) -> bool
 }
 
 // The greatest of the set, or 0. Where several are over all of it, the lowest number of them.
-fn greatest(t: &Relation, s: &Set) -> usize
+fn greatest(t: &Table, s: &Set) -> usize
     ensures { λ r. ⌜ r ≡ leastOf 32 (converse (mark (now (t .entry)))) (marks (now (s .entry))) ⌝ }
 {
     let set = *s;
@@ -90,7 +90,7 @@ fn narrowed(s: Set, under: Set, on: bool) -> Set
 }
 
 // The things of `all` that are under each of s, of which the first n count.
-fn lower_bounds(t: &Relation, n: usize, all: &Set, s: Set) -> Set
+fn lower_bounds(t: &Table, n: usize, all: &Set, s: Set) -> Set
     ensures { λ r. ⌜ Upto 32 (λ c. marks (now (all .entry)) c && upper (min n 32) (converse (mark (now (t .entry)))) (marks s) c) r ⌝ }
 {
     let m = marks::lesser(n, THINGS);
@@ -107,7 +107,7 @@ fn lower_bounds(t: &Relation, n: usize, all: &Set, s: Set) -> Set
 
 // The greatest of the things of `all` that are under each of s, of which the first n count, or 0. Where `all` is
 // the set of the first n, this is the greatest lower bound; who asks for many makes that set once.
-pub fn greatest_lower(t: &Relation, n: usize, all: &Set, s: Set) -> usize
+pub fn greatest_lower(t: &Table, n: usize, all: &Set, s: Set) -> usize
     ensures { λ r. ⌜ r ≡ leastOf 32 (converse (mark (now (t .entry)))) (λ c. marks (now (all .entry)) c && upper (min n 32) (converse (mark (now (t .entry)))) (marks s) c) ⌝ }
 {
     let bounds = lower_bounds(t, n, all, s);
@@ -115,7 +115,7 @@ pub fn greatest_lower(t: &Relation, n: usize, all: &Set, s: Set) -> usize
 }
 
 // The column of thing j + 1.
-fn column(t: &Relation, j: usize) -> Set
+fn column(t: &Table, j: usize) -> Set
     requires { ⌜ j < 32 ⌝ }
     ensures { λ r. ⌜ Upto 32 (λ a. mark (now (t .entry)) a (j + 1)) r ⌝ }
 {
@@ -129,7 +129,7 @@ fn column(t: &Relation, j: usize) -> Set
 }
 
 // The order turned round.
-pub fn converse(t: Relation) -> Relation
+pub fn converse(t: Table) -> Table
     ensures { λ r. ⌜ Agree 32 32 (mark r) (converse (mark t)) ⌝ }
 {
     let mut r = t;
@@ -142,7 +142,7 @@ pub fn converse(t: Relation) -> Relation
 }
 
 // The greatest of what s and the row of thing j + 1 have in common, or 0.
-fn greatest_common(t: &Relation, s: Set, j: usize) -> usize
+fn greatest_common(t: &Table, s: Set, j: usize) -> usize
     requires { ⌜ j < 32 ⌝ }
     ensures { λ r. ⌜ r ≡ leastOf 32 (converse (mark (now (t .entry)))) (λ a. marks s a && mark (now (t .entry)) (j + 1) a) ⌝ }
 {
@@ -153,7 +153,7 @@ fn greatest_common(t: &Relation, s: Set, j: usize) -> usize
 
 // The lowest of the first m things that comes after thing i + 1 and has no least upper bound with it, or 0,
 // in the order that was turned round.
-fn partner(up: &Relation, m: usize, i: usize) -> usize
+fn partner(up: &Table, m: usize, i: usize) -> usize
     requires { ⌜ (m ≤ 32) × (i < m) ⌝ }
     ensures { λ r. ⌜ r ≡ partnerWithoutBound m (converse (mark (now (up .entry)))) (i + 1) ⌝ }
 {
@@ -176,7 +176,7 @@ pub struct Pair {
 }
 
 // The first pair among the first n things that has no least upper bound.
-pub fn first_pair(t: Relation, n: usize) -> Pair
+pub fn first_pair(t: Table, n: usize) -> Pair
     ensures { λ r. ⌜ FirstWithoutBound (min n 32) (mark t) (r .lower) (r .higher) ⌝ }
 {
     let m = marks::lesser(n, THINGS);

@@ -13,8 +13,8 @@ pub const THINGS: usize = 32;
 // A set of things: a mark for each.
 pub type Set = [bool; THINGS];
 
-// A relation: for each thing the set of those that it is related to.
-pub type Relation = [Set; THINGS];
+// A table of marks: for each thing the set of those that it is related to.
+pub type Table = [Set; THINGS];
 
 // The lesser of the two.
 pub fn lesser(n: usize, most: usize) -> usize
@@ -37,7 +37,7 @@ fn stepped(row: Set, other: Set, on: bool) -> Set
 }
 
 // One round of closing: in the first n rows, the paths past thing k + 1 too.
-fn pass(t: &mut Relation, k: usize, n: usize)
+fn pass(t: &mut Table, k: usize, n: usize)
     requires { ⌜ (length (now t) ≡ 32) × (k < n) × (n ≤ 32) ⌝ }
     ensures { λ _. ⌜ (length (now (t .exit)) ≡ 32) × Rows 32 n (round (mark (now (t .entry))) (k + 1)) (mark (now (t .entry))) (mark (now (t .exit))) ⌝ }
 {
@@ -52,7 +52,7 @@ fn pass(t: &mut Relation, k: usize, n: usize)
 }
 
 // The paths of one step or more among the first n things.
-pub fn paths(t: Relation, n: usize) -> Relation
+pub fn paths(t: Table, n: usize) -> Table
     ensures { λ r. ⌜ Rows 32 (min n 32) (path (min n 32) (mark t)) (mark t) (mark r) ⌝ }
 {
     let m = lesser(n, THINGS);
@@ -78,7 +78,7 @@ pub fn with_mark(row: Set, b: usize) -> Set
 }
 
 // Each of the first n things with itself: of paths, the closure.
-pub fn reflected(t: Relation, n: usize) -> Relation
+pub fn reflected(t: Table, n: usize) -> Table
     ensures { λ r. ⌜ Rows 32 (min n 32) (withItself (mark t)) (mark t) (mark r) ⌝ }
 {
     let m = lesser(n, THINGS);
@@ -93,7 +93,7 @@ pub fn reflected(t: Relation, n: usize) -> Relation
 }
 
 // The lowest of the first n things that is related to itself, or 0: of paths, the lowest on a circle.
-pub fn lowest_loop(t: Relation, n: usize) -> usize
+pub fn lowest_loop(t: Table, n: usize) -> usize
     ensures { λ r. ⌜ r ≡ loop (min n 32) (mark t) ⌝ }
 {
     let m = lesser(n, THINGS);

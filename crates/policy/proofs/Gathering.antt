@@ -54,8 +54,8 @@ module _ (n : ℕ) (ge : Relation) (s : ℕ → Bool) where
   unfolding level
   bounded b e q = rw (e, q)
 
-  pub level-undefined : (b : ℕ) → some n s ≡ true → b ≡ lub n ge s → b ≡ 0 → 99 ≡ levelNumber (level n ge s)
-  level-undefined b e q z = rw z at (bounded b e q)
+  pub level-unbounded : (b : ℕ) → some n s ≡ true → b ≡ lub n ge s → b ≡ 0 → 99 ≡ levelNumber (level n ge s)
+  level-unbounded b e q z = rw z at (bounded b e q)
 
   pub level-bound : (b : ℕ) → some n s ≡ true → b ≡ lub n ge s → (b ≡ 0 → ⊥) → b ≡ levelNumber (level n ge s)
   level-bound zero e q ne = absurd (ne refl)

@@ -12,7 +12,7 @@ use Rattle.roleset.specs.Row.{AllBytes}
 use Rattle.order.specs.Closure.{Relation, Agree}
 use Rattle.rolefile.specs.declared.Line.{Line}
 use Rattle.rolefile.specs.declared.Verdict.{Verdict}
-use Rattle.rolefile.specs.Line.{H, U, O, lines, fields}
+use Rattle.rolefile.specs.Line.{H, U, O, fields}
 use Rattle.rolefile.specs.Form.{header, firstLimit, about}
 use Rattle.rolefile.specs.Said.{labels, roles, users, cards, labelBy, clearance, cardLabel, assigned}
 use Rattle.rolefile.specs.WellFormed.{OneEach, GoodLines, WellFormed}

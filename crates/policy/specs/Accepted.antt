@@ -72,7 +72,7 @@ pub record Accepted (f : List ℕ) : Type 0 where
 
 -- ---- the outcomes
 
--- what holds of an order when its circles have been looked for
+-- what holds of an order where no circle was found
 pub record GoodOrder (n : ℕ) (e ge : Relation) : Type 0 where
   pub order : PartialOrder n ge
   pub strict : Irreflexive n e

@@ -8,7 +8,7 @@ use mathlib.Core.Bool.{Bool, true}
 use Rattle.search.specs.Search.{Among}
 use Rattle.order.specs.Closure.{Relation, closure, Agree}
 use Rattle.rolefile.specs.Line.{U, O, P, A}
-use Rattle.rolefile.specs.Form.{header}
+use Rattle.rolefile.specs.Form.{header, labelLimit, roleLimit, userLimit, cardLimit}
 use Rattle.rolefile.specs.Said.{labels, roles, users, cards, says, over, above, clearance, cardLabel, permits}
 
 pub record Settings : Type 0 where
@@ -16,7 +16,7 @@ pub record Settings : Type 0 where
   pub roles : ℕ
   pub users : ℕ
   pub cards : ℕ
-  -- label a dominates label b; role r is senior to role q. Both are closed, so a label dominates itself, and a role is senior to itself
+  -- label a dominates label b, and role r is senior to role q, by any number of steps, none included
   pub dominates : Relation
   pub senior : Relation
   pub clearance : ℕ → ℕ
@@ -52,10 +52,10 @@ Inside n ge = (a b : ℕ) → ge a b ≡ true → (a ≡ b) ⊎ (Among n a × Am
 
 -- the counts are within the limits of 3, and orders and card labels are of things that are counted; a well-formed file's settings are so (`file-bounded` under proofs/)
 pub record Bounded (σ : Settings) : Type 0 where
-  pub labels : Among 32 (σ .labels)
-  pub roles : σ .roles ≤ 128
-  pub users : σ .users ≤ 256
-  pub cards : σ .cards ≤ 512
+  pub labels : Among labelLimit (σ .labels)
+  pub roles : σ .roles ≤ roleLimit
+  pub users : σ .users ≤ userLimit
+  pub cards : σ .cards ≤ cardLimit
   pub dominance : Inside (σ .labels) (σ .dominates)
   pub seniority : Inside (σ .roles) (σ .senior)
   pub cardLabels : (o : ℕ) → Among (σ .cards) o → Among (σ .labels) (σ .cardLabel o)
@@ -65,7 +65,7 @@ pub record Bounded (σ : Settings) : Type 0 where
 abbrev pub SameLines : ℕ → List ℕ → List ℕ → Type 0
 SameLines k f g = (x y z : ℕ) → says f k x y z ≡ says g k x y z
 
--- "the same counts, dominance and seniority and the same U, O, P and A lines"
+-- document 02's "same counts, dominance and seniority and the same U, O, P and A lines"
 pub record SaySame (f g : List ℕ) : Type 0 where
   pub counts : header f ≡ header g
   pub dominance : Agree (labels f) (labels f) (dominates f) (dominates g)

@@ -5,7 +5,7 @@ use super::labels;
 use super::layout;
 use super::marks;
 use super::rows;
-use order::marks::Relation;
+use order::marks::Table;
 use rolefile::Line;
 use rolefile::Verdict;
 use rolefile::check;
@@ -85,7 +85,7 @@ fn note_labels(f: &[u8], s: &mut [u8], q: Parts, h: Line) -> Verdict
 }
 
 // The paths of dominance by the D lines.
-fn dominance(f: &[u8], q: Parts, h: Line) -> Relation
+fn dominance(f: &[u8], q: Parts, h: Line) -> Table
     requires { ⌜ Ready (now f) q h ⌝ }
     ensures { λ t. ⌜ Paths (now (f .entry)) t ⌝ }
 {
@@ -96,7 +96,7 @@ fn dominance(f: &[u8], q: Parts, h: Line) -> Relation
 }
 
 // 11 and 12, by the paths and the closed table.
-fn check_labels(paths: Relation, closed: Relation, n: usize) -> Verdict
+fn check_labels(paths: Table, closed: Table, n: usize) -> Verdict
     ensures { λ v. ⌜ v ≡ orderVerdict (min n 32) (mark paths) (mark closed) ⌝ }
 {
     let a = order::marks::lowest_loop(paths, n);
@@ -129,7 +129,7 @@ fn rank_roles(f: &[u8], s: &mut [u8], q: Parts, h: Line) -> Verdict
 }
 
 // Dominance, readers, writers and levels, put into the state.
-fn grant_all(f: &[u8], s: &mut [u8], q: Parts, h: Line, t: Relation)
+fn grant_all(f: &[u8], s: &mut [u8], q: Parts, h: Line, t: Table)
     requires { ⌜ Ready (now f) q h × (stateSize ≤ length (now s)) × Labelled (settings (now f)) (now s) × Seniors (settings (now f)) (now s) × Closed (now f) t × Zeros rLevelsAt seniorsAt (now s) × Zeros readersAt (writersAt + 16 * 512) (now s) ⌝ }
     ensures { λ _. ⌜ Granting (now (f .entry)) (now (s .entry)) (now (s .exit)) ⌝ }
 {

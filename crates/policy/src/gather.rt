@@ -1,7 +1,7 @@
 // Levels: the labels that a role may read or write are gathered, and bounded.
 use super::layout;
-use order::marks::Relation;
 use order::marks::Set;
+use order::marks::Table;
 use roleset::ROW_BYTES;
 ghost use mathlib.Core.Path.{_≡_};
 ghost use Prim.Native.Nat.{_+_, _*_, _≤_, _<_};
@@ -74,7 +74,7 @@ fn any(s: &Set, n: usize) -> bool
 }
 
 // The level of a set of labels: its bound by the rows of t, as it is kept. `all` is the set of the n labels.
-fn level_of(t: &Relation, n: usize, all: &Set, s: &Set) -> u8
+fn level_of(t: &Table, n: usize, all: &Set, s: &Set) -> u8
     requires { ⌜ (n ≤ 32) × FirstThings n (now all) ⌝ }
     ensures { λ r. ⌜ r ≡ levelNumber (level n (converse (mark (now (t .entry)))) (marks (now (s .entry)))) ⌝ }
 {
@@ -93,7 +93,7 @@ pub fn put_levels(
     s: &mut [u8],
     at: usize,
     g: [u8; GATHERED_BYTES],
-    t: &Relation,
+    t: &Table,
     n: usize,
     all: &Set,
     roles: usize,

@@ -1,7 +1,7 @@
 // Dominance: the marks of the D lines, and the closed marks as bytes.
 use super::layout;
-use order::marks::Relation;
 use order::marks::Set;
+use order::marks::Table;
 use rolefile::read;
 ghost use mathlib.Core.Path.{_≡_};
 ghost use mathlib.Core.Bool.{cond};
@@ -13,7 +13,7 @@ ghost use Rattle.policy.specs.Tables.{clearancesAt};
 ghost use Rattle.policy.specs.inner.Filling.{Bytes, Marking, WithPair, DominanceRows};
 
 // Marks a over b in the table, if both are labels.
-fn add_pair(t: &mut Relation, a: usize, b: usize)
+fn add_pair(t: &mut Table, a: usize, b: usize)
     requires { ⌜ length (now t) ≡ 32 ⌝ }
     ensures { λ _. ⌜ (length (now (t .exit)) ≡ 32) × WithPair a b (now (t .entry)) (now (t .exit)) ⌝ }
 {
@@ -26,7 +26,7 @@ fn add_pair(t: &mut Relation, a: usize, b: usize)
 }
 
 // The marks of the first m lines of a part.
-pub fn marks_of(p: &[u8], m: usize) -> Relation
+pub fn marks_of(p: &[u8], m: usize) -> Table
     requires { ⌜ m ≤ lines (now p) ⌝ }
     ensures { λ r. ⌜ Marking (now (p .entry)) m r ⌝ }
 {
@@ -61,7 +61,7 @@ fn put_row(s: &mut [u8], at: usize, row: Set)
 }
 
 // Puts the table where dominance stands.
-pub fn put_table(s: &mut [u8], t: Relation)
+pub fn put_table(s: &mut [u8], t: Table)
     requires { ⌜ clearancesAt ≤ length (now s) ⌝ }
     ensures { λ _. ⌜ DominanceRows 32 t (now (s .entry)) (now (s .exit)) ⌝ }
 {

@@ -5,6 +5,7 @@ use mathlib.Core.List.{List, [], _∷_, _++_}
 use mathlib.Core.Bool.{cond}
 use lib.Dec.{leb, eqb}
 use Rattle.order.specs.Closure.{Relation}
+use Rattle.rolefile.specs.Line.{newline}
 use Rattle.rolefile.specs.Decimal.{blanks, columnsOf}
 use Rattle.text.specs.Text.{each, eachPair}
 use Rattle.policy.specs.Settings.{Settings, settings}
@@ -15,7 +16,7 @@ use Rattle.policy.specs.Tables.{rLevelsAt, wLevelsAt, roleCount, levelIn, flows
 
 -- a line: the byte of its letter, as many of three numbers as are in use, a field without use, and byte 10
 unfoldable pub line : ℕ → ℕ → ℕ → ℕ → ℕ → List ℕ
-line letter used a b c = letter ∷ (columnsOf (leb 1 used) a ++ (columnsOf (leb 2 used) b ++ (columnsOf (leb 3 used) c ++ (blanks ++ (10 ∷ [])))))
+line letter used a b c = letter ∷ (columnsOf (leb 1 used) a ++ (columnsOf (leb 2 used) b ++ (columnsOf (leb 3 used) c ++ (blanks ++ (newline ∷ [])))))
 
 -- ---- the lines of a policy, by its levels and its flow
 

@@ -212,7 +212,7 @@ pub fn first_line(f: &[u8]) -> Line
 const FOUR_BLANKS: u64 = 0x2020_2020;
 
 // Whether the five columns at `at` are blanks, four of them compared at once.
-fn blank(s: &[u8], at: usize) -> bool
+fn all_blank(s: &[u8], at: usize) -> bool
     requires { ⌜ at + 5 ≤ length (now s) ⌝ }
     ensures { λ r. ⌜ r ≡ eqb (fieldNumber false (fieldAt (now (s .entry)) at)) 0 ⌝ }
 {
@@ -228,7 +228,7 @@ fn taken_out_at(s: &[u8], at: usize, used: bool) -> Field
     if used {
         return taken_out(field(s, at), true);
     }
-    if blank(s, at) {
+    if all_blank(s, at) {
         return Field::Number(0);
     }
     Field::Bad

@@ -8,7 +8,7 @@ use Rattle.search.proofs.Truth.{passed, failed}
 use Rattle.order.specs.Bound.{lub, converse, upper}
 use Rattle.order.specs.Table.{marks, mark}
 use Rattle.order.proofs.Bound.{lub-within, least-cut}
-use Rattle.policy.proofs.Gathering.{level-empty, level-undefined, level-bound}
+use Rattle.policy.proofs.Gathering.{level-empty, level-unbounded, level-bound}
 use Rattle.policy.proofs.gather.level_of.Statement.{statement}
 use Rattle.policy.proofs.gather.level_of.Tie as tie
 
@@ -29,7 +29,7 @@ found c =
 returns-2 : tie.Need-returns-2
 returns-2 c =
     let g = c .before in
-    level-undefined _ _ _ _ (passed (g .before .before .before .any .ensures) (g .before .before .if1 .left)) (found g) (c .if2 .taken)
+    level-unbounded _ _ _ _ (passed (g .before .before .before .any .ensures) (g .before .before .if1 .left)) (found g) (c .if2 .taken)
 
 cast-result : tie.Need-cast-result
 cast-result c =

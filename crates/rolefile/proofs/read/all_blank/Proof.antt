@@ -4,8 +4,8 @@ use native.Mathlib.Omega.{arith}
 use borrow.Author.Needs.{needs}
 use denote.Ref.{now}
 use Rattle.rolefile.proofs.Reading.{blank-tested}
-use Rattle.rolefile.proofs.read.blank.Statement.{statement}
-use Rattle.rolefile.proofs.read.blank.Tie as tie
+use Rattle.rolefile.proofs.read.all_blank.Statement.{statement}
+use Rattle.rolefile.proofs.read.all_blank.Tie as tie
 
 returns : tie.Need-returns
 returns c =
@@ -19,8 +19,8 @@ returns c =
     (omega (arith, byte (a .at + 2)))
     (omega (arith, byte (a .at + 3))))
 
-pub blank-spec : {M : Type 1} → statement M
-blank-spec =
+pub all-blank-spec : {M : Type 1} → statement M
+all-blank-spec =
     tie.close
     (tie.spec
     (λ c. search needs)
