@@ -1,7 +1,7 @@
 // What a role file's policy comes to: levels, the numbers 6, 7 and 11 to 16, and role flow.
 //
-// `load` checks a file and keeps its policy in a lent state; `tables` reads a state, and `flow`
-// answers reports of a loaded one.
+// `load` checks a file and keeps its policy in a lent state; `layout` says where its parts stand,
+// `tables` reads a state, and `flow` answers reports of a loaded one.
 mod assign;
 mod build;
 pub mod flow;
