@@ -1,5 +1,5 @@
 -- The bits of a number: of one made by `|`, `&`, `^` and `>>`, of 2 ^ k and of 0; and a number below 2 ^ k is settled by its first k bits.
--- Two numbers share a bit where two of their bytes do. The lowest bit that is set stands above the trailing zeros.
+-- The lowest bit that is set stands above the trailing zeros.
 -- Assumes nothing.
 use Prim.Native.Nat.{ℕ, zero, suc, _+_, _-_, _*_, _/_, _%_, _^_, _<_}
 use mathlib.Core.Path.{_≡_, refl, sym, ap, ap₂, _∙_}
@@ -10,10 +10,12 @@ use native.Mathlib.Omega.{arith}
 use native.Mathlib.Decide.{decLt}
 use lib.Count.{under, trailingZeros}
 use lib.Dec.{eqb, eqb·zero-suc, eqb·suc-zero, eqb·suc-suc}
-use lib.Pow.{pow-pos, shl-exact, shr-shr, field, mod-mod-pow}
-use lib.Bits.{bitAnd, bitOr, bitXor, and-block, and-shr, and-mod, and-lt, and-le-l, and-le-r, or-shr, or-mod, or-add-and, xor-shr, xor-mod}
-use borrow.Author.Tests.{eqb-true, eq-eqb}
+use lib.Pow.{pow-pos, pow-add, shl-exact, shr-shr, field, mod-mod-pow}
+use lib.Bits.{bitAnd, bitOr, bitXor, and-shr, and-mod, and-lt, and-le-l, and-le-r, or-shr, or-mod, or-add-and, xor-shr, xor-mod}
+use borrow.Author.Tests.{eqb-true, eq-eqb, ne-eqb}
+use Rattle.search.proofs.Truth.{either}
 use Rattle.roleset.specs.Row.{bit}
+use Rattle.roleset.specs.Set.{bitsOf}
 use Rattle.roleset.specs.inner.Halves.{littleEndian}
 
 -- a binary digit, from whether it is 1
@@ -110,11 +112,11 @@ module _ (x k : ℕ) (l : k < 8) where
       off true e = ap not (ap (bit x) (eqb-true j k e) ∙ h)
       off false e = refl
 
--- two bytes share no bit where their `&` is 0, and two numbers are 0 where their `|` is
-pub and-none : (x y : ℕ) → x < 256 → y < 256 → (bitAnd x y ≡ 0) ↔ ((j : ℕ) → j < 8 → (bit x j && bit y j) ≡ false)
-and-none x y l m = (
+-- two numbers of k bits share none where their `&` is 0, and two numbers are 0 where their `|` is
+pub and-none : (k x y : ℕ) → x < 2 ^ k → y < 2 ^ k → (bitAnd x y ≡ 0) ↔ ((j : ℕ) → j < k → (bit x j && bit y j) ≡ false)
+and-none k x y l m = (
   λ e j i. sym (bit-and x y j) ∙ ap (λ (z : ℕ). bit z j) e ∙ bit-zero j,
-  λ h. same-bits 8 (bitAnd x y) 0 (and-lt 8 x y l m) (omega arith) (λ j i. bit-and x y j ∙ h j i ∙ sym (bit-zero j)),
+  λ h. same-bits k (bitAnd x y) 0 (and-lt k x y l m) (pow-pos k) (λ j i. bit-and x y j ∙ h j i ∙ sym (bit-zero j)),
 )
 
 pub or-none : (x y : ℕ) → (bitOr x y ≡ 0) ↔ ((x ≡ 0) × (y ≡ 0))
@@ -124,28 +126,16 @@ or-none x y =
     let right = and-le-r x y in
     (λ e. omega arith, λ e. omega arith)
 
--- `&` of two numbers whose lowest bytes are x and y
-and-low : (x y u v : ℕ) → x < 256 → y < 256 → bitAnd (x + 256 * u) (y + 256 * v) ≡ bitAnd x y + 256 * bitAnd u v
-and-low x y u v l m =
-    let turned : (x u : ℕ) → x + 256 * u ≡ u * 256 + x = λ x u. omega arith in
-    let split = ap₂ bitAnd (turned x u) (turned y v) ∙ and-block 8 u v x y l m in
-    omega arith
-
--- two numbers share no bit where no byte of one shares a bit with that of the other
-pub bytes-apart : (n : ℕ) (f g : ℕ → ℕ) → ((k : ℕ) → f k < 256) → ((k : ℕ) → g k < 256)
-    → (bitAnd (littleEndian n f) (littleEndian n g) ≡ 0) ↔ ((k : ℕ) → k < n → bitAnd (f k) (g k) ≡ 0)
+-- a number of n bytes has 8 bits for each
+pub bytes-below : (n : ℕ) (f : ℕ → ℕ) → ((k : ℕ) → f k < 256) → littleEndian n f < 2 ^ (8 * n)
 unfolding littleEndian
-bytes-apart zero f g l m = (λ e k i. absurd (omega arith), λ h. refl)
-bytes-apart (suc n) f g l m =
-    let split = and-low (f 0) (g 0) (littleEndian n (λ k. f (suc k))) (littleEndian n (λ k. g (suc k))) (l 0) (m 0) in
-    let rest = bytes-apart n (λ k. f (suc k)) (λ k. g (suc k)) (λ k. l (suc k)) (λ k. m (suc k)) in (
-      λ e. each (omega arith) (rest .0 (omega arith)),
-      λ h. let first = h 0 (omega arith) in let others = rest .1 (λ k i. h (suc k) (omega arith)) in omega arith,
-    )
-  where
-    each : bitAnd (f 0) (g 0) ≡ 0 → ((k : ℕ) → k < n → bitAnd (f (suc k)) (g (suc k)) ≡ 0) → (k : ℕ) → k < suc n → bitAnd (f k) (g k) ≡ 0
-    each a b zero i = a
-    each a b (suc k) i = b k (omega arith)
+bytes-below zero f l = omega arith
+bytes-below (suc n) f l =
+    let rest = bytes-below n (λ k. f (suc k)) (λ k. l (suc k)) in
+    let first = l 0 in
+    let width : 8 * suc n ≡ 8 + 8 * n = omega arith in
+    let more : 2 ^ (8 * suc n) ≡ 256 * 2 ^ (8 * n) = ap (λ (k : ℕ). 2 ^ k) width ∙ pow-add 2 8 (8 * n) in
+    rw more (omega arith)
 
 -- the bits of a number are those of its bytes
 pub bit-byte : (n : ℕ) (f : ℕ → ℕ) → ((k : ℕ) → f k < 256) → (j : ℕ) → j < 8 * n → bit (littleEndian n f) j ≡ bit (f (j / 8)) (j % 8)
@@ -198,3 +188,29 @@ trailing-within n k x l some = elim (decLt (trailingZeros n x) k) [
   | yes m ↦ m
   | no m ↦ absurd (some (same-bits k x 0 l (pow-pos k) (λ j i. trailing-clear n x j (omega arith) ∙ sym (bit-zero j))))
 ]
+
+-- ---- a number made of its bits
+
+pub bits-below : (n : ℕ) (s : ℕ → Bool) → bitsOf n s < 2 ^ n
+unfolding bitsOf
+bits-below zero s = omega arith
+bits-below (suc n) s =
+    let rest = bits-below n (λ r. s (suc r)) in
+    rw (pow-suc 2 n) (either (λ d. d + 2 * bitsOf n (λ r. s (suc r)) < 2 ^ n * 2) (s 1) 1 0 (omega arith) (omega arith))
+
+pub bits-bit : (n : ℕ) (s : ℕ → Bool) (j : ℕ) → j < n → bit (bitsOf n s) j ≡ s (suc j)
+unfolding bitsOf
+bits-bit zero s j l = absurd (omega arith)
+bits-bit (suc n) s zero l = bit-first (digit (s 1) + 2 * bitsOf n (λ r. s (suc r))) ∙ lowest (s 1) (bitsOf n (λ r. s (suc r)))
+  where
+    lowest : (b : Bool) (x : ℕ) → eqb ((digit b + 2 * x) % 2) 1 ≡ b
+    lowest true x = eq-eqb ((1 + 2 * x) % 2) 1 (omega arith)
+    lowest false x = ne-eqb ((0 + 2 * x) % 2) 1 (λ e. omega arith)
+bits-bit (suc n) s (suc j) l =
+    bit-next (digit (s 1) + 2 * bitsOf n (λ r. s (suc r))) j
+    ∙ ap (λ (x : ℕ). bit x j) (halved (s 1) (bitsOf n (λ r. s (suc r))))
+    ∙ bits-bit n (λ r. s (suc r)) j (omega arith)
+  where
+    halved : (b : Bool) (x : ℕ) → (digit b + 2 * x) / 2 ≡ x
+    halved true x = omega arith
+    halved false x = omega arith

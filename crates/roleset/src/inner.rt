@@ -8,6 +8,7 @@ ghost use lib.Dec.{leb};
 ghost use lib.ListN.{length};
 ghost use Rattle.search.specs.Search.{among, some, first, Among};
 ghost use Rattle.roleset.specs.Row.{member, nextMember, Placed, PlacedRows, added, removed, united, unitedWhere};
+ghost use Rattle.roleset.specs.Set.{inSet, lowOf, highOf};
 ghost use Rattle.roleset.specs.inner.Halves.{bitAfter, halfAt};
 
 // The roles of half a row.
@@ -107,12 +108,28 @@ fn half(s: &[u8], at: usize) -> u64
     low + 4294967296 * high
 }
 
-pub fn meet(s: &[u8], a: usize, t: &[u8], b: usize) -> bool
-    requires { ⌜ (a + 16 ≤ length (now s)) × (b + 16 ≤ length (now t)) ⌝ }
-    ensures { λ met. ⌜ met ≡ some 128 (λ r. member (now (s .entry)) a r && member (now (t .entry)) b r) ⌝ }
+// The first half of the row at `at`: role r is bit r - 1.
+pub fn low_half(s: &[u8], at: usize) -> u64
+    requires { ⌜ at + 16 ≤ length (now s) ⌝ }
+    ensures { λ r. ⌜ r ≡ lowOf (member (now (s .entry)) at) ⌝ }
 {
-    let first = half(s, a) & half(t, b);
-    let second = half(s, a + HALF_BYTES) & half(t, b + HALF_BYTES);
+    half(s, at)
+}
+
+// The second half: role r is bit r - 65.
+pub fn high_half(s: &[u8], at: usize) -> u64
+    requires { ⌜ at + 16 ≤ length (now s) ⌝ }
+    ensures { λ r. ⌜ r ≡ highOf (member (now (s .entry)) at) ⌝ }
+{
+    half(s, at + HALF_BYTES)
+}
+
+pub fn meet_set(s: &[u8], at: usize, low: u64, high: u64) -> bool
+    requires { ⌜ at + 16 ≤ length (now s) ⌝ }
+    ensures { λ met. ⌜ met ≡ some 128 (λ r. member (now (s .entry)) at r && inSet low high r) ⌝ }
+{
+    let first = low_half(s, at) & low;
+    let second = high_half(s, at) & high;
     (first | second) != 0
 }
 
@@ -144,11 +161,11 @@ pub fn next(s: &[u8], at: usize, after: usize) -> usize
     requires { ⌜ at + 16 ≤ length (now s) ⌝ }
     ensures { λ r. ⌜ r ≡ nextMember (now (s .entry)) at after ⌝ }
 {
-    let low = lowest_above(half(s, at), after);
+    let low = lowest_above(low_half(s, at), after);
     if low != 0 {
         return low;
     }
-    let high = lowest_above(half(s, at + HALF_BYTES), past_half(after));
+    let high = lowest_above(high_half(s, at), past_half(after));
     if high == 0 {
         return 0;
     }

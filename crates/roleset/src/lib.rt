@@ -9,6 +9,7 @@ ghost use mathlib.Core.Bool.{_&&_, cond};
 ghost use Prim.Native.Nat.{_+_, _*_};
 ghost use lib.Dec.{leb};
 ghost use Rattle.search.specs.Search.{some};
+ghost use Rattle.roleset.specs.Set.{inSet, lowOf, highOf};
 ghost use Rattle.roleset.specs.Row.{whole, member, common, nextMember, RowCopy, Placed, PlacedRows, added, addedWhere, removed, united, unitedWhere, joined};
 
 // How many roles a set has room for.
@@ -122,25 +123,42 @@ pub fn join(s: &mut [u8], into: usize, from: usize)
     unite(s, into, other);
 }
 
-// Whether the rows at `a` and at `b` have a role in common.
-pub fn meet(s: &[u8], a: usize, b: usize) -> bool
-    ensures { λ r. ⌜ r ≡ common (now (s .entry)) a b ⌝ }
+// The roles 1 to 64 of the row at `at` as a number: role r is bit r - 1.
+pub fn low(s: &[u8], at: usize) -> u64
+    ensures { λ r. ⌜ r ≡ cond (whole (now (s .entry)) at) (lowOf (member (now (s .entry)) at)) 0 ⌝ }
 {
-    if !inner::lies(s.len(), a) {
-        return false;
+    if !inner::lies(s.len(), at) {
+        return 0;
     }
-    if !inner::lies(s.len(), b) {
-        return false;
-    }
-    inner::meet(s, a, s, b)
+    inner::low_half(s, at)
 }
 
-// Whether the row at `at` has a role in common with a row that was taken by value.
-pub fn meet_row(s: &[u8], at: usize, other: [u8; ROW_BYTES]) -> bool
-    ensures { λ r. ⌜ r ≡ (whole (now (s .entry)) at && some 128 (λ q. member (now (s .entry)) at q && member other 0 q)) ⌝ }
+// The roles 65 to 128: role r is bit r - 65.
+pub fn high(s: &[u8], at: usize) -> u64
+    ensures { λ r. ⌜ r ≡ cond (whole (now (s .entry)) at) (highOf (member (now (s .entry)) at)) 0 ⌝ }
+{
+    if !inner::lies(s.len(), at) {
+        return 0;
+    }
+    inner::high_half(s, at)
+}
+
+// Whether the row at `at` has a role in common with a set that is told as two numbers.
+pub fn meet_set(s: &[u8], at: usize, low: u64, high: u64) -> bool
+    ensures { λ r. ⌜ r ≡ (whole (now (s .entry)) at && some 128 (λ q. member (now (s .entry)) at q && inSet low high q)) ⌝ }
 {
     if !inner::lies(s.len(), at) {
         return false;
     }
-    inner::meet(s, at, &other, 0)
+    inner::meet_set(s, at, low, high)
+}
+
+// Whether the rows at `a` and at `b` have a role in common.
+pub fn meet(s: &[u8], a: usize, b: usize) -> bool
+    ensures { λ r. ⌜ r ≡ common (now (s .entry)) a b ⌝ }
+{
+    if !inner::lies(s.len(), b) {
+        return false;
+    }
+    meet_set(s, a, inner::low_half(s, b), inner::high_half(s, b))
 }

@@ -1,54 +1,46 @@
 -- A half's bits are its members, so the first half is searched and, where it has none, the second.
-use Prim.Native.Nat.{ℕ, _+_, _-_, _≤_}
-use mathlib.Core.Path.{_≡_, sym, _∙_}
+use Prim.Native.Nat.{ℕ, suc, _+_, _-_, _≤_}
+use mathlib.Core.Path.{_≡_, sym, ap, _∙_}
 use mathlib.Core.List.{List}
+use mathlib.Core.Bool.{Bool}
 use native.Mathlib.Omega.{arith}
 use lib.Dec.{leb}
 use borrow.Author.Needs.{needs}
 use Rattle.search.specs.Search.{first, Among}
-use Rattle.search.proofs.Truth.{among-iff, leb-same}
+use Rattle.search.proofs.Truth.{leb-same}
 use Rattle.search.proofs.Found.{first-agree, first-sooner, first-never, first-later, first-within}
-use Rattle.roleset.specs.Row.{AllBytes, bit, roleByte, roleBit, member, memberAfter}
-use Rattle.roleset.specs.inner.Halves.{bitAfter, halfAt}
-use Rattle.roleset.proofs.Bits.{bit-byte}
+use Rattle.roleset.specs.Row.{bit, member, memberAfter}
+use Rattle.roleset.specs.Set.{bitsOf, lowOf, highOf}
+use Rattle.roleset.specs.inner.Halves.{bitAfter}
+use Rattle.roleset.proofs.Bits.{bits-bit}
 use Rattle.roleset.proofs.inner.next.Statement.{statement}
 use Rattle.roleset.proofs.inner.next.Tie as tie
 
-module _ (xs : List ℕ) (at after : ℕ) (bytes : AllBytes xs) where
-  low-bit : (b : ℕ) → Among 64 b → bit (halfAt xs at) (b - 1) ≡ member xs at b
-  unfolding member
-  low-bit b w = bit-byte 8 _ (λ k. bytes (at + k)) (b - 1) (omega arith) ∙ rw (among-iff 128 b .1 (omega arith))
+role-bit : (s : ℕ → Bool) (b : ℕ) → Among 64 b → bit (bitsOf 64 s) (b - 1) ≡ s b
+role-bit s b w = let place : suc (b - 1) ≡ b = omega arith in bits-bit 64 s (b - 1) (omega arith) ∙ ap s place
 
-  high-bit : (b : ℕ) → Among 64 b → bit (halfAt xs (at + 8)) (b - 1) ≡ member xs at (64 + b)
-  unfolding member
-  high-bit b w =
-      let byte : at + roleByte (64 + b) ≡ at + 8 + roleByte b = omega arith in
-      let place : roleBit (64 + b) ≡ roleBit b = omega arith in
-      bit-byte 8 _ (λ k. bytes (at + 8 + k)) (b - 1) (omega arith) ∙ rw (among-iff 128 (64 + b) .1 (omega arith), byte, place)
-
-  low-half : first 64 (bitAfter (halfAt xs at) after) ≡ first 64 (memberAfter xs at after)
-  low-half = first-agree _ _ 64 (λ b w. rw (low-bit b w))
+module _ (xs : List ℕ) (at after : ℕ) where
+  low-first : first 64 (bitAfter (lowOf (member xs at)) after) ≡ first 64 (memberAfter xs at after)
+  low-first = first-agree _ _ 64 (λ b w. rw (role-bit (member xs at) b w))
 
   passed : (b : ℕ) → Among 64 b → leb b (after - 64) ≡ leb (64 + b) after
   passed b w = leb-same b (after - 64) (64 + b) after (λ l. omega arith) (λ l. omega arith)
 
-  high-half : first 64 (bitAfter (halfAt xs (at + 8)) (after - 64)) ≡ first 64 (λ b. memberAfter xs at after (64 + b))
-  high-half = first-agree _ _ 64 (λ b w. rw (passed b w, high-bit b w))
+  high-first : first 64 (bitAfter (highOf (member xs at)) (after - 64)) ≡ first 64 (λ b. memberAfter xs at after (64 + b))
+  high-first = first-agree _ _ 64 (λ b w. rw (passed b w, role-bit (λ r. member xs at (64 + r)) b w))
 
 low : (c : tie.After-lowest-above) → let a = c .before .before .before .args in c .lowest-above .result ≡ first 64 (memberAfter (a .s .now) (a .at) (a .after))
 low c =
     let a = c .before .before .before .args in
-    rw (c .before .half .ensures) at (c .lowest-above .ensures)
-    ∙ low-half (a .s .now) (a .at) (a .after) (λ i. c .before .before .shared-slice-known .given i .fits)
+    rw (c .before .low-half .ensures) at (c .lowest-above .ensures) ∙ low-first (a .s .now) (a .at) (a .after)
 
 high : (c : tie.After-lowest-above2)
     → let a = c .before .before .before .before .before .before .before .args in
     c .lowest-above2 .result ≡ first 64 (λ b. memberAfter (a .s .now) (a .at) (a .after) (64 + b))
 high c =
-    let known = c .before .before .before .before .before .before in
-    let a = known .before .args in
-    rw (c .before .before .half2 .ensures, c .before .past-half .ensures) at (c .lowest-above2 .ensures)
-    ∙ high-half (a .s .now) (a .at) (a .after) (λ i. known .shared-slice-known .given i .fits)
+    let a = c .before .before .before .before .before .before .before .args in
+    rw (c .before .before .high-half .ensures, c .before .past-half .ensures) at (c .lowest-above2 .ensures)
+    ∙ high-first (a .s .now) (a .at) (a .after)
 
 returns : tie.Need-returns
 returns c = low (c .before) ∙ first-sooner _ 64 128 (omega arith) (λ e. c .if1 .taken (low (c .before) ∙ e))
@@ -75,7 +67,6 @@ next-spec =
     (λ c κs. search needs)
     (λ c κs. search needs)
     returns
-    (λ c. search needs)
     (λ c κs. search needs)
     (λ c κs. search needs)
     (λ c κs. search needs)

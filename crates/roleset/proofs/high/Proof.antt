@@ -1,0 +1,18 @@
+-- A row that does not lie in the slice has no roles.
+use borrow.Author.Needs.{needs}
+use borrow.Author.Tests.{leb-true}
+use Rattle.search.proofs.Truth.{passed, failed}
+use Rattle.roleset.proofs.high.Statement.{statement}
+use Rattle.roleset.proofs.high.Tie as tie
+
+returns : tie.Need-returns
+returns c = rw (failed (c .before .lies .ensures) (c .if1 .taken))
+
+high-half-requires : tie.Need-high-half-requires
+high-half-requires c κs = leb-true _ _ (passed (c .before .lies .ensures) (c .if1 .left))
+
+returns-2 : tie.Need-returns-2
+returns-2 c = rw (passed (c .before .before .lies .ensures) (c .before .if1 .left)) (c .high-half .ensures)
+
+pub high-spec : {M : Type 1} → statement M
+high-spec = tie.close (tie.spec (λ c κs. search needs) returns high-half-requires returns-2)
