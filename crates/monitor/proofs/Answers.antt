@@ -3,7 +3,7 @@ use Prim.Native.Nat.{ℕ, zero, suc, _+_, _*_, _≤_, _<_}
 use mathlib.Core.Path.{_≡_, refl, sym, _∙_}
 use mathlib.Core.Logic.{_↔_}
 use mathlib.Core.List.{List}
-use mathlib.Core.Bool.{Bool, true, false, not, cond}
+use mathlib.Core.Bool.{Bool, true, false, not, _&&_, cond}
 use native.Mathlib.Omega.{arith}
 use borrow.Author.Tests.{leb-true}
 use lib.Dec.{eqb}
@@ -38,6 +38,16 @@ module _ (t : Bool) (n rest : ℕ) {r : Bool} (e : r ≡ t) where
   passes-not h k = rw (← e, h) k
 
 pub ruleset row = (stops, passes, stops-not, passes-not)
+
+-- the same of tests that are answered together: the one that fails, and one before it
+module _ (t rest : Bool) {r : Bool} (e : r ≡ t) where
+  pub fails : not r ≡ true → false ≡ (t && rest)
+  fails h = rw (failed e h)
+
+  pub holds : {x : Bool} → not r ≡ false → x ≡ rest → x ≡ (t && rest)
+  holds h k = rw (passed e h) k
+
+pub ruleset tests = (fails, holds)
 
 -- done, each test has passed
 pub unless-done : (t : Bool) (n rest : ℕ) → 0 < n → unless t n rest ≡ 0 → (t ≡ true) × (rest ≡ 0)

@@ -21,7 +21,7 @@ use Rattle.policy.proofs.Meaning.{role-few, flow-by, circle-by}
 use Rattle.policy.proofs.Loads.{load-iff}
 use Rattle.monitor.specs.Session.{sound}
 use Rattle.monitor.specs.Calls.{unless, ifDone, written, partAt, opened, closed, taken, dropped, writeNumber}
-use Rattle.monitor.specs.Calls.{flowsNumber, circleNumber, Flows, Circles}
+use Rattle.monitor.specs.Calls.{flowsNumber, stateNumber, Flows, Circles}
 use Rattle.monitor.specs.Runs.{Call, opens, closes, takes, drops, reads, writes, Memory, Start, loaded, number, stateAfter, storeOf, storeAfter, after, run, left}
 use Rattle.monitor.specs.Places.{put}
 use Rattle.monitor.specs.Rules.{Session, Sessions, sessionRule, atSessionBy, openRule, closeRule, takeRule, dropRule, partRule, rule, sessionOf, holding, without, Standing, stand, begun, sessionsAfter, next, standing}
@@ -216,8 +216,8 @@ module _ {f : List ℕ} (accepted : Accepted f) (a : Start f) where
         )
 
     pub circle-answers : (n figure : ℕ) → Circles (left a store cs .state) n figure → (n ≡ 0) × (figure ≡ flowCircle (settings f))
-    unfolding circleNumber ifDone
+    unfolding stateNumber ifDone
     circle-answers n figure h =
         let w = left-stands in
-        let e : circleNumber (left a store cs .state) ≡ 0 = test-passed 21 left-sound in
+        let e : stateNumber (left a store cs .state) ≡ 0 = test-passed 21 left-sound in
         (h .number ∙ e, h .answer ∙ rw e (circle-by (settings f) (file-bounded f (accepted .form)) (left a store cs .state) (w .tables) (w .long)))

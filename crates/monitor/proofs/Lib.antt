@@ -1,5 +1,5 @@
 pub mod Answers
-pub mod Known
+pub mod Told
 pub mod Filled
 pub mod Holding
 pub mod Frames
@@ -13,5 +13,4 @@ pub mod History
 pub mod Grants
 pub mod Cases
 pub mod Able
-pub mod Reviewed
 pub mod Same

@@ -161,7 +161,13 @@ pub record Writes (xs old : List ℕ) (p o k : ℕ) (bytes : List ℕ) (n : ℕ)
   pub number : n ≡ writeNumber xs old p o k bytes
   pub store : new ≡ writeStore xs old p o k bytes
 
--- ---- the flow report: "whether the first flows to the second (never to itself), and gives the lowest role on a circle of two or more roles, or 0"
+-- ---- reports: a number and a figure, which is 0 on a refusal
+
+pub record Figured (refusal value n figure : ℕ) : Type 0 where
+  pub number : n ≡ refusal
+  pub answer : figure ≡ ifDone refusal value 0
+
+-- the flow report: "whether the first flows to the second (never to itself), and gives the lowest role on a circle of two or more roles, or 0"
 
 unfoldable pub flowsNumber : List ℕ → ℕ → ℕ → ℕ
 flowsNumber xs r q =
@@ -170,14 +176,12 @@ flowsNumber xs r q =
     (unless (among (rolesIn xs) q) 25
     0))
 
-unfoldable pub circleNumber : List ℕ → ℕ
-circleNumber xs = unless (sound xs) 21 0
+-- 21 alone, where nothing is asked but the state
+unfoldable pub stateNumber : List ℕ → ℕ
+stateNumber xs = unless (sound xs) 21 0
 
--- the figure is 0 on a refusal
-pub record Flows (xs : List ℕ) (r q n figure : ℕ) : Type 0 where
-  pub number : n ≡ flowsNumber xs r q
-  pub answer : figure ≡ ifDone (flowsNumber xs r q) (cond (flowsIn xs r q) 1 0) 0
+abbrev pub Flows : List ℕ → ℕ → ℕ → ℕ → ℕ → Type 0
+Flows xs r q = Figured (flowsNumber xs r q) (cond (flowsIn xs r q) 1 0)
 
-pub record Circles (xs : List ℕ) (n figure : ℕ) : Type 0 where
-  pub number : n ≡ circleNumber xs
-  pub answer : figure ≡ ifDone (circleNumber xs) (circleIn xs) 0
+abbrev pub Circles : List ℕ → ℕ → ℕ → Type 0
+Circles xs = Figured (stateNumber xs) (circleIn xs)

@@ -1,73 +1,90 @@
--- What a state says of its users, labels, roles and cards: review functions, as the field calls them. Of a state that 21 refuses, and of a number out of its range, nothing
--- holds. `review-can` under proofs/ ties them to `monitor_can`. Assumes nothing.
+-- What a state says of its users, labels, roles, cards and places: the review calls, as the field calls them, by the state's bytes. They are the server's and not a session's. They change
+-- nothing and look at the policy alone, `monitor_session_at` at its place too. `Reviewed` under proofs/ says each by the settings, on every state that a load and calls left. Assumes nothing.
 use Prim.Native.Nat.{ℕ}
+use mathlib.Core.Path.{_≡_}
 use mathlib.Core.List.{List}
 use mathlib.Core.Bool.{Bool, _&&_, cond}
+use lib.Dec.{eqb}
 use Rattle.search.specs.Search.{among, some}
 use Rattle.roleset.specs.Row.{member, rowOf}
-use Rattle.policy.specs.Tables.{labelCountAt, roleCountAt, userCountAt, cardCountAt, word, byteOf, marked, clearancesAt, seniorsAt, assignedAt, tableOf}
-use Rattle.monitor.specs.Session.{sound, cleared, entitled, fitting}
+use Rattle.roleset.specs.Set.{inSet, lowOf, highOf}
+use Rattle.policy.specs.Tables.{byteOf, marked, clearancesAt, cardLabelsAt, rLevelsAt, wLevelsAt, seniorsAt, assignedAt, tableOf}
+use Rattle.monitor.specs.Session.{sound, labelsIn, rolesIn, usersIn, cardsIn, userAt, labelAt, heldAt, cleared, entitled, fitting}
+use Rattle.monitor.specs.Calls.{unless, ifDone, stateNumber, closeNumber, Figured}
 
--- how many things the count at `at` tells of
-abbrev pub knownCount : List ℕ → ℕ → ℕ
-knownCount xs at = cond (sound xs) (word xs at) 0
+-- 21, then 25 where a user, label, role, card or mode that was handed in is out of its range
+unfoldable pub reviewNumber : List ℕ → Bool → ℕ
+reviewNumber xs inRange = unless (sound xs) 21 (unless inRange 25 0)
 
-abbrev pub knownLabels : List ℕ → ℕ
-knownLabels xs = knownCount xs labelCountAt
+-- ---- what there is: on a refusal every number but the first is 0
 
-abbrev pub knownRoles : List ℕ → ℕ
-knownRoles xs = knownCount xs roleCountAt
+pub record CountsOf (xs : List ℕ) (n a b c d : ℕ) : Type 0 where
+  pub number : n ≡ stateNumber xs
+  pub labels : a ≡ ifDone (stateNumber xs) (labelsIn xs) 0
+  pub roles : b ≡ ifDone (stateNumber xs) (rolesIn xs) 0
+  pub users : c ≡ ifDone (stateNumber xs) (usersIn xs) 0
+  pub cards : d ≡ ifDone (stateNumber xs) (cardsIn xs) 0
 
-abbrev pub knownUsers : List ℕ → ℕ
-knownUsers xs = knownCount xs userCountAt
+-- the session at a place: 21, 22, 24 as a closing; the roles that it holds as two numbers
+pub record SessionOf (xs : List ℕ) (p n u l a b : ℕ) : Type 0 where
+  pub number : n ≡ closeNumber xs p
+  pub user : u ≡ ifDone (closeNumber xs p) (userAt xs p) 0
+  pub label : l ≡ ifDone (closeNumber xs p) (labelAt xs p) 0
+  pub low : a ≡ ifDone (closeNumber xs p) (lowOf (member xs (heldAt p))) 0
+  pub high : b ≡ ifDone (closeNumber xs p) (highOf (member xs (heldAt p))) 0
 
-abbrev pub knownCards : List ℕ → ℕ
-knownCards xs = knownCount xs cardCountAt
+-- ---- one figure: a label, a level, or 1 for yes and 0 for no
 
--- x is one of them
-abbrev pub known : List ℕ → ℕ → ℕ → Bool
-known xs at x = among (knownCount xs at) x
+abbrev pub ClearanceOf : List ℕ → ℕ → ℕ → ℕ → Type 0
+ClearanceOf xs u = Figured (reviewNumber xs (among (usersIn xs) u)) (byteOf xs clearancesAt u)
 
-abbrev pub isLabel : List ℕ → ℕ → Bool
-isLabel xs l = known xs labelCountAt l
+abbrev pub CardLabelOf : List ℕ → ℕ → ℕ → ℕ → Type 0
+CardLabelOf xs o = Figured (reviewNumber xs (among (cardsIn xs) o)) (byteOf xs cardLabelsAt o)
 
-abbrev pub isRole : List ℕ → ℕ → Bool
-isRole xs r = known xs roleCountAt r
+-- where the r-levels (m = 1) or the w-levels (m = 2) stand
+abbrev pub levelsOf : ℕ → ℕ
+levelsOf m = cond (eqb m 1) rLevelsAt wLevelsAt
 
-abbrev pub isUser : List ℕ → ℕ → Bool
-isUser xs u = known xs userCountAt u
-
-abbrev pub isCard : List ℕ → ℕ → Bool
-isCard xs o = known xs cardCountAt o
-
--- the user's clearance, or 0
-unfoldable pub clearanceOf : List ℕ → ℕ → ℕ
-clearanceOf xs u = cond (isUser xs u) (byteOf xs clearancesAt u) 0
+-- a label, 0 free, 99 undefined
+abbrev pub LevelOf : List ℕ → ℕ → ℕ → ℕ → ℕ → Type 0
+LevelOf xs r m = Figured (reviewNumber xs (among (rolesIn xs) r && among 2 m)) (byteOf xs (levelsOf m) r)
 
 -- label a dominates label b
-unfoldable pub dominatesIn : List ℕ → ℕ → ℕ → Bool
-dominatesIn xs a b = isLabel xs a && (isLabel xs b && marked xs a b)
+abbrev pub Dominates : List ℕ → ℕ → ℕ → ℕ → ℕ → Type 0
+Dominates xs a b = Figured (reviewNumber xs (among (labelsIn xs) a && among (labelsIn xs) b)) (cond (marked xs a b) 1 0)
 
--- role q is a senior of role r, or the same
-unfoldable pub seniorTo : List ℕ → ℕ → ℕ → Bool
-seniorTo xs q r = isRole xs q && (isRole xs r && member xs (rowOf seniorsAt r) q)
+-- role r is a senior of role q, or the same
+abbrev pub SeniorTo : List ℕ → ℕ → ℕ → ℕ → ℕ → Type 0
+SeniorTo xs r q = Figured (reviewNumber xs (among (rolesIn xs) r && among (rolesIn xs) q)) (cond (member xs (rowOf seniorsAt q) r) 1 0)
 
 -- the user is assigned to the role itself
-unfoldable pub assignedTo : List ℕ → ℕ → ℕ → Bool
-assignedTo xs u r = isUser xs u && (isRole xs r && member xs (rowOf assignedAt u) r)
+abbrev pub AssignedTo : List ℕ → ℕ → ℕ → ℕ → ℕ → Type 0
+AssignedTo xs u r = Figured (reviewNumber xs (among (usersIn xs) u && among (rolesIn xs) r)) (cond (member xs (rowOf assignedAt u) r) 1 0)
 
--- the user is assigned to the role or to a senior of it
-unfoldable pub entitledTo : List ℕ → ℕ → ℕ → Bool
-entitledTo xs u r = isUser xs u && (isRole xs r && entitled xs u r)
+-- ---- what a user may take at a label, and what a set of roles gives
 
--- the user may open a session at the label
-unfoldable pub mayOpen : List ℕ → ℕ → ℕ → Bool
-mayOpen xs u l = isUser xs u && (isLabel xs l && cleared xs u l)
+unfoldable pub takableNumber : List ℕ → ℕ → ℕ → ℕ
+takableNumber xs u l =
+    unless (sound xs) 21
+    (unless (among (usersIn xs) u) 25
+    (unless (among (labelsIn xs) l) 25
+    (unless (cleared xs u l) 26
+    0)))
 
--- and take the role in it
-unfoldable pub mayTake : List ℕ → ℕ → ℕ → ℕ → Bool
-mayTake xs u l r = mayOpen xs u l && (entitledTo xs u r && fitting xs l r)
+-- a session of the user at the label may take the role
+unfoldable pub takableIn : List ℕ → ℕ → ℕ → ℕ → Bool
+takableIn xs u l r = among (rolesIn xs) r && (entitled xs u r && fitting xs l r)
 
--- one of the roles, of which 128 are looked at whatever the state counts, gives the read (m = 1) or the write (m = 2) of the card
-unfoldable pub giveCard : List ℕ → ℕ → ℕ → (ℕ → Bool) → Bool
-giveCard xs m o held = isCard xs o && (among 2 m && some 128 (λ r. member xs (rowOf (tableOf m) o) r && held r))
+pub record TakableOf (xs : List ℕ) (u l n a b : ℕ) : Type 0 where
+  pub number : n ≡ takableNumber xs u l
+  pub low : a ≡ ifDone (takableNumber xs u l) (lowOf (takableIn xs u l)) 0
+  pub high : b ≡ ifDone (takableNumber xs u l) (highOf (takableIn xs u l)) 0
+
+-- a role of the set gives the read (m = 1) or the write (m = 2) of the card
+unfoldable pub givesIn : List ℕ → ℕ → ℕ → ℕ → ℕ → Bool
+givesIn xs low high o m = some 128 (λ r. member xs (rowOf (tableOf m) o) r && inSet low high r)
+
+-- to a session at the label, which today makes no difference
+abbrev pub GivesOf : List ℕ → ℕ → ℕ → ℕ → ℕ → ℕ → ℕ → ℕ → Type 0
+GivesOf xs low high l o m =
+    Figured (reviewNumber xs (among (labelsIn xs) l && (among (cardsIn xs) o && among 2 m))) (cond (givesIn xs low high o m) 1 0)

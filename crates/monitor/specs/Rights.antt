@@ -12,7 +12,7 @@ use Rattle.policy.specs.Settings.{Settings}
 use Rattle.policy.specs.Policy.{may}
 use Rattle.policy.specs.Tables.{tableOf}
 use Rattle.monitor.specs.Session.{sound, labelsIn, rolesIn, usersIn, cardsIn, cleared, entitled, fitting}
-use Rattle.monitor.specs.Calls.{unless, ifDone}
+use Rattle.monitor.specs.Calls.{unless, Figured}
 use Rattle.monitor.specs.Runs.{Call, opens, takes, reads, writes, Memory, number, after}
 use Rattle.monitor.specs.Rules.{entitledBy, fittingBy}
 
@@ -36,10 +36,9 @@ roleCould xs u l o at r = entitled xs u r && (fitting xs l r && member xs (rowOf
 unfoldable pub could : List ℕ → ℕ → ℕ → ℕ → ℕ → Bool
 could xs u l o at = some (rolesIn xs) (roleCould xs u l o at)
 
--- the answer of `monitor_can`: its number, and the figure 1 where the user could, else 0; 0 on a refusal
-pub record Cans (xs : List ℕ) (u l o m n figure : ℕ) : Type 0 where
-  pub number : n ≡ canNumber xs u l o m
-  pub answer : figure ≡ ifDone (canNumber xs u l o m) (cond (could xs u l o (tableOf m)) 1 0) 0
+-- the answer of `monitor_can`: its number, and the figure 1 where the user could, else 0
+abbrev pub Cans : List ℕ → ℕ → ℕ → ℕ → ℕ → ℕ → ℕ → Type 0
+Cans xs u l o m = Figured (canNumber xs u l o m) (cond (could xs u l o (tableOf m)) 1 0)
 
 -- ---- by the settings
 

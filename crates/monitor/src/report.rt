@@ -4,7 +4,7 @@ use policy::layout;
 ghost use mathlib.Core.Path.{_≡_};
 ghost use mathlib.Core.Bool.{cond};
 ghost use Rattle.policy.specs.Tables.{flowsIn, circleIn};
-ghost use Rattle.monitor.specs.Calls.{ifDone, flowsNumber, circleNumber};
+ghost use Rattle.monitor.specs.Calls.{ifDone, flowsNumber, stateNumber};
 
 pub fn flows_number(s: &[u8], from: u64, to: u64) -> u64
     ensures { λ r. ⌜ r ≡ flowsNumber (now (s .entry)) from to ⌝ }
@@ -34,8 +34,9 @@ pub fn flows_figure(s: &[u8], from: u64, to: u64, number: u64) -> u64
     0
 }
 
-pub fn circle_number(s: &[u8]) -> u64
-    ensures { λ r. ⌜ r ≡ circleNumber (now (s .entry)) ⌝ }
+// 21 alone, where nothing is asked but the state.
+pub fn state_number(s: &[u8]) -> u64
+    ensures { λ r. ⌜ r ≡ stateNumber (now (s .entry)) ⌝ }
 {
     if !state::sound(s) {
         return 21;
@@ -44,8 +45,8 @@ pub fn circle_number(s: &[u8]) -> u64
 }
 
 pub fn circle_figure(s: &[u8], number: u64) -> u64
-    requires { ⌜ number ≡ circleNumber (now s) ⌝ }
-    ensures { λ r. ⌜ r ≡ ifDone (circleNumber (now (s .entry))) (circleIn (now (s .entry))) 0 ⌝ }
+    requires { ⌜ number ≡ stateNumber (now s) ⌝ }
+    ensures { λ r. ⌜ r ≡ ifDone (stateNumber (now (s .entry))) (circleIn (now (s .entry))) 0 ⌝ }
 {
     if number != 0 {
         return 0;

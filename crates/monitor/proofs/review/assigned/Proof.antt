@@ -1,30 +1,42 @@
--- The tests one after the other.
+-- What the table says, where the number is 0.
+use mathlib.Core.Path.{_≡_, _∙_}
+use mathlib.Core.Bool.{_&&_}
 use native.Mathlib.Omega.{arith}
 use borrow.Author.Needs.{needs}
-use Rattle.search.proofs.Truth.{passed}
-use Rattle.search.proofs.Found.{wider}
-use Rattle.monitor.specs.Review.{assignedTo}
-use Rattle.monitor.proofs.Known.{tests, long, user}
+use Rattle.search.specs.Search.{among}
+use Rattle.search.proofs.Truth.{and-iff}
+use Rattle.monitor.specs.Session.{rolesIn, usersIn}
+use Rattle.monitor.specs.Review.{reviewNumber}
+use Rattle.monitor.proofs.Told.{refused, told, asked, done, known-user}
 use Rattle.monitor.proofs.review.assigned.Statement.{statement}
 use Rattle.monitor.proofs.review.assigned.Tie as tie
 
-returns : tie.Need-returns
-unfolding assignedTo
-returns c = search tests depth 4
+known : (c : tie.After-review-number) → let a = c .before .before .before .before .args in c .review-number .result ≡ reviewNumber (a .s .now) (among (usersIn (a .s .now)) (a .user) && among (rolesIn (a .s .now)) (a .role))
+known c = asked _ (c .review-number .ensures) (rw (c .before .before .within-count .ensures, c .before .within-count2 .ensures))
 
-returns-2 : tie.Need-returns-2
-unfolding assignedTo
-returns-2 c = search tests depth 4
+returns : tie.Need-returns
+returns c = refused (known (c .before)) (c .if1 .taken)
 
 in-row-requires : tie.Need-in-row-requires
 in-row-requires c κs =
-    let one = c .before .before in
-    let u = passed (one .before .known .ensures) (one .if1 .left) in
-    (long _ 4 (one .before .before .before .args .user) u, omega arith, wider 256 512 (omega arith) (user _ _ u))
+    let a = c .before .before .before .before .before .args in
+    let (sound, both) = done _ (known (c .before)) (c .if1 .left) in
+    let within = known-user (a .s .now) sound (a .user) (and-iff _ _ .0 both .0) in
+    (sound .long, omega arith, omega arith)
 
-returns-3 : tie.Need-returns-3
-unfolding assignedTo
-returns-3 c = search tests depth 4
+returns-2 : tie.Need-returns-2
+returns-2 c =
+    let asks = c .before .before .before in
+    told (known asks) (c .before .before .if1 .left) (c .figure-of .ensures ∙ rw (c .before .in-row .ensures))
 
 pub assigned-spec : {M : Type 1} → statement M
-assigned-spec = tie.close (tie.spec (λ c κs. search needs) returns (λ c κs. search needs) returns-2 in-row-requires returns-3)
+assigned-spec =
+    tie.close
+    (tie.spec
+    (λ c κs. search needs)
+    (λ c κs. search needs)
+    (λ c κs. search needs)
+    returns
+    in-row-requires
+    (λ c κs. search needs)
+    returns-2)

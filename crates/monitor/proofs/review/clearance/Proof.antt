@@ -1,22 +1,24 @@
--- None of a user that the state does not know.
+-- What the table says, where the number is 0.
 use native.Mathlib.Omega.{arith}
 use borrow.Author.Needs.{needs}
-use Rattle.search.proofs.Truth.{passed, failed}
-use Rattle.monitor.specs.Review.{clearanceOf}
-use Rattle.monitor.proofs.Known.{user}
+use Rattle.monitor.proofs.Told.{refused, told, asked, done, known-user}
 use Rattle.monitor.proofs.review.clearance.Statement.{statement}
 use Rattle.monitor.proofs.review.clearance.Tie as tie
 
 returns : tie.Need-returns
-unfolding clearanceOf
-returns c = (rw (failed (c .before .known .ensures) (c .if1 .taken)), omega arith)
+returns c = refused (asked _ (c .before .review-number .ensures) (c .before .before .within-count .ensures)) (c .if1 .taken)
 
 byte-of-requires : tie.Need-byte-of-requires
-byte-of-requires c κs = let u = user _ (c .before .before .before .args .user) (passed (c .before .known .ensures) (c .if1 .left)) in (omega arith, omega arith, u .0)
+byte-of-requires c κs =
+    let asks = c .before in
+    let (sound, known) = done _ (asked _ (asks .review-number .ensures) (asks .before .within-count .ensures)) (c .if1 .left) in
+    let within = known-user (asks .before .before .before .args .s .now) sound (asks .before .before .before .args .user) known in
+    (omega arith, omega arith, omega arith)
 
 returns-2 : tie.Need-returns-2
-unfolding clearanceOf
-returns-2 c = (rw (passed (c .before .before .known .ensures) (c .before .if1 .left)) (c .byte-of .ensures .0), c .byte-of .ensures .1)
+returns-2 c =
+    let asks = c .before .before in
+    told (asked _ (asks .review-number .ensures) (asks .before .within-count .ensures)) (c .before .if1 .left) (c .byte-of .ensures .0)
 
 pub clearance-spec : {M : Type 1} → statement M
-clearance-spec = tie.close (tie.spec (λ c κs. search needs) returns byte-of-requires returns-2)
+clearance-spec = tie.close (tie.spec (λ c κs. search needs) (λ c κs. search needs) returns byte-of-requires returns-2)

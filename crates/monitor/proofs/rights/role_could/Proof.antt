@@ -1,7 +1,7 @@
 -- The tests one after the other.
 use borrow.Author.Needs.{needs}
 use Rattle.monitor.specs.Rights.{roleCould}
-use Rattle.monitor.proofs.Known.{tests}
+use Rattle.monitor.proofs.Answers.{tests}
 use Rattle.monitor.proofs.rights.role_could.Statement.{statement}
 use Rattle.monitor.proofs.rights.role_could.Tie as tie
 

@@ -1,4 +1,0 @@
-pub mod Few
-pub mod Union
-pub mod Refusing
-pub mod Whole

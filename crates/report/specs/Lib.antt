@@ -1,3 +1,0 @@
-pub mod Lists
-pub mod Rights
-pub mod Refusal
