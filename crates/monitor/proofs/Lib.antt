@@ -13,4 +13,5 @@ pub mod History
 pub mod Grants
 pub mod Cases
 pub mod Able
+pub mod Reviewed
 pub mod Same

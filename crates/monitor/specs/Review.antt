@@ -4,13 +4,19 @@ use Prim.Native.Nat.{ℕ}
 use mathlib.Core.Path.{_≡_}
 use mathlib.Core.List.{List}
 use mathlib.Core.Bool.{Bool, _&&_, cond}
+use mathlib.Core.Option.{Option, none, some}
 use lib.Dec.{eqb}
-use Rattle.search.specs.Search.{among, some}
+use Rattle.search.specs.Search as search
+use Rattle.search.specs.Search.{among}
 use Rattle.roleset.specs.Row.{member, rowOf}
 use Rattle.roleset.specs.Set.{inSet, lowOf, highOf}
+use Rattle.order.specs.Closure.{Relation}
+use Rattle.policy.specs.Settings.{Settings}
+use Rattle.policy.specs.Policy.{may}
 use Rattle.policy.specs.Tables.{byteOf, marked, clearancesAt, cardLabelsAt, rLevelsAt, wLevelsAt, seniorsAt, assignedAt, tableOf}
 use Rattle.monitor.specs.Session.{sound, labelsIn, rolesIn, usersIn, cardsIn, userAt, labelAt, heldAt, cleared, entitled, fitting}
 use Rattle.monitor.specs.Calls.{unless, ifDone, stateNumber, closeNumber, Figured}
+use Rattle.monitor.specs.Rules.{Session, entitledBy, fittingBy}
 
 -- 21, then 25 where a user, label, role, card or mode that was handed in is out of its range
 unfoldable pub reviewNumber : List ℕ → Bool → ℕ
@@ -82,9 +88,29 @@ pub record TakableOf (xs : List ℕ) (u l n a b : ℕ) : Type 0 where
 
 -- a role of the set gives the read (m = 1) or the write (m = 2) of the card
 unfoldable pub givesIn : List ℕ → ℕ → ℕ → ℕ → ℕ → Bool
-givesIn xs low high o m = some 128 (λ r. member xs (rowOf (tableOf m) o) r && inSet low high r)
+givesIn xs low high o m = search.some 128 (λ r. member xs (rowOf (tableOf m) o) r && inSet low high r)
 
 -- to a session at the label, which today makes no difference
 abbrev pub GivesOf : List ℕ → ℕ → ℕ → ℕ → ℕ → ℕ → ℕ → ℕ → Type 0
 GivesOf xs low high l o m =
     Figured (reviewNumber xs (among (labelsIn xs) l && (among (cardsIn xs) o && among 2 m))) (cond (givesIn xs low high o m) 1 0)
+
+-- ---- the same by the settings σ, the assignments α and the session at each place
+
+-- what is told of a session, or 0
+abbrev pub ofSession : Option Session → (Session → ℕ) → ℕ
+ofSession none told = 0
+ofSession (some s) told = told s
+
+unfoldable pub takableRule : Settings → ℕ → ℕ → ℕ
+takableRule σ u l =
+    unless (among (σ .users) u) 25
+    (unless (among (σ .labels) l) 25
+    (unless (σ .dominates (σ .clearance u) l) 26
+    0))
+
+unfoldable pub takableBy : Settings → Relation → ℕ → ℕ → ℕ → Bool
+takableBy σ α u l r = among (σ .roles) r && (entitledBy σ α u r && fittingBy σ l r)
+
+unfoldable pub setGivesBy : Settings → ℕ → ℕ → ℕ → ℕ → Bool
+setGivesBy σ low high o m = search.some (σ .roles) (λ r. inSet low high r && may σ m r o)

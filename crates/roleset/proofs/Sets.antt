@@ -3,19 +3,19 @@ use Prim.Native.Nat.{ℕ, suc, _+_, _-_, _/_, _%_, _^_, _<_}
 use mathlib.Core.Path.{_≡_, sym, ap, _∙_}
 use mathlib.Core.Logic.{_↔_}
 use mathlib.Core.List.{List}
-use mathlib.Core.Bool.{Bool, false, not, _&&_, Bool·not-not}
+use mathlib.Core.Bool.{Bool, false, not, _&&_, and-false, Bool·not-not}
 use native.Mathlib.Omega.{arith}
 use native.Mathlib.Decide.{decLe}
 use lib.Bits.{bitAnd, bitOr}
-use lib.Dec.{eqb}
+use lib.Dec.{eqb, leb}
 use borrow.Author.Tests.{eqb-true, eq-eqb, not-true, le-leb, lt-leb}
 use Rattle.search.specs.Search.{some, among, Among}
-use Rattle.search.proofs.Truth.{and-when, among-iff, same}
+use Rattle.search.proofs.Truth.{and-when, among-iff, same, either}
 use Rattle.search.proofs.Found.{None, some-none}
 use Rattle.roleset.specs.Row.{AllBytes, bit, roleByte, roleBit, member}
 use Rattle.roleset.specs.Set.{inSet, lowOf, highOf}
 use Rattle.roleset.specs.inner.Halves.{halfAt}
-use Rattle.roleset.proofs.Bits.{same-bits, bit-byte, bytes-below, bits-below, bits-bit, and-none, or-none}
+use Rattle.roleset.proofs.Bits.{bit-zero, same-bits, bit-byte, bytes-below, bits-below, bits-bit, and-none, or-none}
 
 -- ---- the roles of each number
 
@@ -47,6 +47,11 @@ in-set-of s r = and-when (among 128 r) (λ e. rw (among-iff 128 r .1 (among-iff 
     told = by-half (λ r. inSet (lowOf s) (highOf s) r ≡ s r)
         (λ j l. low-in (lowOf s) (highOf s) j l ∙ bits-bit 64 s j l)
         (λ j l. high-in (lowOf s) (highOf s) j l ∙ bits-bit 64 (λ r. s (64 + r)) j l)
+
+-- the set of 0 and 0 is empty
+pub in-no-set : (r : ℕ) → inSet 0 0 r ≡ false
+unfolding inSet
+in-no-set r = rw (bit-zero (r - 1), bit-zero (r - 65)) (either (λ b. (among 128 r && b) ≡ false) (leb r 64) false false (and-false (among 128 r)) (and-false (among 128 r)))
 
 -- ---- the halves of a row
 
