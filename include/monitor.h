@@ -71,6 +71,12 @@
 extern "C" {
 #endif
 
+/* The version of this header, of the archive beside it and of the programs. */
+#define MONITOR_VERSION_MAJOR 1
+#define MONITOR_VERSION_MINOR 0
+#define MONITOR_VERSION_PATCH 0
+#define MONITOR_VERSION "1.0.0"
+
 /* Sizes in bytes, and the most that there can be of each thing. */
 enum {
     MONITOR_STATE_BYTES = 65536,
@@ -185,6 +191,65 @@ struct monitor_figure monitor_circle(const uint8_t *state, size_t state_len);
 struct monitor_figure monitor_can(const uint8_t *state, size_t state_len,
                                   uint64_t user, uint64_t label, uint64_t card,
                                   uint64_t mode);
+
+/* A number in words, to stand after what was asked; never NULL. */
+static inline const char *monitor_words(uint64_t number)
+{
+    switch (number) {
+    case 0:
+        return "done";
+    case 1:
+        return "the length is 0, not a multiple of 22, or above 63,800";
+    case 2:
+        return "the line is malformed, its letter is unknown, or it is not where H must stand";
+    case 3:
+        return "a count is outside its limits";
+    case 4:
+        return "a user, role, card, label or mode number is out of its range";
+    case 5:
+        return "the line is out of order or repeated";
+    case 6:
+        return "the user or card has no label or more than one";
+    case 7:
+        return "the state is shorter than 65,536 bytes";
+    case 11:
+        return "labels dominate each other in a circle";
+    case 12:
+        return "the two labels have no least upper bound";
+    case 13:
+        return "roles are senior to each other in a circle";
+    case 14:
+        return "the assigned role has an undefined w-level";
+    case 15:
+        return "the clearance does not dominate the r-level";
+    case 16:
+        return "the w-level does not dominate the clearance";
+    case 21:
+        return "the state is too short or holds a number outside its limits";
+    case 22:
+        return "the place is not 1 to 64";
+    case 23:
+        return "the place is in use";
+    case 24:
+        return "there is no session at the place";
+    case 25:
+        return "a user, label, role, card or mode number is out of range";
+    case 26:
+        return "the clearance does not dominate the label asked";
+    case 27:
+        return "neither the role nor a senior of it is assigned to the user";
+    case 28:
+        return "a level of the role forbids it at this label";
+    case 29:
+        return "no role held gives this read or write";
+    case 30:
+        return "offset plus length is above 64";
+    case 31:
+        return "the store is shorter than 64 bytes for each card";
+    default:
+        return "this is none of the monitor's numbers";
+    }
+}
 
 #ifdef __cplusplus
 }
