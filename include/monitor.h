@@ -1,18 +1,42 @@
 /*
  * The monitor behind the memory server: it checks a role file, works out
- * levels and role flow, and decides session calls over a store of cards.
+ * levels and role flow, and decides session calls over a store of cards. The
+ * library is for x86-64 Linux.
  *
  * Buffers. The server lends every buffer as a pointer and a length, at any
  * alignment; NULL with length 0 is allowed everywhere. The buffers of one call
- * must not overlap. A call keeps nothing between calls outside the buffers it
- * is lent, and nobody else may write them meanwhile.
+ * must not overlap.
+ *   file   the role file, only read. Receive it in MONITOR_FILE_BYTES + 1
+ *          bytes and hand in the length received: so a file that is too long
+ *          is seen as such, and gets 1.
  *   state  65,536 bytes or more, of which the first 65,536 are used; all that a
- *          load and the sessions leave behind. It may be copied and moved.
+ *          load and the sessions leave behind. It may be copied and moved. It
+ *          belongs to the library that made it: load again after an upgrade.
  *   store  the cards: card o fills bytes 64 * (o - 1) to 64 * o - 1. It has
  *          64 * cards bytes or more, where cards is the fourth count of the
  *          file's line H; 32,768 bytes are enough for every file.
- * A buffer that several calls are lent as const may be lent to them at the
- * same time. A load needs some 80 KB of stack, any other call 4 KB.
+ *
+ * Isolation. No chain of sessions lets a label learn what it does not
+ * dominate, openings and closings apart: of these, refused ones too, every
+ * label may learn. This is proved, and rests on what the server does:
+ *   - From a load on, nothing but these calls changes state or store. Each
+ *     call gets what the last one left, and an older copy is not used again.
+ *   - A read is its number and its bytes on the same state and store: after 0
+ *     the part is handed on before any other call, and after any other answer
+ *     nothing is.
+ *   - A 0 is good for that moment alone. What was granted is asked again.
+ *   - A session is handed the answers to its own calls, and nothing that the
+ *     review calls tell of others.
+ * A load that is done closes all sessions. The store keeps its bytes, which
+ * now stand under the new file's labels: clear what these should not show.
+ *
+ * Threads. The library keeps nothing between calls outside the buffers, so
+ * calls on different buffers may run at one time. Calls that are lent a buffer
+ * as const may share it; a call that is lent it as non-const must be alone
+ * with it. The part that a read grants is handed on within the same turn.
+ *
+ * Stack. A load needs at most MONITOR_LOAD_STACK_BYTES, any other call
+ * MONITOR_CALL_STACK_BYTES. No call allocates memory, locks or waits.
  *
  * Numbers. Labels, roles, users, cards and the 64 places are numbered from 1;
  * a file has 1 to 32 labels and up to 128 roles, 256 users and 512 cards.
@@ -43,8 +67,8 @@
  *   16  w-level does not dominate the clearance [user, role]
  *
  * The translator, by a session call:
- *   24  no session at the place (close, take, drop, read, write)
- *   26  clearance does not dominate the label asked (open, can)
+ *   24  no session at the place (close, take, drop, read, write, session_at)
+ *   26  clearance does not dominate the label asked (open, takable, can)
  *   27  neither the role nor a senior of it is assigned to the user (take)
  *   28  a level of the role forbids it at this label (take)
  *   29  no role held gives this read or write (read, write)
@@ -55,10 +79,10 @@
  *   21  state shorter than 65,536 bytes, or holding a number outside its
  *       limits, as a zeroed one does; never a state that a load and calls left
  *       (every call but load)
- *   22  place not 1 to 64 (open, close, take, drop, read, write)
+ *   22  place not 1 to 64 (every call that names one)
  *   23  place in use (open)
- *   25  user, label, role, card or mode number out of range (open, take, drop,
- *       read, write, flows, can)
+ *   25  user, label, role, card or mode number out of range (every call that
+ *       names one)
  *   31  store shorter than 64 * cards (read, write)
  */
 #ifndef MONITOR_H
@@ -67,21 +91,35 @@
 #include <stddef.h>
 #include <stdint.h>
 
-#ifdef __cplusplus
-extern "C" {
-#endif
-
-/* The version of this header, of the archive beside it and of the programs. */
+/* The version of this header, of the library and of the programs beside it. */
 #define MONITOR_VERSION_MAJOR 1
 #define MONITOR_VERSION_MINOR 0
 #define MONITOR_VERSION_PATCH 0
 #define MONITOR_VERSION "1.0.0"
+
+/* Where the compiler can, it warns of an answer that is not looked at. */
+#if defined(__has_attribute)
+#if __has_attribute(warn_unused_result)
+#define MONITOR_MUST_CHECK __attribute__((warn_unused_result))
+#endif
+#elif defined(__GNUC__)
+#define MONITOR_MUST_CHECK __attribute__((warn_unused_result))
+#endif
+#ifndef MONITOR_MUST_CHECK
+#define MONITOR_MUST_CHECK
+#endif
+
+#ifdef __cplusplus
+extern "C" {
+#endif
 
 /* Sizes in bytes, and the most that there can be of each thing. */
 enum {
     MONITOR_STATE_BYTES = 65536,
     MONITOR_FILE_BYTES = 63800,
     MONITOR_CARD_BYTES = 64,
+    MONITOR_LOAD_STACK_BYTES = 81920,
+    MONITOR_CALL_STACK_BYTES = 4096,
     MONITOR_LABELS = 32,
     MONITOR_ROLES = 128,
     MONITOR_USERS = 256,
@@ -89,14 +127,38 @@ enum {
     MONITOR_PLACES = 64
 };
 
+/* Modes, and levels that are no label. */
+enum {
+    MONITOR_READ = 1,
+    MONITOR_WRITE = 2,
+    MONITOR_LEVEL_FREE = 0,
+    MONITOR_LEVEL_UNDEFINED = 99
+};
+
 /* A load's number and its place; all three are 0 where the load is done. */
 struct monitor_verdict {
     uint64_t number, first, second;
 };
 
-/* A report's number and figure; the figure is 0 on a refusal. */
+/*
+ * What the review calls answer: a number, and what was asked, 0 on a refusal.
+ * Of a set of roles, role r is bit r - 1 of low, or from 65 on bit r - 65 of
+ * high.
+ */
 struct monitor_figure {
     uint64_t number, figure;
+};
+
+struct monitor_counts {
+    uint64_t number, labels, roles, users, cards;
+};
+
+struct monitor_session {
+    uint64_t number, user, label, low, high;
+};
+
+struct monitor_set {
+    uint64_t number, low, high;
 };
 
 /*
@@ -104,8 +166,9 @@ struct monitor_figure {
  * in that order within the line, then 6 (users before cards), 11, 12, 13, then
  * for the assignments in file order 14 to 16 within each, or 0.
  * Done, it replaces the state's first 65,536 bytes, whatever they held, and
- * closes all sessions. The file is only read.
+ * closes all sessions.
  */
+MONITOR_MUST_CHECK
 struct monitor_verdict monitor_load(const uint8_t *file, size_t file_len,
                                     uint8_t *state, size_t state_len);
 
@@ -114,6 +177,7 @@ struct monitor_verdict monitor_load(const uint8_t *file, size_t file_len,
  * clearance dominates, and no roles. Answers 21, 22, 23, 25, 26 or 0.
  * Done, it changes the state only: the place is in use.
  */
+MONITOR_MUST_CHECK
 uint64_t monitor_open(uint8_t *state, size_t state_len, uint64_t place,
                       uint64_t user, uint64_t label);
 
@@ -122,6 +186,7 @@ uint64_t monitor_open(uint8_t *state, size_t state_len, uint64_t place,
  * Done, it changes the state only: the place is empty, the roles held there
  * are gone, and it can be opened again.
  */
+MONITOR_MUST_CHECK
 uint64_t monitor_close(uint8_t *state, size_t state_len, uint64_t place);
 
 /*
@@ -131,6 +196,7 @@ uint64_t monitor_close(uint8_t *state, size_t state_len, uint64_t place);
  * Done, it changes the state only: the role is held. Taking a role that is
  * held makes the same checks, and where they pass it changes nothing.
  */
+MONITOR_MUST_CHECK
 uint64_t monitor_take(uint8_t *state, size_t state_len, uint64_t place,
                       uint64_t role);
 
@@ -139,6 +205,7 @@ uint64_t monitor_take(uint8_t *state, size_t state_len, uint64_t place,
  * Done, it changes the state only: the role is not held. Dropping a role that
  * is not held is done and changes nothing.
  */
+MONITOR_MUST_CHECK
 uint64_t monitor_drop(uint8_t *state, size_t state_len, uint64_t place,
                       uint64_t role);
 
@@ -149,6 +216,7 @@ uint64_t monitor_drop(uint8_t *state, size_t state_len, uint64_t place,
  * bytes of its store from 64 * (card - 1) + offset. Length 0 is allowed, up to
  * offset 64. It changes nothing.
  */
+MONITOR_MUST_CHECK
 uint64_t monitor_read_number(const uint8_t *state, size_t state_len,
                              const uint8_t *store, size_t store_len,
                              uint64_t place, uint64_t card, uint64_t offset,
@@ -161,36 +229,120 @@ uint64_t monitor_read_number(const uint8_t *state, size_t state_len,
  * Done, it puts the bytes into the store from 64 * (card - 1) + offset and
  * changes no other byte. State and bytes are only read.
  */
+MONITOR_MUST_CHECK
 uint64_t monitor_write(const uint8_t *state, size_t state_len, uint8_t *store,
                        size_t store_len, uint64_t place, uint64_t card,
                        uint64_t offset, const uint8_t *bytes,
                        size_t bytes_len);
 
 /*
+ * Review. The calls from here on change nothing and look at the policy alone,
+ * monitor_session_at at its place too. They look at the whole policy and are
+ * the server's: a session must not be handed what they tell.
+ */
+
+/* How many labels, roles, users and cards the file has. Answers 21 or 0. */
+MONITOR_MUST_CHECK
+struct monitor_counts monitor_counts_of(const uint8_t *state,
+                                        size_t state_len);
+
+/*
+ * The session at a place: its user, its label and the roles held. Answers 21,
+ * 22, 24 or 0. The label printed above each of the session's match lists is
+ * this one; the session may be shown it.
+ */
+MONITOR_MUST_CHECK
+struct monitor_session monitor_session_at(const uint8_t *state,
+                                          size_t state_len, uint64_t place);
+
+/* The figure is the label that the user is cleared to. Answers 21, 25 or 0. */
+MONITOR_MUST_CHECK
+struct monitor_figure monitor_clearance(const uint8_t *state, size_t state_len,
+                                        uint64_t user);
+
+/* The figure is the card's label. Answers 21, 25 or 0. */
+MONITOR_MUST_CHECK
+struct monitor_figure monitor_card_label(const uint8_t *state,
+                                         size_t state_len, uint64_t card);
+
+/*
+ * The figure is the role's r-level (mode 1) or w-level (mode 2): a label, or 0
+ * where it is free, or 99 where it is undefined. Answers 21, 25 or 0.
+ */
+MONITOR_MUST_CHECK
+struct monitor_figure monitor_level(const uint8_t *state, size_t state_len,
+                                    uint64_t role, uint64_t mode);
+
+/*
+ * Figure 1 where label a dominates label b or is the same label, else 0.
+ * Answers 21, 25 or 0.
+ */
+MONITOR_MUST_CHECK
+struct monitor_figure monitor_dominates(const uint8_t *state, size_t state_len,
+                                        uint64_t a, uint64_t b);
+
+/*
+ * Figure 1 where role r is senior to role q or is the same role, else 0.
+ * Answers 21, 25 or 0.
+ */
+MONITOR_MUST_CHECK
+struct monitor_figure monitor_senior(const uint8_t *state, size_t state_len,
+                                     uint64_t r, uint64_t q);
+
+/*
+ * Figure 1 where the file assigns the user to this very role, else 0. Answers
+ * 21, 25 or 0.
+ */
+MONITOR_MUST_CHECK
+struct monitor_figure monitor_assigned(const uint8_t *state, size_t state_len,
+                                       uint64_t user, uint64_t role);
+
+/*
+ * The set of roles that a session of the user at the label may take: those for
+ * which monitor_take would answer 0. Answers 21, 25, 26 or 0.
+ */
+MONITOR_MUST_CHECK
+struct monitor_set monitor_takable(const uint8_t *state, size_t state_len,
+                                   uint64_t user, uint64_t label);
+
+/*
+ * Figure 1 where one of the roles of the set, itself or by a junior, gives a
+ * session at the label that holds it the read (mode 1) or the write (mode 2)
+ * of the card, else 0. Whether it may be taken there is not asked. Bits past
+ * the file's roles count for nothing. Answers 21, 25 or 0.
+ */
+MONITOR_MUST_CHECK
+struct monitor_figure monitor_gives(const uint8_t *state, size_t state_len,
+                                    uint64_t low, uint64_t high,
+                                    uint64_t label, uint64_t card,
+                                    uint64_t mode);
+
+/*
+ * What a user ends up with: figure 1 where a session of the user at the label
+ * could be granted the read (mode 1) or the write (mode 2) of the card, that
+ * is, where monitor_gives is 1 of what monitor_takable gives; else 0. Answers
+ * 21, 25, 26 or 0.
+ */
+MONITOR_MUST_CHECK
+struct monitor_figure monitor_can(const uint8_t *state, size_t state_len,
+                                  uint64_t user, uint64_t label, uint64_t card,
+                                  uint64_t mode);
+
+/*
  * Role flow: figure 1 where the first role may write a card that the second,
  * another role, may read, else 0; never 1 for a role and itself. Answers 21,
- * 25 or 0. It changes nothing.
+ * 25 or 0.
  */
+MONITOR_MUST_CHECK
 struct monitor_figure monitor_flows(const uint8_t *state, size_t state_len,
                                     uint64_t from, uint64_t to);
 
 /*
  * Role flow: the figure is the lowest role on a circle of two or more roles,
- * or 0 where there is none. Answers 21 or 0. It changes nothing.
+ * or 0 where there is none. Answers 21 or 0.
  */
+MONITOR_MUST_CHECK
 struct monitor_figure monitor_circle(const uint8_t *state, size_t state_len);
-
-/*
- * What a translator ends up with: figure 1 where a session of the user at the
- * label could be granted a read (mode 1) or a write (mode 2) of the card, that
- * is, where some role that the user may take at that label gives it, directly
- * or by inheritance; else 0. Answers 21; 25 for a user, label, card or mode out
- * of range; 26 where the clearance doesn't dominate the label; or 0. It
- * looks at no place and changes nothing.
- */
-struct monitor_figure monitor_can(const uint8_t *state, size_t state_len,
-                                  uint64_t user, uint64_t label, uint64_t card,
-                                  uint64_t mode);
 
 /* A number in words, to stand after what was asked; never NULL. */
 static inline const char *monitor_words(uint64_t number)
@@ -201,7 +353,7 @@ static inline const char *monitor_words(uint64_t number)
     case 1:
         return "the length is 0, not a multiple of 22, or above 63,800";
     case 2:
-        return "the line is malformed, its letter is unknown, or it is not where H must stand";
+        return "the line is malformed, its letter is unknown, or H is not on line 1 alone";
     case 3:
         return "a count is outside its limits";
     case 4:
