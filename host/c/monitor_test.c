@@ -4,123 +4,13 @@
  * allocation of its exact length, so that valgrind and the address sanitizer
  * see a byte too far.
  */
-#include "monitor.h"
+#include "checks.h"
 
-#include <inttypes.h>
-#include <stdio.h>
 #include <stdlib.h>
 #include <string.h>
 
-#define STATE_BYTES 65536u
-#define CARD_BYTES 64u
-_Static_assert(MONITOR_STATE_BYTES == STATE_BYTES &&
-                   MONITOR_CARD_BYTES == CARD_BYTES,
-               "the sizes of document 01");
 /* The store of a file with two cards. */
 #define STORE_BYTES (2 * CARD_BYTES)
-#define FARTHEST UINT64_MAX
-
-static unsigned passed;
-static unsigned failed;
-/* What the checks are about just now. */
-static const char *about = "";
-
-/* The line for a check, without its end. */
-static void begin_line(int holds, const char *what)
-{
-    if (holds) {
-        passed++;
-    } else {
-        failed++;
-    }
-    printf("%s%s: %s", holds ? "ok      " : "FAILED  ", about, what);
-}
-
-/* One line for each check. */
-static void check(int holds, const char *what)
-{
-    begin_line(holds, what);
-    printf("\n");
-}
-
-static void number(uint64_t answer, uint64_t expected, const char *what)
-{
-    begin_line(answer == expected, what);
-    if (answer != expected) {
-        printf("; expected %" PRIu64 ", got %" PRIu64, expected, answer);
-    }
-    printf("\n");
-}
-
-static void verdict(struct monitor_verdict answer, uint64_t expected,
-                    uint64_t first, uint64_t second, const char *what)
-{
-    int same = answer.number == expected && answer.first == first &&
-               answer.second == second;
-    begin_line(same, what);
-    if (!same) {
-        printf("; expected %" PRIu64 " at [%" PRIu64 ", %" PRIu64
-               "], got %" PRIu64 " at [%" PRIu64 ", %" PRIu64 "]",
-               expected, first, second, answer.number, answer.first,
-               answer.second);
-    }
-    printf("\n");
-}
-
-static void figure(struct monitor_figure answer, uint64_t expected,
-                   uint64_t value, const char *what)
-{
-    int same = answer.number == expected && answer.figure == value;
-    begin_line(same, what);
-    if (!same) {
-        printf("; expected %" PRIu64 " with figure %" PRIu64 ", got %" PRIu64
-               " with figure %" PRIu64,
-               expected, value, answer.number, answer.figure);
-    }
-    printf("\n");
-}
-
-/* An allocation of this length, every byte the same. */
-static uint8_t *bytes_of(size_t length, int byte)
-{
-    uint8_t *bytes = malloc(length);
-    if (bytes == NULL) {
-        fprintf(stderr, "no memory\n");
-        exit(2);
-    }
-    memset(bytes, byte, length);
-    return bytes;
-}
-
-static int all_bytes_are(const uint8_t *bytes, size_t length, int byte)
-{
-    for (size_t at = 0; at < length; at++) {
-        if (bytes[at] != byte) {
-            return 0;
-        }
-    }
-    return 1;
-}
-
-/* An allocation of the text's exact length, or of a byte where it is empty. */
-static uint8_t *copy_of(const char *text)
-{
-    size_t length = strlen(text);
-    uint8_t *copy = bytes_of(length + (length == 0), 0);
-    memcpy(copy, text, length);
-    return copy;
-}
-
-static struct monitor_verdict load(const char *text, uint8_t *state)
-{
-    size_t length = strlen(text);
-    uint8_t *file = copy_of(text);
-    struct monitor_verdict answer =
-        monitor_load(file, length, state, STATE_BYTES);
-    check(memcmp(file, text, length) == 0, "a load only reads the file");
-    free(file);
-    return answer;
-}
 
 static uint64_t write_bytes(const uint8_t *state, uint8_t *store,
                             size_t store_len, uint64_t place, uint64_t card,
@@ -140,11 +30,6 @@ static uint64_t read_number(const uint8_t *state, const uint8_t *store,
 {
     return monitor_read_number(state, STATE_BYTES, store, STORE_BYTES, place,
                                card, offset, length);
-}
-
-static void accepted(const char *text, uint8_t *state, const char *what)
-{
-    verdict(load(text, state), 0, 0, 0, what);
 }
 
 /* Document 01's example file, with the lines that the cases change apart. */
@@ -651,6 +536,7 @@ int main(void)
     role_flow();
     what_a_user_can();
     short_and_long_buffers();
-    printf("%u passed, %u failed\n", passed, failed);
-    return failed == 0 ? 0 : 1;
+    header_tests();
+    review_tests();
+    return outcome();
 }
