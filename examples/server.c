@@ -11,35 +11,7 @@
 #include <stdarg.h>
 #include <stdio.h>
 
-enum { USER = 1, LOW = 1, HIGH = 2, READ = 1, WRITE = 2 };
-
-static const char *const words[] = {
-    [0] = "done",
-    [1] = "length 0, not a multiple of 22, or above 63,800",
-    [2] = "malformed line, unknown letter, H missing on line 1 or found later",
-    [3] = "count outside its limits",
-    [4] = "a user, role, card, label or mode number out of its range",
-    [5] = "line out of order or repeated",
-    [6] = "user or card with no label or more than one",
-    [7] = "load with a state shorter than 65,536 bytes",
-    [11] = "labels dominate in a circle",
-    [12] = "two labels without least upper bound",
-    [13] = "roles are senior in a circle",
-    [14] = "assigned role with undefined w-level",
-    [15] = "clearance doesn't dominate the r-level",
-    [16] = "w-level doesn't dominate the clearance",
-    [21] = "state shorter than 65,536 bytes or with a number outside the limits",
-    [22] = "place not 1 to 64",
-    [23] = "opening a place in use",
-    [24] = "no session at the place",
-    [25] = "user, label, role, card or mode number out of range",
-    [26] = "clearance doesn't dominate the label asked",
-    [27] = "neither the role nor a senior of it is assigned to the user",
-    [28] = "a level of the role forbids it at this label",
-    [29] = "no role held gives this read or write",
-    [30] = "offset plus length above 64",
-    [31] = "store shorter than 64 x cards",
-};
+enum { USER = 1, LOW = 1, HIGH = 2 };
 
 /* What the server lends to the calls. */
 static uint8_t state[MONITOR_STATE_BYTES], cards[MONITOR_CARDS][MONITOR_CARD_BYTES];
@@ -53,7 +25,7 @@ static void tell(uint64_t answer, const char *asked, ...)
     va_start(numbers, asked);
     vprintf(asked, numbers);
     va_end(numbers);
-    printf(": %s\n", words[answer]);
+    printf(": %s\n", monitor_words(answer));
 }
 
 /* Asks for every role; tells of the first three and of those that are taken. */
@@ -109,14 +81,14 @@ int main(int count, char **arguments)
     take_roles(LOW);
     take_roles(HIGH);
 
-    uint64_t below = lowest_card(1, READ), above = lowest_card(1, WRITE);
+    uint64_t below = lowest_card(1, MONITOR_READ), above = lowest_card(1, MONITOR_WRITE);
     static const uint8_t note[] = "a note from label 1";
     read_card(LOW, below);
     answer = monitor_write(STATE, STORE, LOW, above, 0, note, sizeof note);
     tell(answer, "place %d writes card %" PRIu64, LOW, above);
     read_card(LOW, above);
     read_card(HIGH, above);
-    struct monitor_figure can = monitor_can(STATE, USER, label, above, READ);
+    struct monitor_figure can = monitor_can(STATE, USER, label, above, MONITOR_READ);
     tell(can.number, "can user %d read card %" PRIu64 " at label %" PRIu64, USER, above, label);
     printf("    %s\n", can.figure == 1 ? "yes" : "no");
     tell(monitor_close(STATE, LOW), "place %d closes", LOW);
