@@ -33,7 +33,7 @@
  * Threads. The library keeps nothing between calls outside the buffers, so
  * calls on different buffers may run at one time. Calls that are lent a buffer
  * as const may share it; a call that is lent it as non-const must be alone
- * with it. The part that a read grants is handed on within the same turn.
+ * with it. A read lasts until its part is handed on.
  *
  * Stack. A load needs at most MONITOR_LOAD_STACK_BYTES, any other call
  * MONITOR_CALL_STACK_BYTES. No call allocates memory, locks or waits.
@@ -353,7 +353,8 @@ static inline const char *monitor_words(uint64_t number)
     case 1:
         return "the length is 0, not a multiple of 22, or above 63,800";
     case 2:
-        return "the line is malformed, its letter is unknown, or H is not on line 1 alone";
+        return "the line is malformed, its letter is unknown, or H is not on "
+               "line 1 alone";
     case 3:
         return "a count is outside its limits";
     case 4:
