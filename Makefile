@@ -50,6 +50,7 @@ LEGEND = $${NAMES:+--names "$$NAMES"}
 
 # Two runs of rt, or of cargo, would get into each other's way.
 .NOTPARALLEL:
+.DELETE_ON_ERROR:
 .PHONY: help check rights picture rolecheck example all lib install uninstall clean kit cargo
 .PHONY: test prove differential lists pairs long fuzz sanitize installed bench growth mutation
 
@@ -119,7 +120,7 @@ $(BUILD)/rolecheck.1: man/rolecheck.1.in include/monitor.h
 
 $(BUILD)/monitor.3: man/monitor.3.in man/header-text include/monitor.h
 	@mkdir -p $(BUILD)
-	{ sed 's/@VERSION@/$(VERSION)/' man/monitor.3.in; man/header-text include/monitor.h; } > $@
+	{ sed 's/@VERSION@/$(VERSION)/' man/monitor.3.in && man/header-text include/monitor.h; } > $@
 
 lib: $(PROVED)
 
