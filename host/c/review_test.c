@@ -129,6 +129,16 @@ static void sessions(void)
           "24: place 64 is empty again");
 }
 
+/* The label is the session's, and not what its user is cleared to. */
+static void session_below_clearance(void)
+{
+    number(monitor_open(state, STATE_BYTES, 1, 1, 2), 0,
+           "user 1, cleared to 3, opens place 1 at label 2");
+    check(same_session(monitor_session_at(state, STATE_BYTES, 1), 0, 1, 2, 0,
+                       0),
+          "user 1, label 2");
+}
+
 static void labels(void)
 {
     static const char *const dominance[] = {"1000", "0100", "1110", "1111"};
@@ -389,7 +399,7 @@ void review_tests(void)
     about = "review calls";
     accepted(reviewed, state, "the file is accepted");
     sessions();
-    number(monitor_open(state, STATE_BYTES, 1, 2, 1), 0, "user 2 opens place 1");
+    session_below_clearance();
     memcpy(before, state, STATE_BYTES);
     counts();
     labels();
