@@ -22,8 +22,8 @@
  *   - From a load on, nothing but these calls changes state or store. Each
  *     call gets what the last one left, and an older copy is not used again.
  *   - A read is its number and its bytes on the same state and store: after 0
- *     the part is handed on before any other call, and after any other answer
- *     nothing is.
+ *     the part is handed on before any other call, but for those that may run
+ *     beside it, and after any other answer nothing is.
  *   - A 0 is good for that moment alone. What was granted is asked again.
  *   - A session is handed the answers to its own calls, and nothing that the
  *     review calls tell of others.
@@ -33,7 +33,9 @@
  * Threads. The library keeps nothing between calls outside the buffers, so
  * calls on different buffers may run at one time. Calls that are lent a buffer
  * as const may share it; a call that is lent it as non-const must be alone
- * with it. A read lasts until its part is handed on.
+ * with it. So load, open, close, take and drop are alone with the state, and a
+ * write with the store; reads and review calls may run together. A read lasts
+ * until its part is handed on.
  *
  * Stack. A load needs at most MONITOR_LOAD_STACK_BYTES, any other call
  * MONITOR_CALL_STACK_BYTES. No call allocates memory, locks or waits.
@@ -119,7 +121,7 @@ enum {
     MONITOR_FILE_BYTES = 63800,
     MONITOR_CARD_BYTES = 64,
     MONITOR_LOAD_STACK_BYTES = 81920,
-    MONITOR_CALL_STACK_BYTES = 4096,
+    MONITOR_CALL_STACK_BYTES = 8192,
     MONITOR_LABELS = 32,
     MONITOR_ROLES = 128,
     MONITOR_USERS = 256,

@@ -1,15 +1,21 @@
 /*
  * How much stack each call uses, against the figures of the header: a call runs
  * on a stack that was filled with one byte, and what it used is what was
- * changed. The largest file, and edits of it that each stage of a load refuses.
+ * changed. The largest file, and edits of it that each stage of a load refuses;
+ * every other call on the state it leaves, and once as the first of a process
+ * that was handed that state, where the dynamic linker still has to find what
+ * the call calls.
  */
 #define _XOPEN_SOURCE 700
 #include "checks.h"
 #include "largest.h"
 
 #include <stdio.h>
+#include <stdlib.h>
 #include <string.h>
+#include <sys/wait.h>
 #include <ucontext.h>
+#include <unistd.h>
 
 #define STACK_BYTES (1u << 20)
 
@@ -17,8 +23,10 @@ static uint8_t stack[STACK_BYTES];
 static ucontext_t here, there;
 
 static uint8_t file[MONITOR_FILE_BYTES];
-static uint8_t state[MONITOR_STATE_BYTES];
 static uint8_t loaded[MONITOR_STATE_BYTES];
+/* A session of user 1 at place 1, label 16, which holds role 128. */
+static uint8_t prepared[MONITOR_STATE_BYTES];
+static uint8_t state[MONITOR_STATE_BYTES];
 static uint8_t store[MONITOR_CARDS * MONITOR_CARD_BYTES];
 static const uint8_t term[MONITOR_CARD_BYTES] = "term";
 #define STATE state, sizeof state
@@ -27,14 +35,13 @@ static const uint8_t term[MONITOR_CARD_BYTES] = "term";
 /* The number that the last call answered. */
 static uint64_t answered;
 
-/* The calls, each done as far as its arguments go. */
 static void load_file(void)
 {
     answered = monitor_load(file, sizeof file, loaded, sizeof loaded).number;
 }
 static void open_place(void) { answered = monitor_open(STATE, 2, 256, 16); }
-static void close_place(void) { answered = monitor_close(STATE, 2); }
-static void take_role(void) { answered = monitor_take(STATE, 1, 128); }
+static void close_place(void) { answered = monitor_close(STATE, 1); }
+static void take_role(void) { answered = monitor_take(STATE, 1, 96); }
 static void drop_role(void) { answered = monitor_drop(STATE, 1, 128); }
 static void read_card(void)
 {
@@ -74,11 +81,38 @@ static void gives(void)
                    .number;
 }
 
+/* Every call but load; each is done. */
+static const struct {
+    const char *name;
+    void (*call)(void);
+} calls[] = {
+    {"open", open_place},       {"close", close_place},
+    {"take", take_role},        {"drop", drop_role},
+    {"read_number", read_card}, {"write", write_card},
+    {"counts_of", counts},      {"session_at", session},
+    {"clearance", clearance},   {"card_label", card_label},
+    {"level", level},           {"dominates", dominates},
+    {"senior", senior},         {"assigned", assigned},
+    {"takable", takable},       {"gives", gives},
+    {"can", can},               {"flows", flows},
+    {"circle", circle},
+};
+#define CALLS (sizeof calls / sizeof calls[0])
+
+/* Fills by a loop, so that memset is not called before the call under test. */
+static void paint(uint8_t byte)
+{
+    volatile uint8_t *at = stack;
+    for (size_t left = sizeof stack; left > 0; left--) {
+        *at++ = byte;
+    }
+}
+
 /* Bytes of the stack that a call changes, where it is filled with `byte`. */
-static size_t changed_over(void (*call)(void), int byte)
+static size_t changed_over(void (*call)(void), uint8_t byte)
 {
     size_t untouched = 0;
-    memset(stack, byte, sizeof stack);
+    paint(byte);
     if (getcontext(&there) != 0) {
         return sizeof stack;
     }
@@ -95,27 +129,30 @@ static size_t changed_over(void (*call)(void), int byte)
     return sizeof stack - untouched;
 }
 
-/* The first run lets the dynamic linker find what is called. A byte that the
-   call puts there itself shows in one of the two others. */
+/* A byte that the call puts there itself shows in one of two runs. */
 static size_t stack_of(void (*call)(void))
 {
     size_t first, second;
-    call();
+    memcpy(state, prepared, sizeof state);
     first = changed_over(call, 0xa5);
+    memcpy(state, prepared, sizeof state);
     second = changed_over(call, 0x5a);
     return first > second ? first : second;
 }
 
-/* The call answers as expected, and keeps within the header's figure. */
-static void holds(const char *name, void (*call)(void), uint64_t expected,
-                  size_t most)
+/* The call answered as expected, and kept within the header's figure. */
+static void holds(const char *name, size_t used, size_t most, uint64_t expected)
 {
-    size_t used = stack_of(call);
     char line[80];
     snprintf(line, sizeof line, "%zu bytes of %zu", used, most);
     about = name;
     check(used <= most, line);
     number(answered, expected, "answered as meant");
+}
+
+static void load_holds(const char *name, uint64_t expected)
+{
+    holds(name, stack_of(load_file), MONITOR_LOAD_STACK_BYTES, expected);
 }
 
 /* The file with a field of a line changed: a stage of the load refuses it. */
@@ -124,12 +161,12 @@ static void refused_load(const char *name, uint64_t expected, int line,
 {
     write_largest(file);
     change_field(file, line, field, changed);
-    holds(name, load_file, expected, MONITOR_LOAD_STACK_BYTES);
+    load_holds(name, expected);
 }
 
 static void loads(void)
 {
-    holds("load", load_file, 0, MONITOR_LOAD_STACK_BYTES);
+    load_holds("load", 0);
     refused_load("load, a count", 3, 1, 1, 33);
     refused_load("load, a number", 4, LARGEST_A - 1, 1, 129);
     refused_load("load, the order of lines", 5, LARGEST_A - 1, 1, 1);
@@ -140,48 +177,73 @@ static void loads(void)
     refused_load("load, writing low", 16, LARGEST_O + 511 - 128, 2, 1);
 }
 
-/* The session calls on a session of user 1, who has role 128; each can be
-   made three times. */
-static void session_calls(void)
+/* A call as the first of this process, which gets its state on standard
+   input; the stack that it uses goes to standard output. */
+static int first_of_process(size_t at)
 {
-    const size_t most = MONITOR_CALL_STACK_BYTES;
-    about = "session calls";
-    number(monitor_open(STATE, 1, 1, 16), 0, "user 1 opens place 1");
-    holds("take", take_role, 0, most);
-    holds("read_number", read_card, 0, most);
-    holds("write", write_card, 0, most);
-    holds("session_at", session, 0, most);
-    holds("drop", drop_role, 0, most);
-    holds("open, in use at last", open_place, 23, most);
-    holds("close, empty at last", close_place, 24, most);
-}
-
-static void review_calls(void)
-{
-    static const struct {
-        const char *name;
-        void (*call)(void);
-    } calls[] = {
-        {"counts_of", counts},      {"clearance", clearance},
-        {"card_label", card_label}, {"level", level},
-        {"dominates", dominates},   {"senior", senior},
-        {"assigned", assigned},     {"takable", takable},
-        {"gives", gives},           {"can", can},
-        {"flows", flows},           {"circle", circle},
-    };
-    for (size_t at = 0; at < sizeof calls / sizeof calls[0]; at++) {
-        holds(calls[at].name, calls[at].call, 0, MONITOR_CALL_STACK_BYTES);
+    size_t used;
+    if (at >= CALLS || read(0, state, sizeof state) != (ssize_t)sizeof state) {
+        return 2;
     }
+    used = changed_over(calls[at].call, 0xa5);
+    return write(1, &used, sizeof used) == (ssize_t)sizeof used && answered == 0
+               ? 0
+               : 1;
 }
 
-int main(void)
+/* Runs this program for one call. The state and the figure go by a file. */
+static size_t stack_of_first(const char *program, size_t at)
+{
+    FILE *between = tmpfile();
+    size_t used = SIZE_MAX;
+    char which[24];
+    int status = 1;
+    snprintf(which, sizeof which, "%zu", at);
+    if (between == NULL ||
+        fwrite(prepared, sizeof prepared, 1, between) != 1 ||
+        fflush(between) != 0 || lseek(fileno(between), 0, SEEK_SET) != 0) {
+        return used;
+    }
+    if (fork() == 0) {
+        dup2(fileno(between), 0);
+        dup2(fileno(between), 1);
+        execl(program, program, which, (char *)NULL);
+        _exit(2);
+    }
+    if (wait(&status) < 0 || status != 0 ||
+        pread(fileno(between), &used, sizeof used, sizeof prepared) !=
+            (ssize_t)sizeof used) {
+        used = SIZE_MAX;
+    }
+    fclose(between);
+    return used;
+}
+
+static void prepare(void)
 {
     write_largest(file);
-    about = "stack";
-    verdict(monitor_load(file, sizeof file, state, sizeof state), 0, 0, 0,
+    about = "preparing";
+    verdict(monitor_load(file, sizeof file, STATE), 0, 0, 0,
             "the largest counts and 2,900 lines: accepted");
+    number(monitor_open(STATE, 1, 1, 16), 0, "user 1 opens place 1");
+    number(monitor_take(STATE, 1, 128), 0, "and takes role 128");
+    memcpy(prepared, state, sizeof state);
+}
+
+int main(int count, char **arguments)
+{
+    char first[40];
+    if (count == 2) {
+        return first_of_process((size_t)atoi(arguments[1]));
+    }
+    prepare();
     loads();
-    session_calls();
-    review_calls();
+    for (size_t at = 0; at < CALLS; at++) {
+        holds(calls[at].name, stack_of(calls[at].call),
+              MONITOR_CALL_STACK_BYTES, 0);
+        snprintf(first, sizeof first, "%s, first call", calls[at].name);
+        holds(first, stack_of_first(arguments[0], at), MONITOR_CALL_STACK_BYTES,
+              0);
+    }
     return outcome();
 }
