@@ -73,7 +73,10 @@ static void dominates(void)
     answered = monitor_dominates(STATE, 32, 1).number;
 }
 static void senior(void) { answered = monitor_senior(STATE, 128, 1).number; }
-static void assigned(void) { answered = monitor_assigned(STATE, 1, 128).number; }
+static void assigned(void)
+{
+    answered = monitor_assigned(STATE, 1, 128).number;
+}
 static void takable(void) { answered = monitor_takable(STATE, 1, 16).number; }
 static void gives(void)
 {
