@@ -144,26 +144,21 @@ def build_checker():
         sys.exit("host/checker does not build")
 
 
-def host_tests(crate, program):
-    """The commands of the gate that test a built program."""
-    if crate == "rights":
-        words = ["cargo", "test", "--release", "--offline", "--quiet", "--manifest-path", "host/rights/Cargo.toml"]
-        return [["env", f"RIGHTS_BIN={program}"] + words]
+def host_tests(program):
+    """The commands of the gate that test a built `rolecheck`."""
     build_checker()
     return [["host/cases/run", str(program), f"{BUILT}/second-checker"],
             [f"{BUILT}/differential", str(program), "3000", "1"]]
 
 
-def tests_of(crate, program):
+def tests_of(program):
     """What the gate's host tests say of a built program, and the name of the first that refuses it."""
     text = ""
-    for words in host_tests(crate, program):
+    for words in host_tests(program):
         status, said = said_by(words, ROOT)
         text += said
         if status != 0:
-            test = re.search(r"^---- (\S+) stdout ----", said, re.M)
-            name = f"host/rights, {test[1]}" if test else words[0].removeprefix(f"{BUILT}/")
-            return Outcome("refused by the gate's tests", name), text
+            return Outcome("refused by the gate's tests", words[0].removeprefix(f"{BUILT}/")), text
     return Outcome("survived"), text
 
 
@@ -173,7 +168,7 @@ def warm(crate):
     copy_crate(crate)
     if outcome(crate, incremental(crate))[0].result != "survived":
         sys.exit(f"{crate} is not proved before any edit")
-    if is_program(crate) and tests_of(crate, ROOT / "target" / "bin" / crate)[0].result != "survived":
+    if is_program(crate) and tests_of(ROOT / "target" / "bin" / crate)[0].result != "survived":
         sys.exit(f"{crate} does not pass the gate's tests before any edit")
 
 
@@ -187,7 +182,7 @@ def run_of(m):
     (folder / m.path).write_text(m.text)
     status, said = said_by(["rt", "check", m.crate], folder)
     if status == 0:
-        return tests_of(m.crate, folder / "target" / "bin" / m.crate)
+        return tests_of(folder / "target" / "bin" / m.crate)
     if "its run FAILED" in said:
         return Outcome("refused by its run"), said
     return Outcome("refused", first_error(said, m.crate)), said
@@ -210,7 +205,7 @@ def judged_by(crate):
     folders = [own / part for part in ("src", "specs", "proofs")]
     if is_program(crate):
         folders += [own / part for part in ("stdin", "stdout", "args", "data")]
-        folders += [ROOT / "host" / part for part in ("cases", "checker/src", "model/src", "rights/src", "rights/tests")]
+        folders += [ROOT / "host" / part for part in ("cases", "checker/src")]
     for folder in folders:
         yield from sorted(path for path in [folder, *folder.rglob("*")] if path.is_file())
 

@@ -21,7 +21,7 @@ import report
 from judge import ROOT, WORK, alone, result_of, said_by
 from sites import code_lines, public_functions, public_modules, sites
 
-CRATES = ["search", "number", "roleset", "order", "rolefile", "policy", "monitor", "text", "rolecheck", "report", "graph", "rights"]
+CRATES = ["search", "number", "roleset", "order", "rolefile", "policy", "monitor", "text", "rolecheck"]
 
 Mutant = namedtuple("Mutant", "crate path line function operator old new text")
 

@@ -1,10 +1,10 @@
 -- The review calls in the file's terms, on every state that a load of an accepted file and any calls left: `…-answers`. None is answered with 21. What the roles that a user may take at a
 -- label give is what `monitor_can` answers, on every state (`can-gives`). Assumes nothing.
-use Prim.Native.Nat.{ℕ, zero, suc, _≤_}
+use Prim.Native.Nat.{ℕ, zero, suc}
 use mathlib.Core.Path.{_≡_, refl, sym, ap, _∙_}
 use mathlib.Core.List.{List}
 use mathlib.Core.Logic.{_↔_, inl, ⊎-elim}
-use mathlib.Core.Option.{Option, none, some}
+use mathlib.Core.Option.{some}
 use mathlib.Core.Bool.{Bool, true, false, _&&_, cond, and-comm, and-assoc, and-false}
 use native.Mathlib.Omega.{arith}
 use lib.Dec.{eqb}
@@ -32,7 +32,7 @@ use Rattle.monitor.specs.Rights.{canNumber, roleCould, could, Cans}
 use Rattle.monitor.specs.Review.{reviewNumber, CountsOf, SessionOf, ClearanceOf, CardLabelOf, levelsOf, LevelOf, Dominates, SeniorTo, AssignedTo, takableNumber, takableIn, TakableOf, givesIn, GivesOf, ofSession, takableRule, takableBy, setGivesBy}
 use Rattle.monitor.proofs.Answers.{both-ways, unless-done, Sound, sound-iff}
 use Rattle.monitor.proofs.Orderly.{session-done}
-use Rattle.monitor.proofs.Stands.{SessionAt, PlaceIs}
+use Rattle.monitor.proofs.Stands.{SessionAt}
 use Rattle.monitor.proofs.ByRules.{some-first, test-same, test-passed, sound-by, cleared-by, entitled-by, fitting-by, close-by}
 use Rattle.monitor.proofs.Demand2.{Runs, afterCalls, left-runs}
 use Rattle.monitor.proofs.Able.{table-says}

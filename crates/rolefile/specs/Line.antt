@@ -1,10 +1,10 @@
 -- The lines of a role file: "A line is 22 bytes: one letter, four fields of 5 columns, and byte 10." Assumes nothing.
 use Prim.Native.Nat.{ℕ, _+_, _*_, _-_, _/_}
-use mathlib.Core.List.{List, []}
+use mathlib.Core.List.{List}
 use mathlib.Core.Bool.{Bool, true, _&&_, cond}
 use lib.Dec.{leb, eqb}
-use lib.ListN.{length, getD, take, drop}
-use Rattle.search.specs.Search.{among, first}
+use lib.ListN.{length, getD, drop}
+use Rattle.search.specs.Search.{first}
 use Rattle.rolefile.specs.declared.Field.{Field}
 use Rattle.rolefile.specs.declared.Line.{Line}
 use Rattle.rolefile.specs.Ascii.{ascii}
@@ -88,7 +88,3 @@ lines f = length f / lineLength
 -- "Each letter's lines are handed on as the part of the file that starts there": the part after the first j lines
 abbrev pub part : List ℕ → ℕ → List ℕ
 part f j = drop (lineLength * j) f
-
--- the bytes of line k before its byte 10; none where the file has no such line
-unfoldable pub textAt : List ℕ → ℕ → List ℕ
-textAt f k = cond (among (lines f) k) (take 21 (drop (start k) f)) []

@@ -9,7 +9,7 @@ ghost use lib.ListN.{length};
 ghost use Rattle.rolefile.specs.Field.{isDigit, column, fieldAt, fieldNumber};
 ghost use Rattle.rolefile.specs.inner.Field.{takenOut};
 ghost use Rattle.rolefile.specs.inner.Section.{figure, figureOf, one, two, three, Leads};
-ghost use Rattle.rolefile.specs.Line.{lineLength, letterOf, fields, noLine, lineOf, lineFrom, lineAt, textAt, part};
+ghost use Rattle.rolefile.specs.Line.{lineLength, letterOf, fields, noLine, lineOf, lineFrom, lineAt, part};
 
 // A line's length, and the byte at its end.
 pub const LINE_LENGTH: usize = 22;
@@ -279,19 +279,6 @@ pub fn line(f: &[u8], k: usize) -> Line
         return no_line();
     }
     line_from(f, LINE_LENGTH * i)
-}
-
-// The text of line k of the file, counted from 1, without byte 10; empty where the
-// file has no such line.
-pub fn text(f: &[u8], k: usize) -> &[u8]
-    ensures { λ t. ⌜ now t ≡ textAt (now (f .entry)) k ⌝ }
-{
-    if !search::among((f.len() / LINE_LENGTH) as u64, k as u64) {
-        return &f[..0];
-    }
-    let at = LINE_LENGTH * (k - 1);
-    let end = at + 21;
-    &f[at..end]
 }
 
 // What a column counts: a digit its value, and a blank 0.

@@ -167,9 +167,6 @@ module _ (p : ℕ → Bool) where
   unfolding every
   every-more i = rw add-one
 
-  pub every-fails : (n i : ℕ) → i < n → p (i + 1) ≡ false → false ≡ every n p
-  every-fails n i l h = sym (untrue (every n p) (λ e. both (every-at n e (i + 1) (omega arith)) h))
-
   -- what is found among the first m things is found among all of them
   pub first-sooner : (m n : ℕ) → m ≤ n → (first m p ≡ 0 → ⊥) → first m p ≡ first n p
   first-sooner m n l = go (first m p) (first-finds m)

@@ -1,15 +1,13 @@
 -- The columns of a number, made digit by digit, are its last five digits with blanks before them; below 100,000 they are the number as it is written.
--- The digits are what is left of the columns after the blanks. Assumes nothing.
-use Prim.Native.Nat.{ℕ, zero, suc, _+_, _-_, _/_, _%_, _^_, _≤_, _<_}
-use mathlib.Core.Path.{_≡_, refl, _∙_}
+-- Assumes nothing.
+use Prim.Native.Nat.{ℕ, zero, suc, _+_, _-_, _/_, _%_, _≤_, _<_}
+use mathlib.Core.Path.{_≡_, refl}
 use mathlib.Core.List.{List, [], _∷_, _++_, append-assoc}
-use native.Mathlib.Nat.{one-le-pow}
 use native.Mathlib.Omega.{arith}
 use native.Mathlib.Decide.{decLt}
 use native.Mathlib.Numerals.{add-one}
-use lib.ListN.{length, take, drop, replicate, length-append, length-drop, length-replicate, replicate-append-replicate}
-use lib.Seq.{take-all, drop-at}
-use borrow.Author.Tests.{lt-ltb, le-ltb}
+use lib.ListN.{length, replicate, length-append, replicate-append-replicate}
+use borrow.Author.Tests.{le-ltb}
 use Rattle.rolefile.specs.Decimal.{lastDigits, digits, inColumns, padded}
 use Rattle.rolefile.proofs.Decimals.{last-single, last-more, same-digits}
 use Rattle.text.specs.Text.{lastFive}
@@ -20,21 +18,6 @@ use Rattle.text.specs.inner.Digit.{digitOf}
 pub all-digits : (n : ℕ) → n < 100000 → lastDigits 5 n ≡ digits n
 unfolding digits
 all-digits n l = same-digits 4 (suc n) n l (omega arith)
-
--- a number that reaches the first of the places has a digit in each
-pub last-count : (j n : ℕ) → (1 ≤ j → 10 ^ j ≤ n) → length (lastDigits (suc j) n) ≡ suc j
-unfolding lastDigits
-last-count zero n low = elim (decLt n 10) [
-  | yes s ↦ rw (lt-ltb n 10 s)
-  | no s ↦ rw (le-ltb n 10 (omega arith))
-]
-last-count (suc j) n low =
-    let least : 10 ^ suc j ≤ n = low (omega arith) in
-    rw (last-more (suc j) n (omega (arith, one-le-pow j 10 (omega arith))), length-append, last-count j (n / 10) (λ m. omega arith)) (omega arith)
-
-pub digit-count : (j n : ℕ) → (1 ≤ j → 10 ^ j ≤ n) → n < 10 ^ suc j → length (digits n) ≡ suc j
-unfolding digits
-digit-count j n low high = rw (same-digits j (suc n) n high (omega arith)) at (last-count j n low)
 
 -- ---- a number in columns
 
@@ -82,10 +65,3 @@ module _ (n : ℕ) where
   pub last-padded : n < 100000 → lastFive n ≡ padded n
   unfolding lastFive padded
   last-padded l = rw (all-digits n l)
-
-  after-blanks : drop (5 - length (lastDigits 5 n)) (lastFive n) ≡ lastDigits 5 n
-  unfolding lastFive
-  after-blanks = let k = 5 - length (lastDigits 5 n) in drop-at (replicate k 32) (lastDigits 5 n) k (length-replicate k 32)
-
-  pub digits-left : (k : ℕ) (cs : List ℕ) → 5 ≡ length cs → cs ≡ lastFive n → k ≡ 5 - length (lastDigits 5 n) → take (5 - k) (drop k cs) ≡ lastDigits 5 n
-  digits-left k cs five e s = take-all (5 - k) (drop k cs) (omega (arith, length-drop k cs)) ∙ rw (e, s) after-blanks

@@ -1,11 +1,10 @@
-// Text put into a buffer: bytes, and numbers in columns or in their fewest digits.
+// Text put into a buffer: bytes, and numbers in columns.
 //
 // A buffer that is too short for a text holds as much of its start as there is room for.
 ghost use mathlib.Core.Path.{_≡_};
-ghost use Prim.Native.Nat.{_-_, _≤_, _<_};
-ghost use mathlib.Core.List.{_++_};
+ghost use Prim.Native.Nat.{_<_};
 ghost use lib.ListN.{length};
-ghost use Rattle.rolefile.specs.Decimal.{lastDigits, digits, columnsOf};
+ghost use Rattle.rolefile.specs.Decimal.{columnsOf};
 ghost use Rattle.text.specs.Text.{Puts, lastColumns};
 ghost use Rattle.text.specs.inner.Digit.{digitOf};
 
@@ -64,42 +63,4 @@ pub fn field(out: &mut [u8], at: usize, used: bool, n: u64) -> usize
 {
     let text = columns(used, n);
     put(out, at, &text)
-}
-
-// How many of its five columns a number leaves blank.
-fn blanks(n: u64) -> usize
-    ensures { λ r. ⌜ r ≤ 4 ⌝ }
-    ensures { λ r. ⌜ r ≡ 5 - length (lastDigits 5 n) ⌝ }
-{
-    if n < 10 {
-        return 4;
-    }
-    if n < 100 {
-        return 3;
-    }
-    if n < 1000 {
-        return 2;
-    }
-    if n < 10000 {
-        return 1;
-    }
-    0
-}
-
-// Puts a number below 100,000 in its fewest digits, and the last five digits of any other, as `put`
-// does.
-pub fn number(out: &mut [u8], at: usize, n: u64) -> usize
-    ensures { λ r. ⌜ (n < 100000 → Puts (digits n) at (now (out .entry)) r (now (out .exit))) × Puts (lastDigits 5 n) at (now (out .entry)) r (now (out .exit)) ⌝ }
-{
-    let text = columns(true, n);
-    let from = blanks(n);
-    put(out, at, &text[from..])
-}
-
-// Puts bytes, and a number after them as `number` does.
-pub fn number_after(out: &mut [u8], at: usize, before: &[u8], n: u64) -> usize
-    ensures { λ r. ⌜ (n < 100000 → Puts (now (before .entry) ++ digits n) at (now (out .entry)) r (now (out .exit))) × Puts (now (before .entry) ++ lastDigits 5 n) at (now (out .entry)) r (now (out .exit)) ⌝ }
-{
-    let end = put(out, at, before);
-    number(out, end, n)
 }

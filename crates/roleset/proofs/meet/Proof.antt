@@ -6,7 +6,7 @@ use mathlib.Core.Bool.{_&&_, and-false, and-true}
 use lib.ListN.{length}
 use borrow.Author.Needs.{needs}
 use borrow.Author.Tests.{leb-true}
-use Rattle.search.specs.Search.{some, among}
+use Rattle.search.specs.Search.{some}
 use Rattle.search.proofs.Truth.{passed, failed, among-iff}
 use Rattle.search.proofs.Found.{some-agree}
 use Rattle.roleset.specs.Row.{whole, member, common}

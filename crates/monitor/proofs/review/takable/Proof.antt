@@ -1,6 +1,5 @@
 -- The row of the roles that may be taken is told as two numbers, where the number is 0.
 use mathlib.Core.Path.{ap, _∙_}
-use native.Mathlib.Omega.{arith}
 use borrow.Author.Needs.{needs}
 use Rattle.roleset.specs.Set.{lowOf, highOf}
 use Rattle.roleset.proofs.Rows.{whole-true}
