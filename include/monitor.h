@@ -18,17 +18,23 @@
  *
  * Isolation. No chain of sessions lets a label learn what it does not
  * dominate, openings and closings apart: of these, refused ones too, every
- * label may learn. This is proved, and rests on what the server does:
- *   - From a load on, nothing but these calls changes state or store. Each
- *     call gets what the last one left, and an older copy is not used again.
+ * label may learn. Timing, and what answers tell of the role file itself, are
+ * not covered. This is proved, and rests on what the server does:
+ *   - One state and one store belong together. Each call is lent the two, at
+ *     the same lengths, as the last one left them; an older copy is not used
+ *     again. From the first call after a load on, nothing but these calls
+ *     changes them.
+ *   - A session's calls are made at its own place, and by what it asks alone.
  *   - A read is its number and its bytes on the same state and store: after 0
- *     the part is handed on before any other call, but for those that may run
- *     beside it, and after any other answer nothing is.
+ *     the part is handed on, or copied for that, before any other call, but
+ *     for those that may run beside it; after any other answer no byte of the
+ *     store is.
  *   - A 0 is good for that moment alone. What was granted is asked again.
- *   - A session is handed the answers to its own calls, and nothing that the
- *     review calls tell of others.
+ *   - A session is handed the answers to its own calls, and of what the review
+ *     calls tell nothing but its own label.
  * A load that is done closes all sessions. The store keeps its bytes, which
- * now stand under the new file's labels: clear what these should not show.
+ * now stand under the new file's labels: clear what these should not show
+ * before the first call after it.
  *
  * Threads. The library keeps nothing between calls outside the buffers, so
  * calls on different buffers may run at one time. Calls that are lent a buffer
@@ -68,7 +74,7 @@
  *   15  clearance does not dominate the r-level [user, role]
  *   16  w-level does not dominate the clearance [user, role]
  *
- * The translator, by a session call:
+ * The translator, by a session call, or the server by a review call:
  *   24  no session at the place (close, take, drop, read, write, session_at)
  *   26  clearance does not dominate the label asked (open, takable, can)
  *   27  neither the role nor a senior of it is assigned to the user (take)
@@ -194,7 +200,8 @@ uint64_t monitor_close(uint8_t *state, size_t state_len, uint64_t place);
 /*
  * Takes a role into a session: the user is assigned to it or to a senior of
  * it, the session's label dominates its r-level, and its w-level dominates the
- * session's label. Answers 21, 22, 24, 25, 27, 28 or 0.
+ * session's label; a free level always passes, an undefined one never. Answers
+ * 21, 22, 24, 25, 27, 28 or 0.
  * Done, it changes the state only: the role is held. Taking a role that is
  * held makes the same checks, and where they pass it changes nothing.
  */
@@ -240,7 +247,8 @@ uint64_t monitor_write(const uint8_t *state, size_t state_len, uint8_t *store,
 /*
  * Review. The calls from here on change nothing and look at the policy alone,
  * monitor_session_at at its place too. They look at the whole policy and are
- * the server's: a session must not be handed what they tell.
+ * the server's: a session must not be handed what they tell, its own label
+ * apart.
  */
 
 /* How many labels, roles, users and cards the file has. Answers 21 or 0. */
@@ -250,8 +258,8 @@ struct monitor_counts monitor_counts_of(const uint8_t *state,
 
 /*
  * The session at a place: its user, its label and the roles held. Answers 21,
- * 22, 24 or 0. The label printed above each of the session's match lists is
- * this one; the session may be shown it.
+ * 22, 24 or 0. The label to print above each of the session's match lists is
+ * this one.
  */
 MONITOR_MUST_CHECK
 struct monitor_session monitor_session_at(const uint8_t *state,
@@ -268,8 +276,11 @@ struct monitor_figure monitor_card_label(const uint8_t *state,
                                          size_t state_len, uint64_t card);
 
 /*
- * The figure is the role's r-level (mode 1) or w-level (mode 2): a label, or 0
- * where it is free, or 99 where it is undefined. Answers 21, 25 or 0.
+ * The figure is the role's level. By mode 1 its r-level: the least upper bound
+ * of the labels of the cards that it may read, itself or by a junior. By mode
+ * 2 its w-level: the greatest lower bound of those that it may write. Where
+ * there are no such cards it is free, 0; where there is no such bound it is
+ * undefined, 99. Answers 21, 25 or 0.
  */
 MONITOR_MUST_CHECK
 struct monitor_figure monitor_level(const uint8_t *state, size_t state_len,
@@ -311,7 +322,8 @@ struct monitor_set monitor_takable(const uint8_t *state, size_t state_len,
  * Figure 1 where one of the roles of the set, itself or by a junior, gives a
  * session at the label that holds it the read (mode 1) or the write (mode 2)
  * of the card, else 0. Whether it may be taken there is not asked. Bits past
- * the file's roles count for nothing. Answers 21, 25 or 0.
+ * the file's roles count for nothing, and the label is tested for its range
+ * and makes no other difference today. Answers 21, 25 or 0.
  */
 MONITOR_MUST_CHECK
 struct monitor_figure monitor_gives(const uint8_t *state, size_t state_len,
@@ -331,9 +343,9 @@ struct monitor_figure monitor_can(const uint8_t *state, size_t state_len,
                                   uint64_t mode);
 
 /*
- * Role flow: figure 1 where the first role may write a card that the second,
- * another role, may read, else 0; never 1 for a role and itself. Answers 21,
- * 25 or 0.
+ * Role flow: figure 1 where the first role, itself or by a junior, may write a
+ * card that the second, another role, may so read, else 0; never 1 for a role
+ * and itself. Answers 21, 25 or 0.
  */
 MONITOR_MUST_CHECK
 struct monitor_figure monitor_flows(const uint8_t *state, size_t state_len,

@@ -17,6 +17,7 @@ use Rattle.search.proofs.Found.{some-both, some-none, some-agree}
 use Rattle.roleset.specs.Row.{member, rowOf}
 use Rattle.roleset.specs.Set.{inSet, lowOf, highOf}
 use Rattle.roleset.proofs.Sets.{in-set-of, in-no-set}
+use Rattle.rolefile.specs.Said.{assigned}
 use Rattle.order.specs.Closure.{Relation}
 use Rattle.policy.specs.Settings.{Settings, settings, Bounded}
 use Rattle.policy.specs.Policy.{may, rLevel, wLevel, levelNumber}
@@ -25,16 +26,17 @@ use Rattle.policy.specs.Tables.{tableOf, byteOf}
 use Rattle.policy.proofs.Meaning.{role-few, user-few, card-few, marked-by}
 use Rattle.policy.proofs.Relating.{by-mode}
 use Rattle.monitor.specs.Session.{sound, labelsIn, rolesIn, usersIn, cardsIn, cleared, entitled, fitting}
-use Rattle.monitor.specs.Calls.{unless, ifDone, stateNumber, closeNumber, Figured}
+use Rattle.monitor.specs.Calls.{unless, ifDone, stateNumber, closeNumber, takeNumber, Figured}
 use Rattle.monitor.specs.Runs.{Call, Start, left}
-use Rattle.monitor.specs.Rules.{Session, Sessions, closeRule, takeRule, entitledBy, fittingBy, givesBy}
+use Rattle.monitor.specs.Rules.{Session, Sessions, closeRule, takeRule, entitledBy, fittingBy, givesBy, rule, begun, standing}
 use Rattle.monitor.specs.Rights.{canNumber, roleCould, could, Cans}
 use Rattle.monitor.specs.Review.{reviewNumber, CountsOf, SessionOf, ClearanceOf, CardLabelOf, levelsOf, LevelOf, Dominates, SeniorTo, AssignedTo, takableNumber, takableIn, TakableOf, givesIn, GivesOf, ofSession, takableRule, takableBy, setGivesBy}
-use Rattle.monitor.proofs.Answers.{both-ways, unless-done, Sound, sound-iff}
-use Rattle.monitor.proofs.Orderly.{session-done}
+use Rattle.monitor.proofs.Answers.{both-ways, unless-done, Sound, sound-iff, close-room}
+use Rattle.monitor.proofs.Orderly.{session-done, opening}
 use Rattle.monitor.proofs.Stands.{SessionAt}
-use Rattle.monitor.proofs.ByRules.{some-first, test-same, test-passed, sound-by, cleared-by, entitled-by, fitting-by, close-by}
+use Rattle.monitor.proofs.ByRules.{some-first, test-same, test-passed, sound-by, cleared-by, entitled-by, fitting-by, close-by, take-by}
 use Rattle.monitor.proofs.Demand2.{Runs, afterCalls, left-runs}
+use Rattle.monitor.proofs.History.{open-for-iff}
 use Rattle.monitor.proofs.Able.{table-says}
 
 -- ---- what the roles that may be taken give is what a session could be granted
@@ -311,3 +313,39 @@ module _ {f : List ℕ} (accepted : Accepted f) (a : Start f) (store : List ℕ)
     tells p (h .number) (h .low) (λ s. lowOf (s .held)) (λ s there. ap lowOf (λ i r. there .held r i)),
     tells p (h .number) (h .high) (λ s. highOf (s .held)) (λ s there. ap highOf (λ i r. there .held r i)),
   )
+
+  -- its user may open its label, since the session was opened
+  may-open : (p : ℕ) (s : Session) → t p ≡ some s → takableRule σ (s .user) (s .label) ≡ 0
+  unfolding rule takableRule unless
+  may-open p s here =
+      let since = open-for-iff σ (assigned f) cs p (s .user) (s .label) .0 (rw here (refl, refl)) in
+      let o = opening σ (standing σ (begun (assigned f)) (since .earlier) .sessions) p (s .user) (s .label) (since .done) in
+      rw (among-iff (σ .users) (s .user) .1 (o .user), among-iff (σ .labels) (s .label) .1 (o .label), o .cleared)
+
+  takable-of : (u l : ℕ) {n c d : ℕ} → TakableOf xs u l n c d → takableRule σ u l ≡ 0 → (r : ℕ) → (inSet c d r ≡ true) ↔ (takableBy σ α u l r ≡ true)
+  unfolding ifDone takableBy
+  takable-of u l {n} {c} {d} h z r =
+      let (number, low, high) = takable-answers u l h in
+      let first : c ≡ lowOf (takableBy σ α u l) = low ∙ rw (number ∙ z) in
+      let second : d ≡ highOf (takableBy σ α u l) = high ∙ rw (number ∙ z) in
+      let told : inSet c d r ≡ (among 128 r && takableBy σ α u l r) = rw (first, second) (in-set-of (takableBy σ α u l) r) in (
+        λ e. and-iff (among 128 r) (takableBy σ α u l r) .0 (sym told ∙ e) .1,
+        λ e. told ∙ and-iff (among 128 r) (takableBy σ α u l r) .1
+            (among-iff 128 r .1 (role-few σ (runs .bounded) r (among-iff (σ .roles) r .0 (and-iff (among (σ .roles) r) _ .0 e .0))), e),
+      )
+
+  -- `monitor_take` answers 0 exactly for the roles that `monitor_takable` tells of the session's user and label
+  pub takable-take : (p r : ℕ) {u l low high n c d : ℕ} → SessionOf xs p 0 u l low high → TakableOf xs u l n c d
+      → (inSet c d r ≡ true) ↔ (takeNumber xs p r ≡ 0)
+  unfolding ifDone
+  takable-take p r {u} {l} session taken =
+      let (done, user, label, held, more) = session-answers p session in
+      let (s, here, there) = found p (session .number) refl in
+      let who : u ≡ s .user = user ∙ rw here in
+      let where-to : l ≡ s .label = label ∙ rw here in
+      let one = takable-of u l taken (rw (who, where-to) (may-open p s here)) r in
+      let two = takable-iff σ α t p r s (close-room xs p (sym (session .number)) .place) here in
+      let number = take-by σ (runs .bounded) α t xs (runs .stands) (runs .known) p r in (
+        λ e. number ∙ two .0 (rw (who, where-to) at (one .0 e)),
+        λ z. one .1 (rw (who, where-to) (two .1 (sym number ∙ z))),
+      )

@@ -24,7 +24,7 @@ pub struct LoadAnswer {
     pub second: u64,
 }
 
-// The answer of a report, as C has it.
+// The answer of a report or of a review call, as C has it.
 #[repr(C)]
 pub struct Figure {
     pub number: u64,
