@@ -21,7 +21,9 @@ in-row-requires : tie.Need-in-row-requires
 in-row-requires c κs =
     let a = c .before .before .before .before .before .args in
     let (sound, both) = done _ (known (c .before)) (c .if1 .left) in
-    let within = known-role (a .s .now) sound (a .other) (and-iff (among (rolesIn (a .s .now)) (a .role)) _ .0 both .1) in
+    let (first, second) = and-iff (among (rolesIn (a .s .now)) (a .role)) (among (rolesIn (a .s .now)) (a .other)) .0 both in
+    let role = known-role (a .s .now) sound (a .role) first in
+    let other = known-role (a .s .now) sound (a .other) second in
     (sound .long, omega arith, omega arith)
 
 returns-2 : tie.Need-returns-2
