@@ -44,3 +44,34 @@ impl Figure {
         Figure { number, figure: 0 }
     }
 }
+
+/// `struct monitor_counts`: all but the number are 0 on a refusal.
+#[repr(C)]
+#[derive(Clone, Copy, Debug, Default, PartialEq, Eq)]
+pub struct CountsAnswer {
+    pub number: u64,
+    pub labels: u64,
+    pub roles: u64,
+    pub users: u64,
+    pub cards: u64,
+}
+
+/// `struct monitor_session`: all but the number are 0 on a refusal.
+#[repr(C)]
+#[derive(Clone, Copy, Debug, Default, PartialEq, Eq)]
+pub struct SessionAnswer {
+    pub number: u64,
+    pub user: u64,
+    pub label: u64,
+    pub low: u64,
+    pub high: u64,
+}
+
+/// `struct monitor_set`: all but the number are 0 on a refusal.
+#[repr(C)]
+#[derive(Clone, Copy, Debug, Default, PartialEq, Eq)]
+pub struct SetAnswer {
+    pub number: u64,
+    pub low: u64,
+    pub high: u64,
+}
