@@ -1,6 +1,6 @@
 //! The C functions of include/monitor.h.
 
-use monitor_model::answer::{Figure, Verdict};
+use monitor_model::answer::{CountsAnswer, Figure, SessionAnswer, SetAnswer, Verdict};
 
 extern "C" {
     pub fn monitor_load(
@@ -41,6 +41,24 @@ extern "C" {
         state: *const u8,
         state_len: usize,
         user: u64,
+        label: u64,
+        card: u64,
+        mode: u64,
+    ) -> Figure;
+    pub fn monitor_counts_of(state: *const u8, state_len: usize) -> CountsAnswer;
+    pub fn monitor_session_at(state: *const u8, state_len: usize, place: u64) -> SessionAnswer;
+    pub fn monitor_clearance(state: *const u8, state_len: usize, user: u64) -> Figure;
+    pub fn monitor_card_label(state: *const u8, state_len: usize, card: u64) -> Figure;
+    pub fn monitor_level(state: *const u8, state_len: usize, role: u64, mode: u64) -> Figure;
+    pub fn monitor_dominates(state: *const u8, state_len: usize, a: u64, b: u64) -> Figure;
+    pub fn monitor_senior(state: *const u8, state_len: usize, r: u64, q: u64) -> Figure;
+    pub fn monitor_assigned(state: *const u8, state_len: usize, user: u64, role: u64) -> Figure;
+    pub fn monitor_takable(state: *const u8, state_len: usize, user: u64, label: u64) -> SetAnswer;
+    pub fn monitor_gives(
+        state: *const u8,
+        state_len: usize,
+        low: u64,
+        high: u64,
         label: u64,
         card: u64,
         mode: u64,

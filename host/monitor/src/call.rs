@@ -2,7 +2,8 @@
 //! library.
 
 use crate::lent::Lent;
-use crate::library::{self, Figure, Verdict};
+use crate::library::{self, CountsAnswer, Figure, SessionAnswer, SetAnswer, Verdict};
+use crate::review::Review;
 use monitor_model::{Mode, Model, Part, STATE_BYTES};
 use second_checker::random::Random;
 use std::fmt;
@@ -47,6 +48,7 @@ pub enum Call {
         card: u64,
         mode: u64,
     },
+    Review(Review),
 }
 
 /// What a call hands back.
@@ -55,6 +57,9 @@ pub enum Answer {
     Verdict(Verdict),
     Number(u64),
     Figure(Figure),
+    Counts(CountsAnswer),
+    Session(SessionAnswer),
+    Set(SetAnswer),
 }
 
 impl Answer {
@@ -63,6 +68,32 @@ impl Answer {
             Answer::Verdict(verdict) => verdict.number,
             Answer::Number(number) => number,
             Answer::Figure(figure) => figure.number,
+            Answer::Counts(counts) => counts.number,
+            Answer::Session(session) => session.number,
+            Answer::Set(set) => set.number,
+        }
+    }
+
+    /// A refusal of a call of this kind: beside the number all is 0.
+    pub fn refused(kind: Kind, number: u64) -> Answer {
+        match kind {
+            Kind::Load => Answer::Verdict(Verdict::refused(number)),
+            Kind::Open | Kind::Close | Kind::Take | Kind::Drop | Kind::Read | Kind::Write => {
+                Answer::Number(number)
+            }
+            Kind::Counts => Answer::Counts(CountsAnswer {
+                number,
+                ..CountsAnswer::default()
+            }),
+            Kind::Session => Answer::Session(SessionAnswer {
+                number,
+                ..SessionAnswer::default()
+            }),
+            Kind::Takable => Answer::Set(SetAnswer {
+                number,
+                ..SetAnswer::default()
+            }),
+            _ => Answer::Figure(Figure::refused(number)),
         }
     }
 }
@@ -80,10 +111,20 @@ pub enum Kind {
     Flows,
     Circle,
     Can,
+    Counts,
+    Session,
+    Clearance,
+    CardLabel,
+    Level,
+    Dominates,
+    Senior,
+    Assigned,
+    Takable,
+    Gives,
 }
 
 impl Kind {
-    pub const ALL: [Kind; 10] = [
+    pub const ALL: [Kind; 20] = [
         Kind::Load,
         Kind::Open,
         Kind::Close,
@@ -94,10 +135,22 @@ impl Kind {
         Kind::Flows,
         Kind::Circle,
         Kind::Can,
+        Kind::Counts,
+        Kind::Session,
+        Kind::Clearance,
+        Kind::CardLabel,
+        Kind::Level,
+        Kind::Dominates,
+        Kind::Senior,
+        Kind::Assigned,
+        Kind::Takable,
+        Kind::Gives,
     ];
 
-    /// The calls that answer with a figure.
-    pub const REPORTS: [Kind; 3] = [Kind::Flows, Kind::Circle, Kind::Can];
+    /// The review calls.
+    pub fn reviews() -> &'static [Kind] {
+        &Kind::ALL[10..]
+    }
 
     /// The numbers it can answer: 0, then in the order of its checks.
     pub fn numbers(self) -> &'static [u64] {
@@ -108,9 +161,17 @@ impl Kind {
             Kind::Take => &[0, 21, 22, 24, 25, 27, 28],
             Kind::Drop => &[0, 21, 22, 24, 25],
             Kind::Read | Kind::Write => &[0, 21, 22, 24, 25, 29, 30, 31],
-            Kind::Flows => &[0, 21, 25],
-            Kind::Circle => &[0, 21],
-            Kind::Can => &[0, 21, 25, 26],
+            Kind::Circle | Kind::Counts => &[0, 21],
+            Kind::Can | Kind::Takable => &[0, 21, 25, 26],
+            Kind::Session => &[0, 21, 22, 24],
+            Kind::Flows
+            | Kind::Clearance
+            | Kind::CardLabel
+            | Kind::Level
+            | Kind::Dominates
+            | Kind::Senior
+            | Kind::Assigned
+            | Kind::Gives => &[0, 21, 25],
         }
     }
 
@@ -126,6 +187,16 @@ impl Kind {
             Kind::Flows => "flows",
             Kind::Circle => "circle",
             Kind::Can => "can",
+            Kind::Counts => "counts",
+            Kind::Session => "session",
+            Kind::Clearance => "clearance",
+            Kind::CardLabel => "card label",
+            Kind::Level => "level",
+            Kind::Dominates => "dominates",
+            Kind::Senior => "senior",
+            Kind::Assigned => "assigned",
+            Kind::Takable => "takable",
+            Kind::Gives => "gives",
         }
     }
 
@@ -151,6 +222,7 @@ impl Call {
             Call::Flows { .. } => Kind::Flows,
             Call::Circle => Kind::Circle,
             Call::Can { .. } => Kind::Can,
+            Call::Review(review) => review.kind(),
         }
     }
 
@@ -163,6 +235,7 @@ impl Call {
             | Call::Drop { place, .. }
             | Call::Write { place, .. } => Some(place),
             Call::Read(part) => Some(part.place),
+            Call::Review(review) => review.place(),
             Call::Load { .. } | Call::Flows { .. } | Call::Circle | Call::Can { .. } => None,
         }
     }
@@ -210,6 +283,7 @@ impl Call {
                 card,
                 mode,
             } => model.granting(state, user, label, card, mode).err(),
+            Call::Review(review) => return review.on_model(model, state).number(),
         };
         refusal.unwrap_or(0)
     }
@@ -239,6 +313,7 @@ impl Call {
                 card,
                 mode,
             } => Answer::Figure(model.can(state, user, label, card, mode)),
+            Call::Review(review) => review.on_model(model, state),
         }
     }
 
@@ -293,6 +368,7 @@ impl Call {
                 card,
                 mode,
             } => Answer::Figure(library::can(state, user, label, card, mode)),
+            Call::Review(review) => review.on_library(state),
         };
         if lent.bytes() != given || !lent.canaries_unchanged() {
             return Err(format!("{self}: the bytes handed in were changed"));
@@ -334,6 +410,7 @@ impl fmt::Display for Call {
                 card,
                 mode,
             } => write!(out, "can user {user} label {label} card {card} mode {mode}"),
+            Call::Review(review) => write!(out, "{review:?}"),
         }
     }
 }

@@ -1,7 +1,10 @@
 //! Random files, numbers and calls, the same ones for the same source of
 //! numbers.
 
+pub mod review;
+
 use crate::call::{Call, Kind};
+use crate::review::Review;
 use monitor_model::{Mode, Model, Part, Policy, CARD_BYTES, PLACES, STATE_BYTES};
 use second_checker::check::REFUSALS;
 use second_checker::generate::{
@@ -235,6 +238,15 @@ impl Caller {
         (call, lending)
     }
 
+    /// A review call of this kind on this model.
+    pub fn review(&self, random: &mut Random, model: &Model, kind: Kind) -> Review {
+        let wish = random.pick(kind.numbers());
+        match self.call(random, model, kind, wish) {
+            Call::Review(review) => review,
+            call => unreachable!("{call} is no review call"),
+        }
+    }
+
     fn kind(&self, random: &mut Random, model: &Model) -> Kind {
         let open = model.open_places();
         let holding = open
@@ -247,11 +259,14 @@ impl Caller {
         if !open.is_empty() && !holding && random.percent(50) {
             return random.pick(&[Kind::Take, Kind::Take, Kind::Open]);
         }
+        if random.percent(15) {
+            return random.pick(Kind::reviews());
+        }
         match random.below(1_000) {
-            0..=99 => Kind::Load,
-            100..=219 => Kind::Open,
-            220..=289 => Kind::Close,
-            290..=469 => Kind::Take,
+            0..=114 => Kind::Load,
+            115..=229 => Kind::Open,
+            230..=294 => Kind::Close,
+            295..=469 => Kind::Take,
             470..=529 => Kind::Drop,
             530..=724 => Kind::Read,
             725..=919 => Kind::Write,
@@ -309,6 +324,7 @@ impl Caller {
                 let label = label(random, &policy, user, wish);
                 question(random, &policy, user, label, wish)
             }
+            _ => Call::Review(review::fitting(random, model, &policy, kind, wish, place)),
         }
     }
 
@@ -477,6 +493,15 @@ fn two_roles(random: &mut Random, policy: &Policy) -> Call {
     }
 }
 
+/// A mode, now and then a wild one.
+fn mode(random: &mut Random, wish: u64) -> u64 {
+    match random.below(20) {
+        0 => wild_number(random, 2),
+        1..=8 if wish == 25 => wild_number(random, 2),
+        _ => random.pick(&[1, 2]),
+    }
+}
+
 /// What a user can at a label: rather of a card that a role assigned to the
 /// user gives in this mode.
 fn question(random: &mut Random, policy: &Policy, user: u64, label: u64, wish: u64) -> Call {
@@ -550,5 +575,6 @@ pub fn any_call(random: &mut Random, kind: Kind) -> Call {
             card: number(random, cards),
             mode: number(random, 2),
         },
+        _ => Call::Review(review::any(random, kind, limits, place)),
     }
 }

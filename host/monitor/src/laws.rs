@@ -1,6 +1,7 @@
 //! What document 01 says of every call on every state, whatever the state
 //! holds.
 
+use crate::bytes;
 use crate::call::{Answer, Call, Kind};
 use monitor_model::{Part, CARD_BYTES, PLACES, STATE_BYTES};
 use second_checker::generate::LIMITS;
@@ -41,12 +42,17 @@ pub fn check(call: &Call, answer: Answer, state: Change, store: Change) -> Resul
         store,
     };
     made.number()?;
+    made.refusal()?;
     made.buffers()?;
     if let Some(part) = call.part() {
         made.part(part)?;
     }
     if let Answer::Figure(figure) = answer {
         made.figure(figure.figure)?;
+    }
+    if let Call::Review(review) = *call {
+        let expected = bytes::answer(review, state.before);
+        made.holds(answer == expected, &format!("{expected:?} by the bytes"))?;
     }
     Ok(())
 }
@@ -89,6 +95,14 @@ impl Made<'_> {
             }
             _ => Ok(()),
         }
+    }
+
+    /// A refusal tells nothing but its number; a load's has a place.
+    fn refusal(&self) -> Result<(), String> {
+        let (kind, number) = (self.call.kind(), self.answer.number());
+        let told = self.answer != Answer::refused(kind, number);
+        let may_tell = number == 0 || kind == Kind::Load;
+        self.holds(may_tell || !told, "a refusal tells nothing else")
     }
 
     /// "Every refusal leaves state, store and any other lent buffer unchanged,
@@ -138,7 +152,6 @@ impl Made<'_> {
     /// A report's figure is one that it can have.
     fn figure(&self, figure: u64) -> Result<(), String> {
         let number = self.answer.number();
-        self.holds(number == 0 || figure == 0, "a refusal's figure is 0")?;
         match *self.call {
             Call::Flows { from, to } => {
                 self.holds(figure <= 1, "a flow's figure is 0 or 1")?;
@@ -157,7 +170,8 @@ impl Made<'_> {
                 let in_range = within(&[user, label, card, mode], &most);
                 self.holds(![0, 26].contains(&number) || in_range, "25 comes first")
             }
-            _ => self.holds(figure <= MOST_ROLES, "a role on the circle"),
+            Call::Circle => self.holds(figure <= MOST_ROLES, "a role on the circle"),
+            _ => Ok(()),
         }
     }
 }

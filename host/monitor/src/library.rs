@@ -4,7 +4,7 @@
 //! pointer to const: a library that writes there all the same is then seen by
 //! a comparison.
 
-pub use monitor_model::answer::{Figure, Verdict};
+pub use monitor_model::answer::{CountsAnswer, Figure, SessionAnswer, SetAnswer, Verdict};
 
 use crate::c;
 
@@ -93,4 +93,51 @@ pub fn circle(state: &mut [u8]) -> Figure {
 
 pub fn can(state: &mut [u8], user: u64, label: u64, card: u64, mode: u64) -> Figure {
     unsafe { c::monitor_can(state.as_mut_ptr(), state.len(), user, label, card, mode) }
+}
+
+pub fn counts_of(state: &mut [u8]) -> CountsAnswer {
+    unsafe { c::monitor_counts_of(state.as_mut_ptr(), state.len()) }
+}
+
+pub fn session_at(state: &mut [u8], place: u64) -> SessionAnswer {
+    unsafe { c::monitor_session_at(state.as_mut_ptr(), state.len(), place) }
+}
+
+pub fn clearance(state: &mut [u8], user: u64) -> Figure {
+    unsafe { c::monitor_clearance(state.as_mut_ptr(), state.len(), user) }
+}
+
+pub fn card_label(state: &mut [u8], card: u64) -> Figure {
+    unsafe { c::monitor_card_label(state.as_mut_ptr(), state.len(), card) }
+}
+
+pub fn level(state: &mut [u8], role: u64, mode: u64) -> Figure {
+    unsafe { c::monitor_level(state.as_mut_ptr(), state.len(), role, mode) }
+}
+
+pub fn dominates(state: &mut [u8], a: u64, b: u64) -> Figure {
+    unsafe { c::monitor_dominates(state.as_mut_ptr(), state.len(), a, b) }
+}
+
+pub fn senior(state: &mut [u8], r: u64, q: u64) -> Figure {
+    unsafe { c::monitor_senior(state.as_mut_ptr(), state.len(), r, q) }
+}
+
+pub fn assigned(state: &mut [u8], user: u64, role: u64) -> Figure {
+    unsafe { c::monitor_assigned(state.as_mut_ptr(), state.len(), user, role) }
+}
+
+pub fn takable(state: &mut [u8], user: u64, label: u64) -> SetAnswer {
+    unsafe { c::monitor_takable(state.as_mut_ptr(), state.len(), user, label) }
+}
+
+pub fn gives(
+    state: &mut [u8],
+    (low, high): (u64, u64),
+    label: u64,
+    card: u64,
+    mode: u64,
+) -> Figure {
+    let (bytes, length) = (state.as_mut_ptr(), state.len());
+    unsafe { c::monitor_gives(bytes, length, low, high, label, card, mode) }
 }

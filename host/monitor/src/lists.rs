@@ -4,6 +4,7 @@ use crate::call::{Answer, Call, Kind};
 use crate::generate::{accepted_file, reading, Caller, Lending, LentState};
 use crate::lent::Lent;
 use crate::library;
+use crate::outcome::{outcome, outcomes};
 use monitor_model::{Model, CARD_BYTES, PLACES, STATE_BYTES};
 use second_checker::check::Counts;
 use second_checker::differential::{add_counts, Totals};
@@ -21,8 +22,8 @@ const WANTED: [u64; 13] = [0, 7, 21, 22, 23, 24, 25, 26, 27, 28, 29, 30, 31];
 #[derive(Default)]
 pub struct Tally {
     numbers: BTreeMap<(Kind, u64), u64>,
-    /// Of each report, how often its figure was above 0.
-    figures: BTreeMap<Kind, u64>,
+    /// Of reports and review calls, how often an answer told what.
+    told: BTreeMap<(Kind, &'static str), u64>,
     lists: u64,
     /// Calls made to look at a state from outside, not counted above.
     surveyed: u64,
@@ -31,29 +32,54 @@ pub struct Tally {
 impl Tally {
     fn count(&mut self, kind: Kind, answer: Answer) {
         *self.numbers.entry((kind, answer.number())).or_default() += 1;
-        if let Answer::Figure(figure) = answer {
-            *self.figures.entry(kind).or_default() += u64::from(figure.figure > 0);
+        if let Some(outcome) = outcome(kind, answer) {
+            *self.told.entry((kind, outcome)).or_default() += 1;
         }
     }
 
     fn seen(&self, number: u64) -> u64 {
-        Kind::ALL
+        self.seen_by(&Kind::ALL, number)
+    }
+
+    fn seen_by(&self, kinds: &[Kind], number: u64) -> u64 {
+        kinds
             .iter()
             .filter_map(|&kind| self.numbers.get(&(kind, number)))
             .sum()
+    }
+
+    /// A column for each of these calls, below the heading and then a row for
+    /// each number.
+    fn add_columns(&self, table: &mut String, kinds: &[Kind]) {
+        for kind in kinds {
+            table.push_str(&format!("{:>11}", kind.name()));
+        }
+        for number in 0..=31 {
+            let seen = self.seen_by(kinds, number);
+            if seen == 0 {
+                continue;
+            }
+            table.push_str(&format!("\n{number:>6} {seen:>8}"));
+            for &kind in kinds {
+                match self.numbers.get(&(kind, number)) {
+                    Some(count) => table.push_str(&format!("{count:>11}")),
+                    None => table.push_str("          ."),
+                }
+            }
+        }
     }
 }
 
 impl Totals for Tally {
     fn add(&mut self, other: Tally) {
         add_counts(&mut self.numbers, other.numbers);
-        add_counts(&mut self.figures, other.figures);
+        add_counts(&mut self.told, other.told);
         self.lists += other.lists;
         self.surveyed += other.surveyed;
     }
 
     /// Of each number that must be seen, of each number of each call but a load's
-    /// numbers about the file, and of each report's figure above 0.
+    /// numbers about the file, and of all that reports and review calls tell.
     fn unseen(&self) -> Vec<String> {
         let mut unseen: Vec<String> = WANTED
             .into_iter()
@@ -67,9 +93,11 @@ impl Totals for Tally {
                 }
             }
         }
-        for kind in Kind::REPORTS {
-            if self.figures.get(&kind).is_none_or(|&count| count == 0) {
-                unseen.push(format!("{} above 0", kind.name()));
+        for kind in Kind::ALL {
+            for &outcome in outcomes(kind) {
+                if !self.told.contains_key(&(kind, outcome)) {
+                    unseen.push(format!("{} {outcome}", kind.name()));
+                }
             }
         }
         unseen
@@ -84,24 +112,11 @@ impl Totals for Tally {
             self.numbers.values().sum::<u64>(),
             self.surveyed
         );
-        for kind in Kind::ALL {
-            table.push_str(&format!("{:>9}", kind.name()));
-        }
-        for number in 0..=31 {
-            if self.seen(number) == 0 && !WANTED.contains(&number) {
-                continue;
-            }
-            table.push_str(&format!("\n{number:>6} {:>8}", self.seen(number)));
-            for kind in Kind::ALL {
-                match self.numbers.get(&(kind, number)) {
-                    Some(count) => table.push_str(&format!("{count:>9}")),
-                    None => table.push_str("        ."),
-                }
-            }
-        }
-        table.push_str("\nfigure above 0:");
-        for (kind, count) in &self.figures {
-            table.push_str(&format!(" {count} {}", kind.name()));
+        self.add_columns(&mut table, &Kind::ALL[..10]);
+        table.push_str("\nnumber    calls");
+        self.add_columns(&mut table, Kind::reviews());
+        for ((kind, outcome), count) in &self.told {
+            table.push_str(&format!("\n{count:>9} {} {outcome}", kind.name()));
         }
         table
     }

@@ -5,7 +5,7 @@ use monitor_tests::c;
 use monitor_tests::call::{Answer, Call, Kind};
 use monitor_tests::generate::{accepted_file, any_call, Caller, LentState};
 use monitor_tests::lent::Lent;
-use monitor_tests::library::{self, Figure, Verdict};
+use monitor_tests::library::{self, CountsAnswer, Figure, SessionAnswer, SetAnswer, Verdict};
 use monitor_tests::loaded::Loaded;
 use second_checker::example::EXAMPLE;
 use second_checker::random::Random;
@@ -36,11 +36,8 @@ fn short_states() {
                 let answer = call
                     .on_library(state.bytes_mut(), store.bytes_mut(), random)
                     .unwrap();
-                let expected = match kind {
-                    Kind::Load => Answer::Verdict(Verdict::refused(7)),
-                    kind if Kind::REPORTS.contains(&kind) => Answer::Figure(Figure::refused(21)),
-                    _ => Answer::Number(21),
-                };
+                let number = if kind == Kind::Load { 7 } else { 21 };
+                let expected = Answer::refused(kind, number);
                 assert_eq!(answer, expected, "{call} with {length} bytes");
                 assert!(state.bytes() == &whole[..length] && state.canaries_unchanged());
                 assert!(store.bytes() == [7; 128] && store.canaries_unchanged());
@@ -63,10 +60,8 @@ fn zeroed_states() {
                 let answer = call
                     .on_library(state.bytes_mut(), store.bytes_mut(), random)
                     .unwrap();
-                assert_eq!(answer.number(), 21, "{call} with {length} zeros");
-                if let Answer::Figure(figure) = answer {
-                    assert_eq!(figure.figure, 0);
-                }
+                let expected = Answer::refused(kind, 21);
+                assert_eq!(answer, expected, "{call} with {length} zeros");
                 assert!(state.bytes() == zeros && state.canaries_unchanged());
                 assert!(store.bytes() == [7; 32_768] && store.canaries_unchanged());
             }
@@ -131,6 +126,7 @@ fn null_with_length_0() {
         assert_eq!(number, 21);
         assert_eq!(c::monitor_flows(null(), 0, 1, 2), figure(21));
         assert_eq!(c::monitor_circle(null(), 0), figure(21));
+        review_null();
         // No file: "1: length 0".
         assert_eq!(c::monitor_load(null(), 0, state_bytes, all), verdict(1));
         // No store.
@@ -148,6 +144,36 @@ fn null_with_length_0() {
         }
     }
     assert!(state == before && store == [9; 128]);
+}
+
+/// The review calls without a state: 21, and all else 0.
+fn review_null() {
+    let (number, none) = (21, null());
+    let counts = CountsAnswer {
+        number,
+        ..CountsAnswer::default()
+    };
+    let session = SessionAnswer {
+        number,
+        ..SessionAnswer::default()
+    };
+    let set = SetAnswer {
+        number,
+        ..SetAnswer::default()
+    };
+    let figure = Figure::refused(number);
+    unsafe {
+        assert_eq!(c::monitor_counts_of(none, 0), counts);
+        assert_eq!(c::monitor_session_at(none, 0, 1), session);
+        assert_eq!(c::monitor_clearance(none, 0, 1), figure);
+        assert_eq!(c::monitor_card_label(none, 0, 1), figure);
+        assert_eq!(c::monitor_level(none, 0, 1, 1), figure);
+        assert_eq!(c::monitor_dominates(none, 0, 1, 1), figure);
+        assert_eq!(c::monitor_senior(none, 0, 1, 1), figure);
+        assert_eq!(c::monitor_assigned(none, 0, 1, 1), figure);
+        assert_eq!(c::monitor_takable(none, 0, 1, 1), set);
+        assert_eq!(c::monitor_gives(none, 0, 1, 0, 1, 1, 1), figure);
+    }
 }
 
 /// "State is 65,536 lent bytes, the first ones where more are lent": the same

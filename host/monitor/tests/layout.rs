@@ -3,92 +3,18 @@
 
 use monitor_model::{Model, Policy, STATE_BYTES};
 use monitor_tests::generate::{accepted_file, Caller};
+use monitor_tests::layout::{
+    named, tables, Table, ASSIGNED, CARD_LABELS, CLEARANCES, COUNTS, DOMINANCE, FILLED, PLACES,
+    READERS, READ_LEVELS, SENIORS, WRITERS, WRITE_LEVELS,
+};
 use monitor_tests::library::{self, Verdict};
 use monitor_tests::lists::{first_difference, List, Tally};
 use second_checker::check::Level;
 use second_checker::example::{EXAMPLE, TWO_MAKERS};
 use second_checker::generate::{accepted, write, Size};
 use second_checker::random::Random;
-use std::ops::Range;
 
 const DOCUMENT: &str = include_str!("../../../docs/LAYOUT.md");
-
-/// A row of the document's table.
-struct Table {
-    from: usize,
-    entries: usize,
-    /// Of an entry.
-    bytes: usize,
-    /// The document's words, as many as name it.
-    holds: &'static str,
-}
-
-const fn table(from: usize, entries: usize, bytes: usize, holds: &'static str) -> Table {
-    Table {
-        from,
-        entries,
-        bytes,
-        holds,
-    }
-}
-
-impl Table {
-    /// Where in the state it stands.
-    fn range(&self) -> Range<usize> {
-        self.from..self.from + self.entries * self.bytes
-    }
-}
-
-const COUNTS: Table = table(0, 4, 2, "the counts");
-const DOMINANCE: Table = table(16, 32, 32, "dominance");
-const CLEARANCES: Table = table(1_040, 256, 1, "clearance of each user");
-const CARD_LABELS: Table = table(1_296, 512, 1, "label of each card");
-const READ_LEVELS: Table = table(1_808, 128, 1, "r-level of each role");
-const WRITE_LEVELS: Table = table(1_936, 128, 1, "w-level of each role");
-const SENIORS: Table = table(2_064, 128, 16, "seniors of each role");
-const ASSIGNED: Table = table(4_112, 256, 16, "assigned roles of each user");
-const ADMINISTERED: Table = table(8_208, 256, 16, "kept for administered roles");
-const READERS: Table = table(12_304, 512, 16, "roles that may read each card");
-const WRITERS: Table = table(20_496, 512, 16, "roles that may write each card");
-const THIRD_MODE: Table = table(28_688, 512, 16, "kept for a third mode");
-const OWN_LINES: Table = table(36_880, 3 * 512, 16, "kept for the permissions");
-const PLACES: Table = table(61_456, 64, 20, "places");
-const UNUSED: Table = table(62_736, 2_800, 1, "unused");
-
-/// What is not 0 after a load.
-const FILLED: [&Table; 10] = [
-    &COUNTS,
-    &DOMINANCE,
-    &CLEARANCES,
-    &CARD_LABELS,
-    &READ_LEVELS,
-    &WRITE_LEVELS,
-    &SENIORS,
-    &ASSIGNED,
-    &READERS,
-    &WRITERS,
-];
-
-/// What is 0 after a load.
-const EMPTY: [&Table; 5] = [&ADMINISTERED, &THIRD_MODE, &OWN_LINES, &PLACES, &UNUSED];
-
-/// All rows, as the document has them.
-fn tables() -> Vec<&'static Table> {
-    let mut tables = [&FILLED[..], &EMPTY[..]].concat();
-    tables.sort_by_key(|table| table.from);
-    tables
-}
-
-/// A byte of the state by its table and entry; entries are numbered from 1.
-fn named(at: usize) -> String {
-    let tables = tables();
-    let Some(table) = tables.iter().find(|table| table.range().contains(&at)) else {
-        return format!("byte {at}, of no table");
-    };
-    let inside = at - table.from;
-    let (entry, byte) = (inside / table.bytes + 1, inside % table.bytes);
-    format!("byte {at}: {}, entry {entry}, byte {byte}", table.holds)
-}
 
 // ---------------------------------------------------------------------------
 // The bytes that the document says
@@ -108,8 +34,7 @@ impl Expected {
     }
 
     fn entry(&mut self, table: &Table, number: usize) -> &mut [u8] {
-        let start = table.from + table.bytes * (number - 1);
-        &mut self.0[start..start + table.bytes]
+        &mut self.0[table.entry(number)]
     }
 
     fn put_counts_and_labels(&mut self, policy: &Policy) {

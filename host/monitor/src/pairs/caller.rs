@@ -90,9 +90,7 @@ impl Caller<'_> {
                 let span = span(random);
                 writing(random, place, card, span)
             }
-            Kind::Load | Kind::Flows | Kind::Circle | Kind::Can => {
-                unreachable!("stands in no run")
-            }
+            _ => unreachable!("a {} stands in no run", kind.name()),
         }
     }
 
