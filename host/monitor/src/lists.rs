@@ -4,12 +4,11 @@ use crate::call::{Answer, Call, Kind};
 use crate::generate::{accepted_file, reading, Caller, Lending, LentState};
 use crate::lent::Lent;
 use crate::library;
-use crate::outcome::{outcome, outcomes};
+use crate::outcome::Seen;
 use monitor_model::{Model, CARD_BYTES, PLACES, STATE_BYTES};
 use second_checker::check::Counts;
-use second_checker::differential::{add_counts, Totals};
+use second_checker::differential::Totals;
 use second_checker::random::Random;
-use std::collections::BTreeMap;
 
 /// How many calls a list has, its first load included.
 pub const CALLS: usize = 200;
@@ -21,59 +20,15 @@ const WANTED: [u64; 13] = [0, 7, 21, 22, 23, 24, 25, 26, 27, 28, 29, 30, 31];
 /// How often each number was seen.
 #[derive(Default)]
 pub struct Tally {
-    numbers: BTreeMap<(Kind, u64), u64>,
-    /// Of reports and review calls, how often an answer told what.
-    told: BTreeMap<(Kind, &'static str), u64>,
+    seen: Seen,
     lists: u64,
     /// Calls made to look at a state from outside, not counted above.
     surveyed: u64,
 }
 
-impl Tally {
-    fn count(&mut self, kind: Kind, answer: Answer) {
-        *self.numbers.entry((kind, answer.number())).or_default() += 1;
-        if let Some(outcome) = outcome(kind, answer) {
-            *self.told.entry((kind, outcome)).or_default() += 1;
-        }
-    }
-
-    fn seen(&self, number: u64) -> u64 {
-        self.seen_by(&Kind::ALL, number)
-    }
-
-    fn seen_by(&self, kinds: &[Kind], number: u64) -> u64 {
-        kinds
-            .iter()
-            .filter_map(|&kind| self.numbers.get(&(kind, number)))
-            .sum()
-    }
-
-    /// A column for each of these calls, below the heading and then a row for
-    /// each number.
-    fn add_columns(&self, table: &mut String, kinds: &[Kind]) {
-        for kind in kinds {
-            table.push_str(&format!("{:>11}", kind.name()));
-        }
-        for number in 0..=31 {
-            let seen = self.seen_by(kinds, number);
-            if seen == 0 {
-                continue;
-            }
-            table.push_str(&format!("\n{number:>6} {seen:>8}"));
-            for &kind in kinds {
-                match self.numbers.get(&(kind, number)) {
-                    Some(count) => table.push_str(&format!("{count:>11}")),
-                    None => table.push_str("          ."),
-                }
-            }
-        }
-    }
-}
-
 impl Totals for Tally {
     fn add(&mut self, other: Tally) {
-        add_counts(&mut self.numbers, other.numbers);
-        add_counts(&mut self.told, other.told);
+        self.seen.add(other.seen);
         self.lists += other.lists;
         self.surveyed += other.surveyed;
     }
@@ -83,42 +38,32 @@ impl Totals for Tally {
     fn unseen(&self) -> Vec<String> {
         let mut unseen: Vec<String> = WANTED
             .into_iter()
-            .filter(|&number| self.seen(number) == 0)
+            .filter(|&number| self.seen.number(&Kind::ALL, number) == 0)
             .map(|number| format!("number {number}"))
             .collect();
         for kind in Kind::ALL {
             for &number in kind.numbers() {
-                if WANTED.contains(&number) && !self.numbers.contains_key(&(kind, number)) {
+                if WANTED.contains(&number) && self.seen.number(&[kind], number) == 0 {
                     unseen.push(format!("{} {number}", kind.name()));
                 }
             }
         }
-        for kind in Kind::ALL {
-            for &outcome in outcomes(kind) {
-                if !self.told.contains_key(&(kind, outcome)) {
-                    unseen.push(format!("{} {outcome}", kind.name()));
-                }
-            }
-        }
+        unseen.extend(self.seen.rarely_told(&Kind::ALL, 1));
         unseen
     }
 
     /// The counts, a row for each number and a column for each call.
     fn table(&self) -> String {
-        let mut table = format!(
-            "library: {}\n{} lists, {} calls, {} more to survey states\nnumber    calls",
+        format!(
+            "library: {}\n{} lists, {} calls, {} more to survey states\n{}\n{}{}",
             library::UNDER_TEST,
             self.lists,
-            self.numbers.values().sum::<u64>(),
-            self.surveyed
-        );
-        self.add_columns(&mut table, &Kind::ALL[..10]);
-        table.push_str("\nnumber    calls");
-        self.add_columns(&mut table, Kind::reviews());
-        for ((kind, outcome), count) in &self.told {
-            table.push_str(&format!("\n{count:>9} {} {outcome}", kind.name()));
-        }
-        table
+            self.seen.numbers.values().sum::<u64>(),
+            self.surveyed,
+            self.seen.columns(&Kind::ALL[..10]),
+            self.seen.columns(Kind::reviews()),
+            self.seen.lines(),
+        )
     }
 }
 
@@ -180,7 +125,7 @@ impl List {
         if answer != expected {
             return Err(format!("load: expected {expected:?}, got {answer:?}"));
         }
-        tally.count(Kind::Load, answer);
+        tally.seen.count(Kind::Load, answer);
         let counts = match model.policy() {
             Some(policy) => policy.counts,
             None => return Err("the generator's file was refused".to_string()),
@@ -213,7 +158,7 @@ impl List {
         let expected = self.expect(&call, lending);
         let answer = self.ask(&call, lending, random)?;
         trace(&format!("{call}, lent {lending:?}: {answer:?}"));
-        tally.count(call.kind(), answer);
+        tally.seen.count(call.kind(), answer);
 
         if answer != expected {
             return Err(format!(

@@ -103,8 +103,8 @@ fn drawn(random: &mut Random, kind: Kind, limits: &[usize]) -> Vec<Review> {
     calls
 }
 
-/// A state that a load and random session calls left: of every fourth file
-/// a full one, and every second with many roles held.
+/// A state that a load and random session calls left. Every fourth file is a full
+/// one; every second state has many roles held.
 pub fn used(random: &mut Random) -> Loaded {
     let file = match random.below(4) {
         0 => write(&accepted(random, Size::Full)),
