@@ -71,6 +71,14 @@ uint64_t next_number(struct input *input, uint64_t limit)
     return number % (limit + 2);
 }
 
+uint64_t next_set(struct input *input)
+{
+    uint64_t byte = next_byte(input);
+    if (byte < 64)
+        return (uint64_t)1 << byte;
+    return (byte - 64) * 0x0101010101010101;
+}
+
 uint64_t next_place(struct input *input)
 {
     if (input->left > 0 && *input->at < 200)

@@ -29,6 +29,10 @@ uint32_t next_pair(struct input *input);
  * two bytes where the limit asks for them. */
 uint64_t next_number(struct input *input, uint64_t limit);
 
+/* Half a set of roles by one byte: a single role, or the byte's bits again and
+ * again. */
+uint64_t next_set(struct input *input);
+
 /* One of the first places mostly, so that sessions are met again. */
 uint64_t next_place(struct input *input);
 

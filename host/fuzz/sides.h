@@ -1,5 +1,6 @@
 /* The functions of monitor.h twice: from the build with AddressSanitizer and
- * coverage, and from the archive as it is shipped, renamed. */
+ * coverage, and from the archive as it is shipped, renamed. review.c has the
+ * review calls. */
 #ifndef SIDES_H
 #define SIDES_H
 

@@ -2,6 +2,7 @@
  * on the model. Any difference ends the program. */
 #include "input.h"
 #include "model.h"
+#include "review.h"
 #include "sides.h"
 
 #include <stdio.h>
@@ -9,9 +10,6 @@
 #include <string.h>
 
 #define MOST_WRITE 256
-
-/* The calls, by the numbers that the model knows them by. */
-enum kind { LOAD, OPEN, CLOSE, TAKE, DROP, READ, WRITE, FLOWS, CIRCLE, SPOIL, CAN, KINDS };
 
 struct run {
     struct input input;
@@ -110,39 +108,44 @@ static void load(struct run *run, unsigned lending, unsigned changes)
         fit_store(run);
 }
 
+static struct answer only(uint64_t number)
+{
+    return (struct answer){number, {0}};
+}
+
 /* One call on one side, with this state and store. */
-static struct monitor_figure ask(enum side side, enum kind kind,
-                                 struct lent state, struct lent store,
-                                 const struct numbers *n, struct lent bytes)
+static struct answer ask(enum side side, enum kind kind, struct lent state,
+                         struct lent store, const struct numbers *n,
+                         struct lent bytes)
 {
     uint8_t *s = state.bytes;
     size_t l = state.length;
     switch (kind) {
     case OPEN:
-        return (struct monitor_figure){
-            open_of[side](s, l, n->first, n->second, n->third), 0};
+        return only(open_of[side](s, l, n->first, n->second, n->third));
     case CLOSE:
-        return (struct monitor_figure){close_of[side](s, l, n->first), 0};
+        return only(close_of[side](s, l, n->first));
     case TAKE:
-        return (struct monitor_figure){
-            take_of[side](s, l, n->first, n->second), 0};
+        return only(take_of[side](s, l, n->first, n->second));
     case DROP:
-        return (struct monitor_figure){
-            drop_of[side](s, l, n->first, n->second), 0};
+        return only(drop_of[side](s, l, n->first, n->second));
     case READ:
-        return (struct monitor_figure){
-            read_number_of[side](s, l, store.bytes, store.length, n->first,
-                                 n->second, n->third, n->fourth), 0};
+        return only(read_number_of[side](s, l, store.bytes, store.length,
+                                         n->first, n->second, n->third,
+                                         n->fourth));
     case WRITE:
-        return (struct monitor_figure){
-            write_of[side](s, l, store.bytes, store.length, n->first,
-                           n->second, n->third, bytes.bytes, bytes.length), 0};
+        return only(write_of[side](s, l, store.bytes, store.length, n->first,
+                                   n->second, n->third, bytes.bytes,
+                                   bytes.length));
     case FLOWS:
-        return flows_of[side](s, l, n->first, n->second);
+        return of_figure(flows_of[side](s, l, n->first, n->second));
+    case CIRCLE:
+        return of_figure(circle_of[side](s, l));
     case CAN:
-        return can_of[side](s, l, n->first, n->second, n->third, n->fourth);
+        return of_figure(
+            can_of[side](s, l, n->first, n->second, n->third, n->fourth));
     default:
-        return circle_of[side](s, l);
+        return review(side, kind, state, n);
     }
 }
 
@@ -159,11 +162,20 @@ static struct numbers next_numbers(struct run *run, enum kind kind)
         [WRITE] = {PLACE, CARD, SPAN, SPAN},
         [FLOWS] = {ROLE, ROLE},
         [CAN] = {USER, LABEL, CARD, MODE},
+        [SESSION] = {PLACE},
+        [CLEARANCE] = {USER},
+        [CARD_LABEL] = {CARD},
+        [LEVEL] = {ROLE, MODE},
+        [DOMINATES] = {LABEL, LABEL},
+        [SENIOR] = {ROLE, ROLE},
+        [ASSIGNED] = {USER, ROLE},
+        [TAKABLE] = {USER, LABEL},
+        [GIVES] = {LABEL, CARD, MODE},
     };
     struct model_counts counts = model_counts(run->model);
     const uint64_t limits[] = {0, counts.labels, counts.roles, counts.users,
                                counts.cards, MONITOR_CARD_BYTES, 2};
-    struct numbers n = {0, 0, 0, 0};
+    struct numbers n = {0};
     uint64_t *fields[] = {&n.first, &n.second, &n.third, &n.fourth};
     for (unsigned at = 0; at < 4 && meanings[kind][at] != NONE; at++) {
         unsigned meaning = meanings[kind][at];
@@ -173,6 +185,10 @@ static struct numbers next_numbers(struct run *run, enum kind kind)
     }
     if (kind == WRITE)
         n.fourth %= MOST_WRITE;
+    if (kind == GIVES) {
+        n.low = next_set(&run->input);
+        n.high = next_set(&run->input);
+    }
     return n;
 }
 
@@ -188,9 +204,11 @@ static void call_unusable(const struct run *run, enum kind kind,
     struct lent none = {NULL, 0};
     for (enum side side = 0; side < SIDES; side++) {
         struct lent state = lend(side, OTHER_STATE, content, length);
-        struct monitor_figure answer =
+        struct answer answer =
             ask(side, kind, state, run->store[side], numbers, none);
-        same(answer.number == 21 && answer.figure == 0, "unusable state", side);
+        const struct answer refused = {21, {0}};
+        same(memcmp(&answer, &refused, sizeof answer) == 0, "unusable state",
+             side);
         same(memcmp(state.bytes, content, length) == 0, "unusable state's bytes",
              side);
         give_back(side, state);
@@ -199,16 +217,15 @@ static void call_unusable(const struct run *run, enum kind kind,
 
 /* What the call must answer: as the model, or as the instrumented side where
  * the state was spoiled. A done write then has its bytes in both stores. */
-static struct monitor_figure wanted(struct run *run, enum kind kind,
-                                    const struct numbers *numbers,
-                                    uint8_t value, struct lent bytes)
+static struct answer wanted(struct run *run, enum kind kind,
+                            const struct numbers *numbers, uint8_t value,
+                            struct lent bytes)
 {
     if (!run->spoiled)
         return model_call(run->model, kind, MONITOR_STATE_BYTES, run->cards,
                           run->cards_length, numbers, value);
-    struct monitor_figure answer =
-        ask(INSTRUMENTED, kind, run->state[INSTRUMENTED],
-            run->store[INSTRUMENTED], numbers, bytes);
+    struct answer answer = ask(INSTRUMENTED, kind, run->state[INSTRUMENTED],
+                               run->store[INSTRUMENTED], numbers, bytes);
     memcpy(run->cards, run->store[INSTRUMENTED].bytes, run->cards_length);
     return answer;
 }
@@ -227,13 +244,14 @@ static void call(struct run *run, enum kind kind, unsigned lending)
     struct lent bytes[SIDES];
     for (enum side side = 0; side < SIDES; side++)
         bytes[side] = lend(side, BYTES_SLOT, content, length);
-    struct monitor_figure answer =
+    struct answer answer =
         wanted(run, kind, &numbers, value, bytes[INSTRUMENTED]);
     for (enum side side = run->spoiled ? SHIPPED : INSTRUMENTED; side < SIDES; side++) {
-        struct monitor_figure got = ask(side, kind, run->state[side],
-                                        run->store[side], &numbers, bytes[side]);
+        struct answer got = ask(side, kind, run->state[side], run->store[side],
+                                &numbers, bytes[side]);
         same(got.number == answer.number, "number", side);
-        same(got.figure == answer.figure, "figure", side);
+        same(memcmp(got.told, answer.told, sizeof got.told) == 0,
+             "what is told", side);
     }
     for (enum side side = 0; side < SIDES; side++) {
         same(memcmp(bytes[side].bytes, content, length) == 0, "bytes", side);
