@@ -1,6 +1,6 @@
 //! The rows of session calls and reports.
 
-use crate::cases::{Case, CASES, FLOWING};
+use crate::cases::{Case, CASES, FLOWING, REVIEW};
 use crate::files::{flowing, largest};
 use crate::table::Row;
 use crate::timing::{Three, Times};
@@ -54,6 +54,19 @@ pub fn report(rounds: usize) {
         "aims: 20 ns for read number and write, 50 ns for other calls, ratio {RATIO_AIM}; \
          of {} calls, {} miss the time and {} the ratio",
         CASES.len() + FLOWING.len(),
+        missed.time,
+        missed.ratio,
+    );
+}
+
+/// The same for the review calls.
+pub fn report_review(rounds: usize) {
+    println!("review calls at the largest counts, a call");
+    let mut missed = Missed::default();
+    report_cases(REVIEW, &largest(), rounds, &mut missed);
+    println!(
+        "aims: 50 ns, ratio {RATIO_AIM}; of {} calls, {} miss the time and {} the ratio",
+        REVIEW.len(),
         missed.time,
         missed.ratio,
     );

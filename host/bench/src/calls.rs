@@ -1,6 +1,7 @@
 //! Batches of calls of one kind.
 
-use crate::monitor::{Figure, Monitor};
+use crate::monitor::Monitor;
+use crate::review::{self, in_one};
 use std::hint::black_box;
 
 /// What a batch calls. A kind of two calls makes the first at 64 places, then the second at the
@@ -17,6 +18,16 @@ pub enum Kind {
     Write,
     Flows,
     Circle,
+    Counts,
+    Session,
+    Clearance,
+    CardLabel,
+    Level,
+    Dominates,
+    Senior,
+    Assigned,
+    Takable,
+    Gives,
 }
 
 impl Kind {
@@ -44,14 +55,9 @@ pub type Arguments = [u16; 4];
 const BYTES: [u8; 64] = *b"the quick brown fox jumps over the lazy dog, and the dog sleeps.";
 
 /// The sum of the answers.
-fn sum(batch: &[Arguments], mut answer: impl FnMut([u64; 4]) -> u64) -> u64 {
+pub fn sum(batch: &[Arguments], mut answer: impl FnMut([u64; 4]) -> u64) -> u64 {
     let answers = batch.iter().map(|call| answer(call.map(u64::from)));
     answers.sum()
-}
-
-/// The number and the figure in one: a refusal has the figure 0.
-fn in_one(report: Figure) -> u64 {
-    report.number + report.figure
 }
 
 /// Makes two calls at 64 places each time.
@@ -80,5 +86,6 @@ pub fn run<M: Monitor>(m: &mut M, kind: Kind, batch: &[Arguments]) -> u64 {
         }),
         Kind::Flows => sum(batch, |[from, to, ..]| in_one(m.flows(from, to))),
         Kind::Circle => sum(batch, |_| in_one(m.circle())),
+        _ => review::run(m, kind, batch),
     }
 }

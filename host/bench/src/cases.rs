@@ -82,6 +82,30 @@ pub const FLOWING: &[Case] = &[
     case("circle", Empty, Kind::Circle, 17, Draw::two_roles),
 ];
 
+/// Of the review calls, at the largest counts. The answer of counts is their sum, of a session its
+/// label, of takable how many roles.
+#[rustfmt::skip]
+pub const REVIEW: &[Case] = &[
+    case("counts", Empty, Kind::Counts, 928, Draw::place_only),
+    case("session", Holding(1), Kind::Session, 29, Draw::place_only),
+    case("session", Holding(128), Kind::Session, 29, Draw::place_only),
+    case("session", Empty, Kind::Session, 24, Draw::place_only),
+    case("clearance", Empty, Kind::Clearance, 29, Draw::user),
+    case("card label", Empty, Kind::CardLabel, 5, Draw::card),
+    case("r-level or w-level", Empty, Kind::Level, 29, Draw::level),
+    case("dominates", Empty, Kind::Dominates, 1, Draw::two_labels),
+    case("dominates", Empty, Kind::Dominates, 0, Draw::two_labels),
+    case("senior", Empty, Kind::Senior, 1, Draw::two_roles),
+    case("senior", Empty, Kind::Senior, 0, Draw::two_roles),
+    case("assigned", Empty, Kind::Assigned, 1, Draw::user_and_role),
+    case("assigned", Empty, Kind::Assigned, 0, Draw::user_and_role),
+    case("takable", Empty, Kind::Takable, 128, Draw::user_at_29),
+    case("takable", Empty, Kind::Takable, 65, Draw::user_at_29),
+    case("takable", Empty, Kind::Takable, 26, Draw::user_above),
+    case("gives", Empty, Kind::Gives, 1, Draw::giving),
+    case("gives", Empty, Kind::Gives, 0, Draw::giving),
+];
+
 impl Case {
     /// The arguments drawn that get the answer.
     pub fn batch(&self, file: &RoleFile) -> Vec<Arguments> {

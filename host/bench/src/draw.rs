@@ -101,6 +101,53 @@ impl Draw {
         ]
     }
 
+    pub fn user(&mut self) -> Arguments {
+        [self.between(1, self.users), 0, 0, 0]
+    }
+
+    pub fn card(&mut self) -> Arguments {
+        [self.between(1, self.cards), 0, 0, 0]
+    }
+
+    /// A role and a mode.
+    pub fn level(&mut self) -> Arguments {
+        [self.between(1, self.roles), self.between(1, 2), 0, 0]
+    }
+
+    pub fn two_labels(&mut self) -> Arguments {
+        [self.between(1, 32), self.between(1, 32), 0, 0]
+    }
+
+    pub fn user_and_role(&mut self) -> Arguments {
+        [
+            self.between(1, self.users),
+            self.between(1, self.roles),
+            0,
+            0,
+        ]
+    }
+
+    /// A user and the clearance of all.
+    pub fn user_at_29(&mut self) -> Arguments {
+        [self.between(1, self.users), 29, 0, 0]
+    }
+
+    /// A user and a label that no clearance dominates.
+    pub fn user_above(&mut self) -> Arguments {
+        [self.between(1, self.users), self.between(30, 32), 0, 0]
+    }
+
+    /// Bits of a set, a label, a card and a mode.
+    pub fn giving(&mut self) -> Arguments {
+        let bit = 1 << self.between(0, 15);
+        [
+            bit,
+            self.between(1, 32),
+            self.between(1, self.cards),
+            self.between(1, 2),
+        ]
+    }
+
     /// Two different roles.
     pub fn two_roles(&mut self) -> Arguments {
         let from = self.between(1, self.roles);

@@ -13,6 +13,7 @@ mod monitor;
 mod plain;
 mod plot;
 mod proved;
+mod review;
 mod seats;
 mod simple;
 mod sizes;
@@ -42,6 +43,7 @@ fn report(rounds: usize) {
     println!("{}", table::HEADINGS);
     load_rows::report(rounds);
     call_rows::report(rounds);
+    call_rows::report_review(rounds);
     println!();
     report_growth(rounds);
 }
@@ -58,9 +60,11 @@ fn main() {
     let rounds = |text: &str| text.parse().expect("a count of rounds");
     match arguments[..] {
         [] => report(ROUNDS),
+        ["--review"] => call_rows::report_review(ROUNDS),
+        ["--review", text] => call_rows::report_review(rounds(text)),
         ["--plot", file] => report_plot(file, ROUNDS),
         ["--plot", file, text] => report_plot(file, rounds(text)),
         [text] => report(rounds(text)),
-        _ => panic!("give [ROUNDS] or --plot FILE [ROUNDS]"),
+        _ => panic!("give [ROUNDS], --review [ROUNDS] or --plot FILE [ROUNDS]"),
     }
 }

@@ -3,13 +3,14 @@
 pub use monitor_tests::library::Figure;
 
 use crate::plain::STATE;
+use crate::review::Review;
 use std::hint::black_box;
 
 /// The bytes of a store of 512 cards.
 pub const STORE: usize = 64 * 512;
 
 /// What each version of the monitor answers. Numbers are those of the C interface.
-pub trait Monitor {
+pub trait Monitor: Review {
     fn open(&mut self, place: u64, user: u64, label: u64) -> u64;
     fn close(&mut self, place: u64) -> u64;
     fn take(&mut self, place: u64, role: u64) -> u64;

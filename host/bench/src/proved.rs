@@ -1,6 +1,7 @@
 //! The proved monitor, as a C server calls it.
 
 use crate::monitor::{Figure, Lent, Monitor};
+use crate::review::{CountsAnswer, Review, SessionAnswer, SetAnswer};
 use crate::verdict::Verdict;
 use monitor_tests::c;
 
@@ -62,5 +63,49 @@ impl Monitor for Proved<'_> {
 
     fn circle(&self) -> Figure {
         unsafe { c::monitor_circle(self.0.state.as_ptr(), self.0.state.len()) }
+    }
+}
+
+#[rustfmt::skip]
+impl Review for Proved<'_> {
+    fn counts_of(&self) -> CountsAnswer {
+        unsafe { c::monitor_counts_of(self.0.state.as_ptr(), self.0.state.len()) }
+    }
+
+    fn session_at(&self, place: u64) -> SessionAnswer {
+        unsafe { c::monitor_session_at(self.0.state.as_ptr(), self.0.state.len(), place) }
+    }
+
+    fn clearance(&self, user: u64) -> Figure {
+        unsafe { c::monitor_clearance(self.0.state.as_ptr(), self.0.state.len(), user) }
+    }
+
+    fn card_label(&self, card: u64) -> Figure {
+        unsafe { c::monitor_card_label(self.0.state.as_ptr(), self.0.state.len(), card) }
+    }
+
+    fn level(&self, role: u64, mode: u64) -> Figure {
+        unsafe { c::monitor_level(self.0.state.as_ptr(), self.0.state.len(), role, mode) }
+    }
+
+    fn dominates(&self, a: u64, b: u64) -> Figure {
+        unsafe { c::monitor_dominates(self.0.state.as_ptr(), self.0.state.len(), a, b) }
+    }
+
+    fn senior(&self, r: u64, q: u64) -> Figure {
+        unsafe { c::monitor_senior(self.0.state.as_ptr(), self.0.state.len(), r, q) }
+    }
+
+    fn assigned(&self, user: u64, role: u64) -> Figure {
+        unsafe { c::monitor_assigned(self.0.state.as_ptr(), self.0.state.len(), user, role) }
+    }
+
+    fn takable(&self, user: u64, label: u64) -> SetAnswer {
+        unsafe { c::monitor_takable(self.0.state.as_ptr(), self.0.state.len(), user, label) }
+    }
+
+    fn gives(&self, (low, high): (u64, u64), label: u64, card: u64, mode: u64) -> Figure {
+        let state = &*self.0.state;
+        unsafe { c::monitor_gives(state.as_ptr(), state.len(), low, high, label, card, mode) }
     }
 }

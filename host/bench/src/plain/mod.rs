@@ -8,12 +8,14 @@ mod flow;
 mod levels;
 mod order;
 mod read;
+mod review;
 mod roleset;
 mod session;
 mod state;
 mod tables;
 
 use crate::monitor::{Figure, Lent, Monitor};
+use crate::review::{CountsAnswer, Review, SessionAnswer, SetAnswer};
 use crate::verdict::{refused, Verdict};
 use std::hint::black_box;
 
@@ -66,6 +68,16 @@ impl Plain<'_> {
             cards::write as *const (),
             flow::flows as *const (),
             flow::circle as *const (),
+            review::counts_of as *const (),
+            review::session_at as *const (),
+            review::clearance as *const (),
+            review::card_label as *const (),
+            review::level as *const (),
+            review::dominates as *const (),
+            review::senior as *const (),
+            review::assigned as *const (),
+            review::takable as *const (),
+            review::gives as *const (),
         ]);
         Plain(lent)
     }
@@ -102,5 +114,47 @@ impl Monitor for Plain<'_> {
 
     fn circle(&self) -> Figure {
         flow::circle(self.0.state)
+    }
+}
+
+impl Review for Plain<'_> {
+    fn counts_of(&self) -> CountsAnswer {
+        review::counts_of(self.0.state)
+    }
+
+    fn session_at(&self, place: u64) -> SessionAnswer {
+        review::session_at(self.0.state, place)
+    }
+
+    fn clearance(&self, user: u64) -> Figure {
+        review::clearance(self.0.state, user)
+    }
+
+    fn card_label(&self, card: u64) -> Figure {
+        review::card_label(self.0.state, card)
+    }
+
+    fn level(&self, role: u64, mode: u64) -> Figure {
+        review::level(self.0.state, role, mode)
+    }
+
+    fn dominates(&self, a: u64, b: u64) -> Figure {
+        review::dominates(self.0.state, a, b)
+    }
+
+    fn senior(&self, r: u64, q: u64) -> Figure {
+        review::senior(self.0.state, r, q)
+    }
+
+    fn assigned(&self, user: u64, role: u64) -> Figure {
+        review::assigned(self.0.state, user, role)
+    }
+
+    fn takable(&self, user: u64, label: u64) -> SetAnswer {
+        review::takable(self.0.state, user, label)
+    }
+
+    fn gives(&self, (low, high): (u64, u64), label: u64, card: u64, mode: u64) -> Figure {
+        review::gives(self.0.state, low, high, label, card, mode)
     }
 }

@@ -55,8 +55,13 @@ fn with_role(state: &mut [u8], place: u64, role: u64) -> Result<(&mut State, usi
     Ok((state, at))
 }
 
+/// Whether the user is assigned to the role or to a senior of it.
+pub fn entitled(state: &State, user: u64, role: u64) -> bool {
+    roles_of(state, ASSIGNED, user) & roles_of(state, SENIORS, role) != 0
+}
+
 /// Whether the levels of the role allow it at the label.
-fn fitting(state: &State, label: u64, role: u64) -> bool {
+pub fn fitting(state: &State, label: u64, role: u64) -> bool {
     let read = state[READ_LEVELS + role as usize - 1].into();
     let write = state[WRITE_LEVELS + role as usize - 1].into();
     (read == 0 || dominates(state, label, read)) && (write == 0 || dominates(state, write, label))
@@ -69,7 +74,7 @@ pub fn take(state: &mut [u8], place: u64, role: u64) -> u64 {
         Err(number) => return number,
     };
     let user = u64::from(state[at + 1]) + 1;
-    if roles_of(state, ASSIGNED, user) & roles_of(state, SENIORS, role) == 0 {
+    if !entitled(state, user, role) {
         return 27;
     }
     if !fitting(state, state[at + 2].into(), role) {

@@ -74,6 +74,7 @@ pub fn load(file: &[u8]) -> Result<Policy, Verdict> {
         dominance: dominance(pairs(&lines, 'D'), n)?,
         seniors: seniors(pairs(&lines, 'S'), roles)?,
         clearances,
+        card_labels: HashMap::new(),
         permissions: HashSet::new(),
         read_levels: HashMap::new(),
         write_levels: HashMap::new(),
@@ -83,6 +84,7 @@ pub fn load(file: &[u8]) -> Result<Policy, Verdict> {
         policy.grant(line[0], line[1], line[2]);
     }
     levels::put_levels(&mut policy, &card_labels);
+    policy.card_labels = card_labels;
     for (user, role) in pairs(&lines, 'A') {
         policy.judge(user, role)?;
     }

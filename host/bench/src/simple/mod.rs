@@ -6,6 +6,7 @@ mod flow;
 mod levels;
 mod load;
 mod order;
+mod review;
 mod session;
 
 pub use load::load;
@@ -33,6 +34,7 @@ pub struct Policy {
     /// The seniors of each role by the S lines.
     seniors: HashMap<u64, Vec<u64>>,
     clearances: HashMap<u64, u64>,
+    card_labels: HashMap<u64, u64>,
     /// Role, card and mode, inherited ones included.
     permissions: HashSet<(u64, u64, u64)>,
     read_levels: HashMap<u64, Level>,

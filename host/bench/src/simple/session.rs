@@ -22,7 +22,7 @@ fn at_place(sessions: &mut HashMap<u64, Session>, place: u64) -> Result<&mut Ses
 
 impl Policy {
     /// Whether the user is assigned to the role or to a senior of it that is not seen yet.
-    fn entitled(&self, user: u64, role: u64, seen: &mut HashSet<u64>) -> bool {
+    pub fn entitled(&self, user: u64, role: u64, seen: &mut HashSet<u64>) -> bool {
         if !seen.insert(role) {
             return false;
         }
@@ -32,7 +32,7 @@ impl Policy {
     }
 
     /// Whether the levels of the role allow it at the label.
-    fn fitting(&self, label: u64, role: u64) -> bool {
+    pub fn fitting(&self, label: u64, role: u64) -> bool {
         let dominates = |a, b| match (a, b) {
             (Level::At(a), Level::At(b)) => self.dominates(a, b),
             (Level::Undefined, _) | (_, Level::Undefined) => false,
