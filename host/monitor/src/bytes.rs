@@ -71,44 +71,41 @@ impl Bytes<'_> {
     }
 
     fn figure(&self, review: Review) -> Result<u64, u64> {
-        match review {
-            Review::Clearance { user } => {
-                in_range(&[(user, self.users)])?;
-                Ok(self.byte(&CLEARANCES, user))
-            }
-            Review::CardLabel { card } => {
-                in_range(&[(card, self.cards)])?;
-                Ok(self.byte(&CARD_LABELS, card))
-            }
-            Review::Level { role, mode } => {
-                in_range(&[(role, self.roles), (mode, 2)])?;
-                Ok(self.byte([&READ_LEVELS, &WRITE_LEVELS][mode as usize - 1], role))
-            }
-            Review::Dominates { a, b } => {
-                in_range(&[(a, self.labels), (b, self.labels)])?;
-                Ok(self.dominates(a, b).into())
-            }
-            Review::Senior { r, q } => {
-                in_range(&[(r, self.roles), (q, self.roles)])?;
-                Ok(self.row(&SENIORS, q)[r as usize].into())
-            }
-            Review::Assigned { user, role } => {
-                in_range(&[(user, self.users), (role, self.roles)])?;
-                Ok(self.row(&ASSIGNED, user)[role as usize].into())
-            }
+        in_range(&self.ranges(review))?;
+        Ok(match review {
+            Review::Clearance { user } => self.byte(&CLEARANCES, user),
+            Review::CardLabel { card } => self.byte(&CARD_LABELS, card),
+            Review::Level { role, mode: 1 } => self.byte(&READ_LEVELS, role),
+            Review::Level { role, .. } => self.byte(&WRITE_LEVELS, role),
+            Review::Dominates { a, b } => self.dominates(a, b).into(),
+            Review::Senior { r, q } => self.row(&SENIORS, q)[r as usize].into(),
+            Review::Assigned { user, role } => self.row(&ASSIGNED, user)[role as usize].into(),
             Review::Gives {
-                set,
-                label,
-                card,
-                mode,
+                set, card, mode, ..
             } => {
-                in_range(&[(label, self.labels), (card, self.cards), (mode, 2)])?;
                 let givers = self.row([&READERS, &WRITERS][mode as usize - 1], card);
-                Ok(meet(&givers, &from_halves(set)).into())
+                meet(&givers, &from_halves(set)).into()
             }
             Review::Counts | Review::Session { .. } | Review::Takable { .. } => {
                 unreachable!("{review:?} has no figure")
             }
+        })
+    }
+
+    /// The numbers that 25 is about, each with its count.
+    fn ranges(&self, review: Review) -> Vec<(u64, u64)> {
+        match review {
+            Review::Counts | Review::Session { .. } => vec![],
+            Review::Clearance { user } => vec![(user, self.users)],
+            Review::CardLabel { card } => vec![(card, self.cards)],
+            Review::Level { role, mode } => vec![(role, self.roles), (mode, 2)],
+            Review::Dominates { a, b } => vec![(a, self.labels), (b, self.labels)],
+            Review::Senior { r, q } => vec![(r, self.roles), (q, self.roles)],
+            Review::Assigned { user, role } => vec![(user, self.users), (role, self.roles)],
+            Review::Takable { user, label } => vec![(user, self.users), (label, self.labels)],
+            Review::Gives {
+                label, card, mode, ..
+            } => vec![(label, self.labels), (card, self.cards), (mode, 2)],
         }
     }
 
@@ -139,7 +136,7 @@ impl Bytes<'_> {
     }
 
     fn takable(&self, user: u64, label: u64) -> Result<SetAnswer, u64> {
-        in_range(&[(user, self.users), (label, self.labels)])?;
+        in_range(&self.ranges(Review::Takable { user, label }))?;
         if !self.dominates(self.byte(&CLEARANCES, user), label) {
             return Err(26);
         }

@@ -8,14 +8,12 @@ use monitor_tests::foreign;
 use monitor_tests::generate::{number, Caller};
 use monitor_tests::lent::Lent;
 use monitor_tests::library::{self, Figure, UNDER_TEST};
-use monitor_tests::loaded::Loaded;
 use monitor_tests::outcome::Seen;
 use monitor_tests::questions::{questions, used};
 use monitor_tests::review::Review;
 use monitor_tests::wrong::{self, Wrong};
 use second_checker::check::Counts;
 use second_checker::differential::show;
-use second_checker::example::EXAMPLE;
 use second_checker::random::Random;
 
 const STATES: u64 = 80;
@@ -128,67 +126,6 @@ fn each_wrong_copy_is_caught() {
         lines.push_str(&format!("\n{state:>4}  {kind}, {fault}: {review:?}"));
     }
     show(&lines);
-}
-
-/// The document's example, by hand: one user, cleared to 2 and assigned to role
-/// 2, the senior of role 1, with r-level 1 and w-level 2.
-#[test]
-fn the_example() {
-    let mut state = Loaded::new(EXAMPLE.as_bytes()).state;
-    let state = &mut state[..];
-    let figure = |figure| Figure { number: 0, figure };
-    let counts = library::counts_of(state);
-    let counts = [
-        counts.number,
-        counts.labels,
-        counts.roles,
-        counts.users,
-        counts.cards,
-    ];
-    assert_eq!(counts, [0, 2, 2, 1, 2]);
-    assert_eq!(library::clearance(state, 1), figure(2));
-    assert_eq!(
-        [1, 2].map(|card| library::card_label(state, card)),
-        [1, 2].map(figure)
-    );
-    assert_eq!(
-        [1, 2].map(|mode| library::level(state, 1, mode)),
-        [1, 0].map(figure)
-    );
-    assert_eq!(
-        [1, 2].map(|mode| library::level(state, 2, mode)),
-        [1, 2].map(figure)
-    );
-    let pairs = [(1, 1), (1, 2), (2, 1), (2, 2)];
-    let expected = [1, 0, 1, 1].map(figure);
-    assert_eq!(
-        pairs.map(|(a, b)| library::dominates(state, a, b)),
-        expected
-    );
-    assert_eq!(pairs.map(|(r, q)| library::senior(state, r, q)), expected);
-    assert_eq!(
-        [1, 2].map(|role| library::assigned(state, 1, role)),
-        [0, 1].map(figure)
-    );
-    for label in [1, 2] {
-        let set = library::takable(state, 1, label);
-        assert_eq!((set.number, set.low, set.high), (0, 3, 0), "label {label}");
-    }
-    let gives = |state: &mut [u8], low, card, mode| library::gives(state, (low, !0), 1, card, mode);
-    assert_eq!(
-        [0, 1, 2, 3, !3].map(|low| gives(state, low, 1, 1)),
-        [0, 1, 1, 1, 0].map(figure)
-    );
-    assert_eq!(
-        [0, 1, 2, 3, !3].map(|low| gives(state, low, 2, 2)),
-        [0, 0, 1, 1, 0].map(figure)
-    );
-    assert_eq!(library::open(state, 7, 1, 1), 0);
-    assert_eq!(library::take(state, 7, 2), 0);
-    let session = library::session_at(state, 7);
-    assert_eq!((session.number, session.user, session.label), (0, 1, 1));
-    assert_eq!((session.low, session.high), (2, 0));
-    assert_eq!(library::session_at(state, 8).number, 24);
 }
 
 // ---------------------------------------------------------------------------

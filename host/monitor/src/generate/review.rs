@@ -41,11 +41,7 @@ pub fn fitting(
             Review::Senior { r, q }
         }
         Kind::Assigned => assigned(random, policy, wish),
-        Kind::Takable => {
-            let user = user(random, policy, wish);
-            let label = label(random, policy, user, wish);
-            Review::Takable { user, label }
-        }
+        Kind::Takable => takable(random, policy, wish),
         _ => gives(random, model, policy, wish, place),
     }
 }
@@ -127,6 +123,12 @@ fn assigned(random: &mut Random, policy: &Policy, wish: u64) -> Review {
             role: one_of(random, policy.counts.roles, wish),
         },
     }
+}
+
+fn takable(random: &mut Random, policy: &Policy, wish: u64) -> Review {
+    let user = user(random, policy, wish);
+    let label = label(random, policy, user, wish);
+    Review::Takable { user, label }
 }
 
 /// About a set of roles, rather of a card that one of them gives.
