@@ -3,8 +3,7 @@
 //!
 //! "Other calls check in order of number, each as far as it applies to that
 //! call." So each call below is a row of checks, left at the first that fails.
-//! The review calls, in `review`, are written from the words of the header that
-//! asks for them.
+//! The review calls, in `review`, are written from the request for them.
 
 pub mod answer;
 pub mod review;

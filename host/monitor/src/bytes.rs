@@ -1,7 +1,9 @@
 //! What the review calls answer by docs/LAYOUT.md, whatever the bytes are: "A
 //! mark counts where it is 1, a label that is 0 or above 32 dominates nothing
 //! and is dominated by nothing, and a place is in use where its first byte is
-//! 1."
+//! 1." What it leaves open is as crates/monitor/specs/Review.antt has it: bits of
+//! a row past the number of roles count for what a set gives and for who may
+//! take a role. No load leaves such bits.
 
 use crate::call::Answer;
 use crate::layout::{
