@@ -1,0 +1,21 @@
+//! The command `yeruvoi`: what a role file comes to, in words. Every fact of an
+//! accepted file is the answer of a proved call of the archive; text, names and
+//! explanations are this library's own.
+
+pub mod answer;
+pub mod arguments;
+mod c;
+pub mod check;
+pub mod command;
+pub mod diff;
+pub mod header;
+pub mod input;
+pub mod json;
+pub mod lines;
+pub mod monitor;
+pub mod names;
+pub mod page;
+pub mod picture;
+pub mod rights;
+pub mod who;
+pub mod why;
