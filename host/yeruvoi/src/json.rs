@@ -3,6 +3,7 @@
 
 use crate::lines::Line;
 use std::fmt::{self, Display, Formatter};
+use std::rc::Rc;
 
 pub enum Json {
     Null,
@@ -11,6 +12,8 @@ pub enum Json {
     Text(String),
     List(Vec<Json>),
     Object(Vec<(&'static str, Json)>),
+    /// A value that is written already, and may stand at several places.
+    Written(Rc<str>),
 }
 
 impl Json {
@@ -54,6 +57,7 @@ impl Display for Json {
             Json::Text(text) => write_text(formatter, text),
             Json::List(values) => write_list(formatter, values),
             Json::Object(members) => write_object(formatter, members),
+            Json::Written(text) => formatter.write_str(text),
         }
     }
 }

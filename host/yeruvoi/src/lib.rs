@@ -4,7 +4,9 @@
 
 pub mod answer;
 pub mod arguments;
+pub mod asked;
 mod c;
+pub mod cards;
 pub mod check;
 pub mod command;
 pub mod diff;
@@ -12,10 +14,15 @@ pub mod header;
 pub mod input;
 pub mod json;
 pub mod lines;
+pub mod list;
 pub mod monitor;
 pub mod names;
 pub mod page;
 pub mod picture;
+pub mod relation;
 pub mod rights;
+pub mod sessions;
+pub mod threads;
+pub mod way;
 pub mod who;
 pub mod why;

@@ -71,6 +71,12 @@ impl Roles {
         }
     }
 
+    /// These roles.
+    pub fn of(roles: impl IntoIterator<Item = u64>) -> Roles {
+        let roles = roles.into_iter().map(Roles::one);
+        roles.fold(Roles::default(), Roles::with)
+    }
+
     pub fn holds(self, role: u64) -> bool {
         let one = Roles::one(role);
         self.low & one.low != 0 || self.high & one.high != 0
