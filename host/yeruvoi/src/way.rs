@@ -1,7 +1,7 @@
 //! The lines of a file by which a user comes to what a role gives.
 
-use crate::lines::Line;
-use crate::monitor::Mode;
+use crate::lines::{Line, Lines};
+use crate::monitor::{Mode, Roles};
 use std::collections::{BTreeSet, VecDeque};
 
 /// The lines that can be part of a way: the user's A lines, all S lines, and the P lines of a card
@@ -22,29 +22,40 @@ pub struct Way<'a> {
     below: usize,
 }
 
-impl Way<'_> {
+impl<'a> Way<'a> {
+    /// From the assignment down to the permission.
+    pub fn lines(&self) -> impl Iterator<Item = &'a Line<'a>> + '_ {
+        let first = std::iter::once(self.assignment);
+        let last = std::iter::once(self.permission);
+        first.chain(self.seniority.iter().copied()).chain(last)
+    }
+
     /// The least of several ways is told: one with the fewest lines, and of these one that takes the
     /// role nearest to the permission.
-    pub fn rank(&self) -> (usize, usize, u64) {
+    fn rank(&self) -> (usize, usize, u64) {
         (self.seniority.len(), self.below, self.taken)
     }
 }
 
 impl<'a> Ways<'a> {
-    pub fn of(lines: &'a [Line<'a>], user: u64, card: u64, mode: Mode) -> Ways<'a> {
-        let chosen = |letter: u8, wanted: &dyn Fn(&Line) -> bool| -> Vec<&'a Line<'a>> {
-            let of_letter = lines.iter().filter(|line| line.letter == letter);
-            of_letter.filter(|line| wanted(line)).collect()
-        };
+    pub fn of(lines: &'a Lines<'a>, user: u64, card: u64, mode: Mode) -> Ways<'a> {
+        let permits = |line: &&Line| line.fields[1..3] == [card, mode as u64];
+        let assigns = |line: &&Line| line.fields[0] == user;
         Ways {
-            assignments: chosen(b'A', &|line| line.fields[0] == user),
-            seniority: chosen(b'S', &|_| true),
-            permissions: chosen(b'P', &|line| line.fields[1..3] == [card, mode as u64]),
+            assignments: lines.with(b'A').filter(assigns).collect(),
+            seniority: lines.with(b'S').collect(),
+            permissions: lines.with(b'P').filter(permits).collect(),
         }
     }
 
+    /// The way that is told where any of these roles may be taken.
+    pub fn best(&self, roles: Roles) -> Option<Way<'a>> {
+        let ways = roles.iter().filter_map(|role| self.past(role));
+        ways.min_by_key(Way::rank)
+    }
+
     /// The shortest way past this role.
-    pub fn past(&self, taken: u64) -> Option<Way<'a>> {
+    fn past(&self, taken: u64) -> Option<Way<'a>> {
         let roles: Vec<u64> = self.assignments.iter().map(|line| line.fields[1]).collect();
         let above = self.descent(&roles, |role| role == taken)?;
         let below = self.descent(&[taken], |role| self.permission(role).is_some())?;

@@ -1,17 +1,127 @@
-//! `yeruvoi why`: to come.
+//! `yeruvoi why`: by which lines a user may read or write a card, or what is missing.
+
+mod barred;
+mod json;
+mod text;
 
 use crate::answer::{Answer, Trouble};
 use crate::arguments::{Arguments, Subcommand};
+use crate::asked::{mode, number, of_accepted, Asked};
+use crate::lines::Lines;
+use crate::monitor::{Mode, Policy, Roles};
+use crate::names::Kind;
+use crate::way::{Way, Ways};
+use crate::who::serving;
+use barred::Barred;
 
 pub const SUBCOMMAND: Subcommand = Subcommand {
     name: "why",
-    usage: "why [--names LEGEND] [--json] FILE USER read|write CARD",
-    help: "By which lines a user may read or write a card, or what is missing.\n",
+    usage: "why [--names LEGEND] [--json] [--each] FILE USER read|write CARD",
+    help: "\
+Whether a user may read or write a card. Where the user may: the labels at which
+a session can do it, the role that is taken there, and the lines of the file by
+which it is given: the assignment, the seniority down from it, the permission.
+Then the labels that the user may open and where a level of the roles bars them.
+Where the user may not: what is missing.
+
+  --names LEGEND    names beside numbers
+  --each            every label and role by itself, no ranges
+  --json            for programs, every list written out
+",
     operands: (4, 4),
-    options: &[],
+    options: &["--each"],
     run,
 };
 
-fn run(_arguments: &Arguments) -> Result<Answer, Trouble> {
-    Err(Trouble::new("why is not there yet"))
+/// What is asked.
+#[derive(Clone, Copy)]
+struct Question {
+    user: u64,
+    mode: Mode,
+    card: u64,
+}
+
+struct Why<'a> {
+    question: Question,
+    /// At which labels by which way; none where the user may not.
+    served: Vec<(Vec<u64>, Way<'a>)>,
+    /// What bars the other labels that the user may open.
+    barred: Vec<Barred>,
+    /// The roles that give the card, whoever has them.
+    givers: Roles,
+}
+
+fn run(arguments: &Arguments) -> Result<Answer, Trouble> {
+    of_accepted(arguments, |asked| {
+        let counts = asked.policy.counts();
+        let question = Question {
+            user: number(&arguments.word(1), Kind::User, counts.users)?,
+            mode: mode(&arguments.word(2), &SUBCOMMAND)?,
+            card: number(&arguments.word(3), Kind::Card, counts.cards)?,
+        };
+        Ok(Answer::yes(answered(question, asked)))
+    })
+}
+
+fn answered(question: Question, asked: &Asked) -> String {
+    let lines = Lines::of(&asked.input.bytes);
+    let why = Why::of(question, &asked.policy, &lines);
+    match asked.settings.json {
+        true => json::written(&why, &asked.settings.names).into_text(),
+        false => text::written(&why, &asked.settings),
+    }
+}
+
+impl<'a> Why<'a> {
+    fn of(question: Question, policy: &Policy, lines: &'a Lines<'a>) -> Why<'a> {
+        let givers = question.givers(policy);
+        let served = served(question, policy, lines);
+        let labels: Vec<u64> = served
+            .iter()
+            .flat_map(|(labels, _)| labels.clone())
+            .collect();
+        Why {
+            question,
+            served,
+            barred: barred::of(policy, question.user, givers, &labels),
+            givers,
+        }
+    }
+}
+
+impl Question {
+    /// The roles that give the card to a session at some label.
+    fn givers(self, policy: &Policy) -> Roles {
+        let counts = policy.counts();
+        let gives = |&role: &u64| {
+            let mut labels = 1..=counts.labels;
+            labels.any(|label| policy.gives(Roles::one(role), label, self.card, self.mode))
+        };
+        Roles::of((1..=counts.roles).filter(gives))
+    }
+}
+
+/// The labels at which the user may, with the way that is told: those with the same role together.
+fn served<'a>(
+    question: Question,
+    policy: &Policy,
+    lines: &'a Lines<'a>,
+) -> Vec<(Vec<u64>, Way<'a>)> {
+    let Question { user, mode, card } = question;
+    let ways = Ways::of(lines, user, card, mode);
+    let mut served: Vec<(Vec<u64>, Way)> = Vec::new();
+    for label in 1..=policy.counts().labels {
+        let roles = serving(policy, user, label, card, mode).unwrap_or_default();
+        let Some(way) = ways.best(roles) else {
+            continue;
+        };
+        match served
+            .iter_mut()
+            .find(|(_, known)| known.taken == way.taken)
+        {
+            Some((labels, _)) => labels.push(label),
+            None => served.push((vec![label], way)),
+        }
+    }
+    served
 }
