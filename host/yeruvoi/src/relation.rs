@@ -1,6 +1,6 @@
-//! Relations among the labels or among the roles of a file.
+//! Relations among the labels, among the roles, or between users and roles of a file.
 
-/// Which of the things 1 to 128 each of them is related to.
+/// Which of the things 1 to 128 each thing is related to.
 #[derive(Clone, Debug, Default, PartialEq, Eq)]
 pub struct Relation {
     /// By the first thing from 1: bit b - 1 stands for the second thing b.
@@ -13,13 +13,19 @@ fn things(row: u128) -> impl Iterator<Item = u64> {
 }
 
 impl Relation {
-    /// The pairs among the things 1 to `count` of which the question is answered with yes.
-    pub fn of(count: u64, related: impl Fn(u64, u64) -> bool) -> Relation {
+    /// The pairs of a thing 1 to `firsts` and one 1 to `seconds` of which the question is answered with
+    /// yes.
+    pub fn between(firsts: u64, seconds: u64, related: impl Fn(u64, u64) -> bool) -> Relation {
         let bit = |a: u64, b: u64| u128::from(related(a, b)) << (b - 1);
-        let row = |a: u64| (1..=count).fold(0, |row, b| row | bit(a, b));
+        let row = |a: u64| (1..=seconds).fold(0, |row, b| row | bit(a, b));
         Relation {
-            rows: (1..=count).map(row).collect(),
+            rows: (1..=firsts).map(row).collect(),
         }
+    }
+
+    /// The same of things of one kind.
+    pub fn of(count: u64, related: impl Fn(u64, u64) -> bool) -> Relation {
+        Relation::between(count, count, related)
     }
 
     /// The same, but no thing is related to itself.

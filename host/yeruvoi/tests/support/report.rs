@@ -1,7 +1,7 @@
 //! What `rights` must print of an accepted file, from the model.
 
 use super::legend::Legend;
-use super::list;
+use super::{list, number};
 use monitor_model::{Mode, Policy};
 use std::collections::BTreeSet;
 
@@ -37,7 +37,7 @@ impl Page<'_> {
         let inherited = &members(policy, user) - &assigned;
         let rows = [
             self.name("user", user),
-            vec![("clearance", self.named("label", clearance))],
+            vec![("clearance", number(self.legend, "label", clearance))],
             self.rows("assigned", "role", &assigned),
             self.rows("inherited", "role", &inherited),
         ];
@@ -58,14 +58,9 @@ impl Page<'_> {
     /// The row with the name of what a block is about, where it has one.
     fn name(&self, kind: &'static str, number: usize) -> Vec<(&'static str, String)> {
         let name = self.legend.name(kind, number);
-        name.map(|name| ("name", name.to_string())).into_iter().collect()
-    }
-
-    fn named(&self, kind: &'static str, number: usize) -> String {
-        match self.legend.name(kind, number) {
-            Some(name) => format!("{number}  {name}"),
-            None => number.to_string(),
-        }
+        name.map(|name| ("name", name.to_string()))
+            .into_iter()
+            .collect()
     }
 
     fn rows(
@@ -75,7 +70,7 @@ impl Page<'_> {
         numbers: &Numbers,
     ) -> Vec<(&'static str, String)> {
         if !numbers.is_empty() && (self.each || numbers.len() == 1) {
-            let row = |&number: &usize| (word, self.named(kind, number));
+            let row = |&one: &usize| (word, number(self.legend, kind, one));
             return numbers.iter().map(row).collect();
         }
         vec![(word, list::text(numbers).trim_start().to_string())]
@@ -93,7 +88,7 @@ fn block(head: &str, rows: Vec<(&str, String)>) -> String {
 }
 
 /// The roles of the user's A lines.
-fn assigned(policy: &Policy, user: usize) -> Numbers {
+pub fn assigned(policy: &Policy, user: usize) -> Numbers {
     let lines = policy.assigned.iter();
     lines
         .filter(|line| line.0 == user)
@@ -102,14 +97,14 @@ fn assigned(policy: &Policy, user: usize) -> Numbers {
 }
 
 /// The roles assigned to the user and their juniors.
-fn members(policy: &Policy, user: usize) -> Numbers {
+pub fn members(policy: &Policy, user: usize) -> Numbers {
     (1..=policy.counts.roles)
         .filter(|&role| policy.is_member(user, role))
         .collect()
 }
 
 /// The roles that a session of the user at the label may take.
-fn takes(policy: &Policy, user: usize, label: usize) -> Numbers {
+pub fn takes(policy: &Policy, user: usize, label: usize) -> Numbers {
     policy.roles_to_take(user, label).collect()
 }
 
@@ -124,7 +119,7 @@ pub fn given(policy: &Policy, roles: &Numbers, mode: Mode) -> Numbers {
 
 /// The roles that some user can take at a label that the clearance dominates,
 /// and the cards that some user can read there.
-fn by_anyone(policy: &Policy) -> (Numbers, Numbers) {
+pub fn by_anyone(policy: &Policy) -> (Numbers, Numbers) {
     let mut taken = Numbers::new();
     for user in 1..=policy.counts.users {
         for label in policy.labels_to_open(user) {

@@ -37,6 +37,10 @@ pub fn run(arguments: &[&str], input: &[u8]) -> Ran {
 /// What a run prints that ends with this status and has no problem.
 pub fn told(arguments: &[&str], input: &[u8], status: i32) -> String {
     let ran = run(arguments, input);
-    assert_eq!((ran.status, ran.problems.as_str()), (status, ""), "{arguments:?}");
+    assert_eq!(
+        (ran.status, ran.problems.as_str()),
+        (status, ""),
+        "{arguments:?}"
+    );
     ran.output
 }
