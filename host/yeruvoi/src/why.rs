@@ -3,6 +3,7 @@
 mod barred;
 mod json;
 mod text;
+mod trial;
 
 use crate::answer::{Answer, Trouble};
 use crate::arguments::{Arguments, Subcommand};
@@ -13,6 +14,7 @@ use crate::names::Kind;
 use crate::way::{Way, Ways};
 use crate::who::serving;
 use barred::Barred;
+use trial::Trials;
 
 pub const SUBCOMMAND: Subcommand = Subcommand {
     name: "why",
@@ -49,6 +51,8 @@ struct Why<'a> {
     barred: Vec<Barred>,
     /// The roles that give the card, whoever has them.
     givers: Roles,
+    /// Where the user may not: what would come of an assignment to one of these.
+    trials: Trials,
 }
 
 fn run(arguments: &Arguments) -> Result<Answer, Trouble> {
@@ -65,7 +69,7 @@ fn run(arguments: &Arguments) -> Result<Answer, Trouble> {
 
 fn answered(question: Question, asked: &Asked) -> String {
     let lines = Lines::of(&asked.input.bytes);
-    let why = Why::of(question, &asked.policy, &lines);
+    let why = Why::of(question, asked, &lines);
     match asked.settings.json {
         true => json::written(&why, &asked.settings.names).into_text(),
         false => text::written(&why, &asked.settings),
@@ -73,20 +77,29 @@ fn answered(question: Question, asked: &Asked) -> String {
 }
 
 impl<'a> Why<'a> {
-    fn of(question: Question, policy: &Policy, lines: &'a Lines<'a>) -> Why<'a> {
-        let givers = question.givers(policy);
-        let served = served(question, policy, lines);
-        let labels: Vec<u64> = served
-            .iter()
-            .flat_map(|(labels, _)| labels.clone())
-            .collect();
+    fn of(question: Question, asked: &Asked, lines: &'a Lines<'a>) -> Why<'a> {
+        let givers = question.givers(&asked.policy);
+        let served = served(question, &asked.policy, lines);
+        let tried = match served.is_empty() {
+            true => givers,
+            false => Roles::default(),
+        };
         Why {
             question,
+            barred: barred::of(&asked.policy, question.user, givers, &labels(&served)),
+            trials: trial::of(&asked.input.bytes, question.user, tried),
             served,
-            barred: barred::of(policy, question.user, givers, &labels),
             givers,
         }
     }
+}
+
+/// The labels of all ways, rising.
+fn labels(served: &[(Vec<u64>, Way)]) -> Vec<u64> {
+    let labels = served.iter().flat_map(|(labels, _)| labels);
+    let mut labels: Vec<u64> = labels.copied().collect();
+    labels.sort_unstable();
+    labels
 }
 
 impl Question {

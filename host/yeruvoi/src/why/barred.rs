@@ -1,6 +1,6 @@
 //! Levels that keep a user from taking a role at a label.
 
-use crate::monitor::{Mode, Policy, Roles, FREE, UNDEFINED};
+use crate::monitor::{Mode, Policy, Roles, FREE};
 
 /// A level of some roles, and the labels at which it forbids to take them.
 #[derive(Debug, PartialEq, Eq)]
@@ -14,7 +14,7 @@ pub struct Barred {
 
 /// What bars the roles that the user has, among these, at the labels that the user may open beside
 /// those that serve. Of a role and a senior of it the role alone is told: what its levels bar, those of
-/// the senior bar too, unless its w-level is undefined.
+/// the senior bar too. None of them is undefined: that of a role assigned would be, and so refused.
 pub fn of(policy: &Policy, user: u64, among: Roles, served: &[u64]) -> Vec<Barred> {
     let counts = policy.counts();
     let opens = |label: &u64| !served.contains(label) && policy.takable(user, *label).is_some();
@@ -24,10 +24,7 @@ pub fn of(policy: &Policy, user: u64, among: Roles, served: &[u64]) -> Vec<Barre
         seniors.any(|senior| policy.assigned(user, senior) && policy.senior(senior, *role))
     };
     let roles = Roles::of(among.iter().filter(has));
-    let under = |role: u64, junior: u64| {
-        let told = policy.level(junior, Mode::Write) != UNDEFINED;
-        junior != role && told && policy.senior(role, junior)
-    };
+    let under = |role: u64, junior: u64| junior != role && policy.senior(role, junior);
     let lowest = |role: &u64| !roles.iter().any(|junior| under(*role, junior));
     let mut all: Vec<Barred> = Vec::new();
     for role in roles.iter().filter(lowest) {
@@ -43,7 +40,6 @@ fn by_level(policy: &Policy, role: u64, mode: Mode, labels: &[u64]) -> Barred {
     let level = policy.level(role, mode);
     let bars = |&label: &u64| match level {
         FREE => false,
-        UNDEFINED => true,
         _ if mode == Mode::Read => !policy.dominates(label, level),
         _ => !policy.dominates(level, label),
     };

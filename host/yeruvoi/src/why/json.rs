@@ -19,6 +19,16 @@ pub fn written(why: &Why, names: &Names) -> Json {
         ),
         ("barred", Json::list(&why.barred, |one| barred(one, names))),
         ("givers", list(why.givers.iter(), Kind::Role, names)),
+        (
+            "assignments",
+            Json::list(&why.trials, |(&number, roles)| {
+                let roles = roles.iter().copied();
+                Json::Object(vec![
+                    ("number", Json::Number(number)),
+                    ("roles", list(roles, Kind::Role, names)),
+                ])
+            }),
+        ),
     ])
 }
 
@@ -38,8 +48,8 @@ fn barred(barred: &Barred, names: &Names) -> Json {
     let labels = barred.labels.iter().copied();
     let roles = barred.roles.iter().copied();
     Json::Object(vec![
-        ("level", Json::text(barred.mode.level_word())),
-        ("at", Json::Number(barred.level)),
+        ("kind", Json::text(barred.mode.level_word())),
+        ("level", names.json(Kind::Label, barred.level)),
         ("roles", list(roles, Kind::Role, names)),
         ("labels", list(labels, Kind::Label, names)),
     ])

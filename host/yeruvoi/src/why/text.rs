@@ -1,10 +1,11 @@
 //! The page of `why`.
 
 use super::barred::Barred;
-use super::Why;
+use super::{labels, Why};
 use crate::arguments::Settings;
+use crate::header::sentence;
 use crate::list::things;
-use crate::monitor::{Mode, UNDEFINED};
+use crate::monitor::Mode;
 use crate::names::Kind;
 use crate::page::Page;
 use crate::way::Way;
@@ -21,6 +22,9 @@ pub fn written(why: &Why, settings: &Settings) -> String {
     if why.served.is_empty() && why.barred.is_empty() {
         page.line(missing(why, settings));
     }
+    for (number, roles) in &why.trials {
+        page.line(trial(*number, roles, settings));
+    }
     put_barred(&mut page, &why.barred, settings);
     page.into_text()
 }
@@ -31,12 +35,7 @@ fn first(why: &Why, settings: &Settings) -> String {
     let user = names.thing(Kind::User, why.question.user);
     let card = names.thing(Kind::Card, why.question.card);
     let mode = why.question.mode.word();
-    let mut labels: Vec<u64> = why
-        .served
-        .iter()
-        .flat_map(|(labels, _)| labels.clone())
-        .collect();
-    labels.sort_unstable();
+    let labels = labels(&why.served);
     match labels.is_empty() {
         true => format!("{user} may not {mode} {card}"),
         false => {
@@ -69,15 +68,23 @@ fn put_way(page: &mut Page, way: &Way, why: &Why, settings: &Settings) {
 /// What is missing where no role of the user gives the card.
 fn missing(why: &Why, settings: &Settings) -> String {
     let givers: Vec<u64> = why.givers.iter().collect();
-    let (mode, card) = (why.question.mode, why.question.card);
-    match givers.is_empty() {
-        true => format!(
-            "  no role gives it: no line P has card {card} and mode {}",
-            mode as u64
-        ),
-        false => {
-            let roles = things(&givers, Kind::Role, settings);
-            format!("  {roles} give it: none is assigned to the user, nor a senior of one")
+    let roles = things(&givers, Kind::Role, settings);
+    let (mode, card) = (why.question.mode as u64, why.question.card);
+    match givers.len() {
+        0 => format!("  no role gives it: no line P has card {card} and mode {mode}"),
+        1 => format!("  {roles} gives it: neither it nor a senior of it is assigned to the user"),
+        _ => format!("  {roles} give it: none is assigned to the user, nor a senior of one"),
+    }
+}
+
+/// What would come of an assignment.
+fn trial(number: u64, roles: &[u64], settings: &Settings) -> String {
+    let roles = things(roles, Kind::Role, settings);
+    match number {
+        0 => format!("  an assignment to {roles} would be accepted"),
+        _ => {
+            let words = sentence(number);
+            format!("  an assignment to {roles} would be refused with {number}: {words}")
         }
     }
 }
@@ -102,9 +109,6 @@ impl Barred {
     fn text(&self, settings: &Settings) -> String {
         let word = self.mode.level_word();
         let roles = things(&self.roles, Kind::Role, settings);
-        if self.level == UNDEFINED {
-            return format!("{roles}: the {word} is undefined");
-        }
         let level = settings.names.number(Kind::Label, self.level);
         let labels = things(&self.labels, Kind::Label, settings);
         let verb = if self.labels.len() == 1 { "does" } else { "do" };

@@ -8,6 +8,7 @@ pub mod list;
 pub mod report;
 pub mod run;
 pub mod temporary;
+pub mod told;
 
 use legend::Legend;
 use monitor_model::Policy;
