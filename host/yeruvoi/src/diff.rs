@@ -11,7 +11,6 @@ use crate::arguments::{Arguments, Subcommand};
 use crate::header::sentence;
 use crate::lines::Lines;
 use crate::monitor::{Counts, Mode, Policy};
-use crate::page::grouped;
 use crate::relation::Relation;
 use crate::sessions::Sessions;
 use change::Change;
@@ -138,7 +137,7 @@ impl Difference {
 
     /// The last line.
     fn summary(&self) -> String {
-        let (changed, users) = (grouped(self.changed as u64), grouped(self.users));
-        format!("{changed} of {users} users change")
+        let ending = if self.changed == 1 { "s" } else { "" };
+        format!("{} of {} users change{ending}", self.changed, self.users)
     }
 }

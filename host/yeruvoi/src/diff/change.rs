@@ -54,52 +54,82 @@ impl Figure {
 
 #[derive(Clone, Debug, PartialEq, Eq)]
 pub enum Change {
-    /// The user may do it at some label, and could not before; or the other way round.
-    Right {
-        user: u64,
-        gained: bool,
-        mode: Mode,
-        cards: Vec<u64>,
-    },
-    /// The user may do it as before, but at other labels.
-    Kept {
-        user: u64,
-        mode: Mode,
-        cards: Vec<u64>,
-        old: Vec<u64>,
-        new: Vec<u64>,
-    },
-    /// How many there are.
-    Count { kind: Kind, old: u64, new: u64 },
-    /// None of a thing that one of the files has not.
-    Figure {
-        figure: Figure,
-        number: u64,
-        old: Option<u64>,
-        new: Option<u64>,
-    },
-    Linked {
-        link: Link,
-        number: u64,
-        others: Vec<u64>,
-        now: bool,
-    },
-    /// P lines of a role.
-    Permitted {
-        role: u64,
-        mode: Mode,
-        cards: Vec<u64>,
-        now: bool,
-    },
-    /// The lowest role on a circle of flow, or 0.
-    Circle { old: u64, new: u64 },
+    Right(Right),
+    Kept(Kept),
+    Count(Count),
+    Labelled(Labelled),
+    Linked(Linked),
+    Permitted(Permitted),
+    Circle(Circle),
+}
+
+/// What the user may do at some label now, and could not before; or the other way round.
+#[derive(Clone, Debug, PartialEq, Eq)]
+pub struct Right {
+    pub user: u64,
+    pub gained: bool,
+    pub mode: Mode,
+    pub cards: Vec<u64>,
+}
+
+/// What the user may do as before, but at other labels.
+#[derive(Clone, Debug, PartialEq, Eq)]
+pub struct Kept {
+    pub user: u64,
+    pub mode: Mode,
+    pub cards: Vec<u64>,
+    pub old: Vec<u64>,
+    pub new: Vec<u64>,
+}
+
+/// How many there are of a thing.
+#[derive(Clone, Debug, PartialEq, Eq)]
+pub struct Count {
+    pub kind: Kind,
+    pub old: u64,
+    pub new: u64,
+}
+
+/// The label that a thing has; none where one of the files has no such thing.
+#[derive(Clone, Debug, PartialEq, Eq)]
+pub struct Labelled {
+    pub figure: Figure,
+    pub number: u64,
+    pub old: Option<u64>,
+    pub new: Option<u64>,
+}
+
+/// What a thing is related to now, or no longer.
+#[derive(Clone, Debug, PartialEq, Eq)]
+pub struct Linked {
+    pub link: Link,
+    pub number: u64,
+    pub others: Vec<u64>,
+    pub now: bool,
+}
+
+/// P lines of a role that are there now, or no longer.
+#[derive(Clone, Debug, PartialEq, Eq)]
+pub struct Permitted {
+    pub role: u64,
+    pub mode: Mode,
+    pub cards: Vec<u64>,
+    pub now: bool,
+}
+
+/// The lowest role on a circle of flow, or 0.
+#[derive(Clone, Debug, PartialEq, Eq)]
+pub struct Circle {
+    pub old: u64,
+    pub new: u64,
 }
 
 impl Change {
     /// Whose rights change, where it is that.
     pub fn user(&self) -> Option<u64> {
         match self {
-            Change::Right { user, .. } | Change::Kept { user, .. } => Some(*user),
+            Change::Right(right) => Some(right.user),
+            Change::Kept(kept) => Some(kept.user),
             _ => None,
         }
     }

@@ -1,6 +1,6 @@
 //! `diff` for programs.
 
-use super::change::Change;
+use super::change::{Change, Circle, Count, Kept, Labelled, Linked, Permitted, Right};
 use super::Difference;
 use crate::json::Json;
 use crate::monitor::Mode;
@@ -24,81 +24,75 @@ pub fn written(difference: &Difference, names: &Names) -> Json {
 
 fn members(change: &Change, names: &Names) -> Members {
     match change {
-        Change::Right {
-            user,
-            gained,
-            mode,
-            cards,
-        } => {
-            let word = if *gained { "gains" } else { "loses" };
-            of_cards(word, (Kind::User, *user), *mode, cards, names)
-        }
-        Change::Kept {
-            user,
-            mode,
-            cards,
-            old,
-            new,
-        } => {
-            let mut members = of_cards("keeps", (Kind::User, *user), *mode, cards, names);
-            members.push(("old", list(old, Kind::Label, names)));
-            members.push(("new", list(new, Kind::Label, names)));
-            members
-        }
-        Change::Permitted {
-            role,
-            mode,
-            cards,
-            now,
-        } => {
-            let word = if *now {
-                "permission new"
-            } else {
-                "permission gone"
-            };
-            of_cards(word, (Kind::Role, *role), *mode, cards, names)
-        }
-        Change::Count { kind, old, new } => vec![
-            ("change", Json::text("count")),
-            ("of", Json::text(kind.word())),
-            ("old", Json::Number(*old)),
-            ("new", Json::Number(*new)),
-        ],
-        Change::Figure {
-            figure,
-            number,
-            old,
-            new,
-        } => {
-            let (kind, word) = figure.words();
-            let value = |value: &Option<u64>| value.map_or(Json::Null, Json::Number);
-            vec![
-                ("change", Json::text(word)),
-                (kind.word(), names.json(kind, *number)),
-                ("old", value(old)),
-                ("new", value(new)),
-            ]
-        }
-        Change::Linked {
-            link,
-            number,
-            others,
-            now,
-        } => {
-            let (kind, other) = link.kinds();
-            vec![
-                ("change", Json::text(link.words()[1])),
-                (kind.word(), names.json(kind, *number)),
-                ("now", Json::Boolean(*now)),
-                ("others", list(others, other, names)),
-            ]
-        }
-        Change::Circle { old, new } => vec![
-            ("change", Json::text("circle")),
-            ("old", Json::Number(*old)),
-            ("new", Json::Number(*new)),
-        ],
+        Change::Right(right) => of_right(right, names),
+        Change::Kept(kept) => of_kept(kept, names),
+        Change::Count(count) => of_count(count),
+        Change::Labelled(labelled) => of_labelled(labelled, names),
+        Change::Linked(linked) => of_linked(linked, names),
+        Change::Permitted(permitted) => of_permitted(permitted, names),
+        Change::Circle(circle) => of_circle(circle),
     }
+}
+
+fn of_right(right: &Right, names: &Names) -> Members {
+    let word = if right.gained { "gains" } else { "loses" };
+    let user = (Kind::User, right.user);
+    of_cards(word, user, right.mode, &right.cards, names)
+}
+
+fn of_permitted(permitted: &Permitted, names: &Names) -> Members {
+    let word = match permitted.now {
+        true => "permission new",
+        false => "permission gone",
+    };
+    let role = (Kind::Role, permitted.role);
+    of_cards(word, role, permitted.mode, &permitted.cards, names)
+}
+
+fn of_kept(kept: &Kept, names: &Names) -> Members {
+    let user = (Kind::User, kept.user);
+    let mut members = of_cards("keeps", user, kept.mode, &kept.cards, names);
+    members.push(("old", list(&kept.old, Kind::Label, names)));
+    members.push(("new", list(&kept.new, Kind::Label, names)));
+    members
+}
+
+fn of_count(count: &Count) -> Members {
+    vec![
+        ("change", Json::text("count")),
+        ("of", Json::text(count.kind.word())),
+        ("old", Json::Number(count.old)),
+        ("new", Json::Number(count.new)),
+    ]
+}
+
+fn of_labelled(labelled: &Labelled, names: &Names) -> Members {
+    let (kind, word) = labelled.figure.words();
+    let value = |value: Option<u64>| value.map_or(Json::Null, Json::Number);
+    vec![
+        ("change", Json::text(word)),
+        (kind.word(), names.json(kind, labelled.number)),
+        ("old", value(labelled.old)),
+        ("new", value(labelled.new)),
+    ]
+}
+
+fn of_linked(linked: &Linked, names: &Names) -> Members {
+    let (kind, other) = linked.link.kinds();
+    vec![
+        ("change", Json::text(linked.link.words()[1])),
+        (kind.word(), names.json(kind, linked.number)),
+        ("now", Json::Boolean(linked.now)),
+        ("others", list(&linked.others, other, names)),
+    ]
+}
+
+fn of_circle(circle: &Circle) -> Members {
+    vec![
+        ("change", Json::text("circle")),
+        ("old", Json::Number(circle.old)),
+        ("new", Json::Number(circle.new)),
+    ]
 }
 
 fn list(numbers: &[u64], kind: Kind, names: &Names) -> Json {

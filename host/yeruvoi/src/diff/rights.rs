@@ -1,6 +1,6 @@
 //! What users can do, compared.
 
-use super::change::Change;
+use super::change::{Change, Kept, Right};
 use super::Sides;
 use crate::cards::Cards;
 use crate::monitor::Mode;
@@ -19,11 +19,13 @@ pub fn changes(sides: &Sides) -> Vec<Change> {
 fn of_user(sides: &Sides, user: u64, mode: Mode) -> Vec<Change> {
     let old = sides.old.sessions.cards(user, mode);
     let new = sides.new.sessions.cards(user, mode);
-    let right = |gained: bool, cards: Cards| Change::Right {
-        user,
-        gained,
-        mode,
-        cards: cards.numbers(),
+    let right = |gained: bool, cards: Cards| {
+        Change::Right(Right {
+            user,
+            gained,
+            mode,
+            cards: cards.numbers(),
+        })
     };
     let rights = [(false, old.without(&new)), (true, new.without(&old))];
     let told = rights.into_iter().filter(|(_, cards)| !cards.is_empty());
@@ -44,15 +46,15 @@ fn kept(sides: &Sides, user: u64, mode: Mode, cards: Cards) -> impl Iterator<Ite
         let labels = [labels(&old, card), labels(&new, card)];
         groups.entry(labels).or_default().push(card);
     }
-    groups
-        .into_iter()
-        .map(move |([old, new], cards)| Change::Kept {
+    groups.into_iter().map(move |([old, new], cards)| {
+        Change::Kept(Kept {
             user,
             mode,
             cards,
             old,
             new,
         })
+    })
 }
 
 type ByLabel = BTreeMap<u64, Cards>;

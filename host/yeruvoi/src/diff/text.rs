@@ -1,6 +1,6 @@
 //! The page of `diff`.
 
-use super::change::{Change, Figure};
+use super::change::{Change, Circle, Count, Figure, Kept, Labelled, Linked, Permitted, Right};
 use super::Difference;
 use crate::arguments::Settings;
 use crate::list::things;
@@ -32,66 +32,51 @@ pub fn written(difference: &Difference, settings: &Settings) -> String {
 }
 
 fn rows(change: &Change, settings: &Settings) -> Vec<Row> {
-    let subject = |kind, number| settings.names.thing(kind, number);
     match change {
-        Change::Right {
-            user,
-            gained,
-            mode,
-            cards,
-        } => {
-            let verb = if *gained { "gains" } else { "loses" };
-            card_rows(&subject(Kind::User, *user), verb, *mode, cards, settings)
-        }
-        Change::Kept {
-            user,
-            mode,
-            cards,
-            old,
-            new,
-        } => {
-            let [old, new] = [old, new].map(|labels| things(labels, Kind::Label, settings));
-            let cards = things(cards, Kind::Card, settings);
-            let text = format!("{}{cards} at {new}, was at {old}", doing("keeps", *mode));
-            vec![(subject(Kind::User, *user), text)]
-        }
-        Change::Permitted {
-            role,
-            mode,
-            cards,
-            now,
-        } => {
-            let verb = if *now { "P new" } else { "P gone" };
-            card_rows(&subject(Kind::Role, *role), verb, *mode, cards, settings)
-        }
-        Change::Count { kind, old, new } => {
-            vec![(format!("{}s", kind.word()), format!("{new}, was {old}"))]
-        }
-        Change::Figure {
-            figure,
-            number,
-            old,
-            new,
-        } => {
-            let (kind, word) = figure.words();
-            let text = figure_text(*figure, word, *old, *new, settings);
-            vec![(subject(kind, *number), text)]
-        }
-        Change::Linked {
-            link,
-            number,
-            others,
-            now,
-        } => {
-            let (kind, other) = link.kinds();
-            let [before, after] = link.words();
-            let others = things(others, other, settings);
-            let now = if *now { "now" } else { "no longer" };
-            let text = format!("{before}{now} {after} {others}");
-            vec![(subject(kind, *number), text)]
-        }
-        Change::Circle { old, new } => vec![circle_row(*old, *new, settings)],
+        Change::Right(right) => right_rows(right, settings),
+        Change::Kept(kept) => vec![kept_row(kept, settings)],
+        Change::Count(count) => vec![count_row(count)],
+        Change::Labelled(labelled) => vec![labelled_row(labelled, settings)],
+        Change::Linked(linked) => vec![linked_row(linked, settings)],
+        Change::Permitted(permitted) => permitted_rows(permitted, settings),
+        Change::Circle(circle) => vec![circle_row(circle, settings)],
     }
+}
+
+fn right_rows(right: &Right, settings: &Settings) -> Vec<Row> {
+    let verb = if right.gained { "gains" } else { "loses" };
+    let subject = settings.names.thing(Kind::User, right.user);
+    card_rows(&subject, &doing(verb, right.mode), &right.cards, settings)
+}
+
+fn permitted_rows(permitted: &Permitted, settings: &Settings) -> Vec<Row> {
+    let verb = if permitted.now { "P new" } else { "P gone" };
+    let subject = settings.names.thing(Kind::Role, permitted.role);
+    let doing = doing(verb, permitted.mode);
+    card_rows(&subject, &doing, &permitted.cards, settings)
+}
+
+fn kept_row(kept: &Kept, settings: &Settings) -> Row {
+    let labels = |labels: &[u64]| things(labels, Kind::Label, settings);
+    let (old, new) = (labels(&kept.old), labels(&kept.new));
+    let cards = things(&kept.cards, Kind::Card, settings);
+    let doing = doing("keeps", kept.mode);
+    let subject = settings.names.thing(Kind::User, kept.user);
+    (subject, format!("{doing}{cards} at {new}, was at {old}"))
+}
+
+fn count_row(count: &Count) -> Row {
+    let Count { kind, old, new } = count;
+    (format!("{}s", kind.word()), format!("{new}, was {old}"))
+}
+
+fn linked_row(linked: &Linked, settings: &Settings) -> Row {
+    let (kind, other) = linked.link.kinds();
+    let [before, after] = linked.link.words();
+    let others = things(&linked.others, other, settings);
+    let now = if linked.now { "now" } else { "no longer" };
+    let subject = settings.names.thing(kind, linked.number);
+    (subject, format!("{before}{now} {after} {others}"))
 }
 
 fn doing(verb: &str, mode: Mode) -> String {
@@ -99,16 +84,10 @@ fn doing(verb: &str, mode: Mode) -> String {
 }
 
 /// A row for each card, or for many one with their ranges.
-fn card_rows(
-    subject: &str,
-    verb: &str,
-    mode: Mode,
-    cards: &[u64],
-    settings: &Settings,
-) -> Vec<Row> {
+fn card_rows(subject: &str, doing: &str, cards: &[u64], settings: &Settings) -> Vec<Row> {
     let row = |cards: &[u64]| {
         let cards = things(cards, Kind::Card, settings);
-        (subject.to_string(), doing(verb, mode) + &cards)
+        (subject.to_string(), format!("{doing}{cards}"))
     };
     match settings.each || cards.len() <= FEW {
         true => cards.chunks(1).map(row).collect(),
@@ -117,32 +96,27 @@ fn card_rows(
 }
 
 /// `w-level 11, was 2`
-fn figure_text(
-    figure: Figure,
-    word: &str,
-    old: Option<u64>,
-    new: Option<u64>,
-    settings: &Settings,
-) -> String {
-    let kind = figure.words().0.word();
-    let shown = |value: u64| match (figure, value) {
+fn labelled_row(labelled: &Labelled, settings: &Settings) -> Row {
+    let (kind, word) = labelled.figure.words();
+    let shown = |value: u64| match (labelled.figure, value) {
         (Figure::Level(_), FREE) => "free".to_string(),
         (Figure::Level(_), UNDEFINED) => "undefined".to_string(),
         _ => settings.names.number(Kind::Label, value),
     };
-    match (old.map(shown), new.map(shown)) {
+    let text = match (labelled.old.map(shown), labelled.new.map(shown)) {
         (Some(old), Some(new)) => format!("{word} {new}, was {old}"),
-        (None, Some(new)) => format!("{word} {new}, a new {kind}"),
         (Some(old), None) => format!("gone, {word} was {old}"),
-        (None, None) => String::new(),
-    }
+        (None, new) => format!("{word} {}, a new {}", new.unwrap_or_default(), kind.word()),
+    };
+    (settings.names.thing(kind, labelled.number), text)
 }
 
-fn circle_row(old: u64, new: u64, settings: &Settings) -> Row {
+fn circle_row(circle: &Circle, settings: &Settings) -> Row {
     let shown = |role: u64| match role {
         0 => "none".to_string(),
         _ => settings.names.thing(Kind::Role, role),
     };
-    let text = format!("lowest role on one {}, was {}", shown(new), shown(old));
+    let (old, new) = (shown(circle.old), shown(circle.new));
+    let text = format!("lowest role on one {new}, was {old}");
     ("circles".to_string(), text)
 }

@@ -1,6 +1,6 @@
 //! What else is different: counts, labels, orders, levels, assignments, permissions, flow.
 
-use super::change::{Change, Figure, Link};
+use super::change::{Change, Circle, Count, Figure, Labelled, Link, Linked, Permitted};
 use super::{Permissions, Side, Sides};
 use crate::monitor::{Counts, Mode};
 use crate::names::Kind;
@@ -45,7 +45,7 @@ fn counts(sides: &Sides) -> Vec<Change> {
     let counts = Kind::ALL.into_iter().map(both);
     let different = counts.filter(|(_, old, new)| old != new);
     different
-        .map(|(kind, old, new)| Change::Count { kind, old, new })
+        .map(|(kind, old, new)| Change::Count(Count { kind, old, new }))
         .collect()
 }
 
@@ -86,11 +86,13 @@ fn figures(sides: &Sides, figure: Figure) -> Vec<Change> {
         (number, old, new)
     });
     both.filter(|(_, old, new)| old != new)
-        .map(|(number, old, new)| Change::Figure {
-            figure,
-            number,
-            old,
-            new,
+        .map(|(number, old, new)| {
+            Change::Labelled(Labelled {
+                figure,
+                number,
+                old,
+                new,
+            })
         })
         .collect()
 }
@@ -98,17 +100,17 @@ fn figures(sides: &Sides, figure: Figure) -> Vec<Change> {
 fn links(sides: &Sides, link: Link) -> Vec<Change> {
     let (old, new) = (sides.old.relation(link), sides.new.relation(link));
     let (ended, begun) = (old.without(new), new.without(old));
-    let changes = (1..=most(sides, link.kinds().0)).flat_map(|number| {
-        [(&ended, false), (&begun, true)].map(|(pairs, now)| Change::Linked {
+    let numbers = 1..=most(sides, link.kinds().0);
+    let links = numbers.flat_map(|number| {
+        [(&ended, false), (&begun, true)].map(|(pairs, now)| Linked {
             link,
             number,
             others: pairs.others(number),
             now,
         })
     });
-    let some =
-        |change: &Change| !matches!(change, Change::Linked { others, .. } if others.is_empty());
-    changes.filter(some).collect()
+    let some = links.filter(|linked| !linked.others.is_empty());
+    some.map(Change::Linked).collect()
 }
 
 /// The permissions that one side has and the other has not, by role and mode.
@@ -119,11 +121,13 @@ fn permitted(having: &Permissions, lacking: &Permissions, now: bool) -> Vec<Chan
     }
     let groups = groups.into_iter();
     groups
-        .map(|((role, mode), cards)| Change::Permitted {
-            role,
-            mode,
-            cards,
-            now,
+        .map(|((role, mode), cards)| {
+            Change::Permitted(Permitted {
+                role,
+                mode,
+                cards,
+                now,
+            })
         })
         .collect()
 }
@@ -132,6 +136,6 @@ fn circle(sides: &Sides) -> Vec<Change> {
     let (old, new) = (sides.old.policy.circle(), sides.new.policy.circle());
     match old == new {
         true => Vec::new(),
-        false => vec![Change::Circle { old, new }],
+        false => vec![Change::Circle(Circle { old, new })],
     }
 }
