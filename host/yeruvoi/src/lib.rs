@@ -18,6 +18,7 @@ pub mod list;
 pub mod monitor;
 pub mod names;
 pub mod page;
+pub mod paths;
 pub mod picture;
 pub mod relation;
 pub mod rights;
