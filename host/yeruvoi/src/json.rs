@@ -1,7 +1,7 @@
 //! A small writer of JSON. What it writes is printed ASCII alone; any other
 //! character is escaped.
 
-use crate::lines::Line;
+use crate::lines::{fields_of, Line};
 use std::fmt::{self, Display, Formatter};
 use std::rc::Rc;
 
@@ -34,11 +34,15 @@ impl Json {
         Json::list(numbers, Json::Number)
     }
 
-    /// A line of the file: `{"line": 9, "text": "A    1    2          "}`
+    /// A line of the file: its number, its text, its letter and the fields that
+    /// the letter uses.
     pub fn line(line: &Line) -> Json {
+        let fields = &line.fields[..fields_of(line.letter)];
         Json::Object(vec![
-            ("line", Json::Number(line.number as u64)),
+            ("number", Json::Number(line.number as u64)),
             ("text", Json::bytes(line.text)),
+            ("letter", Json::bytes(&[line.letter])),
+            ("fields", Json::numbers(fields.iter().copied())),
         ])
     }
 

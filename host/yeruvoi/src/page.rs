@@ -28,13 +28,10 @@ impl Page {
     }
 
     /// Says how many of a list's rows were left out, where some were.
-    pub fn left_out(&mut self, indent: usize, count: usize, what: &str) {
+    pub fn left_out(&mut self, indent: usize, count: usize) {
         if count > 0 {
-            let counted = counted(count as u64, what);
-            self.line(format!(
-                "{:indent$}... and {counted} more; --all shows them",
-                ""
-            ));
+            let count = grouped(count as u64);
+            self.line(format!("{:indent$}... {count} more, which --all shows", ""));
         }
     }
 
