@@ -20,8 +20,6 @@ pub struct Level<'a> {
     pub mode: Mode,
     /// A label, `FREE` or `UNDEFINED`.
     pub level: u64,
-    /// Where it is undefined: the rival lower bounds of the labels written.
-    pub rivals: Vec<u64>,
     pub permissions: Vec<Permission<'a>>,
     walks: Walks<'a>,
 }
@@ -37,26 +35,21 @@ pub struct Permission<'a> {
 
 impl<'a> Level<'a> {
     pub fn of(policy: &Policy, lines: &Lines<'a>, role: u64, mode: Mode) -> Level<'a> {
-        let level = policy.level(role, mode);
+        let counts =
+            |line: &&Line| line.fields[2] == mode as u64 && policy.senior(role, line.fields[0]);
         let mut permissions: Vec<Permission> = lines
             .with(b'P')
-            .filter(|line| line.fields[2] == mode as u64 && policy.senior(role, line.fields[0]))
+            .filter(counts)
             .map(|line| Permission::of(policy, line))
             .collect();
         permissions.sort_by_key(|permission| (permission.label, permission.line.number));
-        let walks = Steps::of(lines, b'S').from(role);
-        let mut level = Level {
+        Level {
             role,
             mode,
-            level,
-            rivals: Vec::new(),
+            level: policy.level(role, mode),
             permissions,
-            walks,
-        };
-        if level.level == UNDEFINED {
-            level.rivals = greatest_below_all(policy, &level.labels());
+            walks: Steps::of(lines, b'S').from(role),
         }
-        level
     }
 
     /// The labels of the cards, rising.
@@ -113,15 +106,9 @@ impl<'a> Permission<'a> {
     }
 }
 
-/// The labels that all of these dominate, without those that another of them
-/// dominates.
-fn greatest_below_all(policy: &Policy, labels: &BTreeSet<u64>) -> Vec<u64> {
-    let below_all = |&bound: &u64| labels.iter().all(|&label| policy.dominates(label, bound));
-    let bounds: Vec<u64> = (1..=policy.counts().labels).filter(below_all).collect();
-    let under = |bound: u64, other: u64| other != bound && policy.dominates(other, bound);
-    let greatest = |&bound: &u64| !bounds.iter().any(|&other| under(bound, other));
-    bounds.iter().copied().filter(greatest).collect()
-}
+/// Where any two labels have a least upper bound, labels that dominate a common
+/// one have a greatest such one.
+const NO_BOUND: &str = "undefined: no label is dominated by all of";
 
 fn bound_word(mode: Mode) -> &'static str {
     match mode {
@@ -136,21 +123,10 @@ impl Level<'_> {
         let word = self.mode.level_word();
         let value = match self.level {
             FREE => "free".to_string(),
-            UNDEFINED => self.undefined(names),
+            UNDEFINED => NO_BOUND.to_string(),
             label => names.number(Kind::Label, label) + ", the " + bound_word(self.mode) + " of",
         };
         format!("{word}      {value}")
-    }
-
-    fn undefined(&self, names: &Names) -> String {
-        let rivals = self.rivals.iter();
-        let rivals: Vec<String> = rivals
-            .map(|&label| names.thing(Kind::Label, label))
-            .collect();
-        match rivals.len() {
-            0 => "undefined: no label is dominated by all of".to_string(),
-            _ => format!("undefined: {} are rival lower bounds of", rivals.join(", ")),
-        }
     }
 
     pub fn write(&self, page: &mut Page, settings: &Settings) {
@@ -178,10 +154,6 @@ impl Level<'_> {
             ("mode", Json::text(self.mode.word())),
             ("level", level),
             ("defined", Json::Boolean(self.level != UNDEFINED)),
-            (
-                "rivals",
-                Json::list(&self.rivals, |&label| names.json(Kind::Label, label)),
-            ),
             (
                 "permissions",
                 Json::list(&all, |permission| permission.json(names)),
