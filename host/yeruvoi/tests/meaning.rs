@@ -55,6 +55,24 @@ fn the_rival_bounds_are_told_or_that_there_is_none() {
 }
 
 #[test]
+fn three_rival_bounds_are_told() {
+    refused(
+        "H    6    0    0    0\nD    1    2\nD    1    3\nD    1    4\nD    2    5\nD    2    6\n\
+        D    3    5\nD    3    6\nD    4    5\nD    4    6\n",
+        "refused with 12 at label 5, label 6: the two labels have no least upper bound\n\
+        \x20 label 2 dominates both, and none of the others that do\n\
+        \x20   line 5       D    2    5              label 2 dominates label 5\n\
+        \x20   line 6       D    2    6              label 2 dominates label 6\n\
+        \x20 label 3 dominates both, and none of the others that do\n\
+        \x20   line 7       D    3    5              label 3 dominates label 5\n\
+        \x20   line 8       D    3    6              label 3 dominates label 6\n\
+        \x20 label 4 dominates both, and none of the others that do\n\
+        \x20   line 9       D    4    5              label 4 dominates label 5\n\
+        \x20   line 10      D    4    6              label 4 dominates label 6\n",
+    );
+}
+
+#[test]
 fn an_undefined_level_is_told_with_the_cards_written() {
     refused(
         "H    3    1    1    2\nD    3    1\nD    3    2\nU    1    1\nO    1    1\nO    2    2\n\

@@ -1,6 +1,8 @@
 //! What the tests share: the built command, and files written by hand.
 #![allow(dead_code)]
 
+pub mod told;
+
 use std::fs;
 use std::io::Write;
 use std::path::PathBuf;

@@ -1,0 +1,169 @@
+//! What a page of `yeruvoi check --all` tells, read back from its text.
+
+use std::collections::BTreeSet;
+use yeruvoi::arguments::Settings;
+use yeruvoi::check::answer;
+use yeruvoi::input::Input;
+
+pub mod letters {
+    /// A line of the file as a page quotes it.
+    #[derive(Clone, Debug)]
+    pub struct Quoted {
+        pub number: usize,
+        pub letter: u8,
+        pub fields: Vec<usize>,
+    }
+}
+
+use letters::Quoted;
+
+pub struct Told {
+    pub text: String,
+    pub quoted: Vec<Quoted>,
+}
+
+/// An assignment at fault as a page tells it.
+#[derive(Debug)]
+pub struct Fault {
+    pub line: usize,
+    pub number: usize,
+    pub user: usize,
+    pub role: usize,
+    pub clearance: usize,
+    /// The labels that the clearance is at odds with.
+    pub odd: BTreeSet<usize>,
+    /// 99 is undefined; 0 where it stands above.
+    pub level: usize,
+}
+
+impl Told {
+    pub fn of(file: &[u8]) -> Told {
+        let settings = Settings {
+            all: true,
+            ..Settings::default()
+        };
+        let answer = answer(&Input::of(file), &settings);
+        assert_eq!(answer.status, 1);
+        let quoted = answer.text.lines().filter_map(|line| quoted(line, file));
+        Told {
+            quoted: quoted.collect(),
+            text: answer.text,
+        }
+    }
+
+    /// The numbers of the lines that are quoted, in the page's order.
+    pub fn numbers(&self) -> Vec<usize> {
+        self.quoted.iter().map(|line| line.number).collect()
+    }
+
+    pub fn quoted_with(&self, letter: u8) -> Vec<Quoted> {
+        let lines = self.quoted.iter().filter(|line| line.letter == letter);
+        lines.cloned().collect()
+    }
+
+    /// The number in the first line.
+    fn number(&self) -> usize {
+        number_after(&self.text, "refused with ").expect("the number stands first")
+    }
+
+    /// The labels that the page calls rivals.
+    pub fn rivals(&self) -> Vec<usize> {
+        let lines = self.text.lines().skip(1);
+        let told = lines.filter(|line| line.contains(" dominates both, and none of"));
+        told.filter_map(|line| number_after(line, "  label "))
+            .collect()
+    }
+
+    /// The column that is told.
+    pub fn column(&self) -> usize {
+        number_after(&self.text, "\n  column ").expect("a column is told")
+    }
+
+    /// The fields that are told.
+    pub fn fields(&self) -> Vec<usize> {
+        let lines = self.text.lines().skip(1);
+        lines
+            .filter_map(|line| number_after(line, "  field "))
+            .collect()
+    }
+
+    /// The users or cards that are told.
+    pub fn things(&self, kind: &str) -> Vec<usize> {
+        let lines = self.text.lines().skip(1);
+        lines
+            .filter_map(|line| number_after(line, &format!("  {kind} ")))
+            .collect()
+    }
+
+    pub fn faults(&self) -> Vec<Fault> {
+        let lines: Vec<&str> = self.text.lines().collect();
+        let starts = (1..lines.len()).filter(|&index| lines[index].contains(" is assigned to "));
+        starts
+            .map(|index| self.fault(&lines[index..index + 3]))
+            .collect()
+    }
+
+    /// Line and number of each fault.
+    pub fn fault_numbers(&self) -> Vec<(usize, usize)> {
+        let faults = self.faults();
+        faults
+            .iter()
+            .map(|fault| (fault.line, fault.number))
+            .collect()
+    }
+
+    /// Three lines: the assignment, the clearance, the level.
+    fn fault(&self, lines: &[&str]) -> Fault {
+        let note = lines[0].get(40..).expect("a note stands beside the line");
+        let number = note.split(':').next().and_then(|word| word.parse().ok());
+        let undefined = lines[2].contains("undefined: no label");
+        let level = number_after(lines[2], "-level      ");
+        Fault {
+            line: number_after(lines[0], "line ").expect("the line has a number"),
+            number: number.unwrap_or(self.number()),
+            user: number_after(note, "user ").expect("the user stands there"),
+            role: number_after(note, "to role ").expect("the role stands there"),
+            clearance: number_after(lines[1], "clearance    ").expect("the clearance stands there"),
+            odd: lines[1]
+                .split("label ")
+                .skip(1)
+                .filter_map(leading_number)
+                .collect(),
+            level: if undefined { 99 } else { level.unwrap_or(0) },
+        }
+    }
+}
+
+/// A line of the page that quotes one of the file, which must be that line.
+fn quoted(line: &str, file: &[u8]) -> Option<Quoted> {
+    let quote = line.trim_start_matches(' ');
+    if quote.len() == line.len() || quote.get(..5) != Some("line ") {
+        return None;
+    }
+    let number = leading_number(&quote[5..]).expect("a quoted line has its number");
+    let bytes = &file[22 * (number - 1)..22 * number - 1];
+    let text = format!("{:<21}", quote.get(13..34).unwrap_or(&quote[13..]));
+    let shown = |byte: &u8| {
+        if (b' '..=b'~').contains(byte) {
+            char::from(*byte)
+        } else {
+            '?'
+        }
+    };
+    assert_eq!(text, bytes.iter().map(shown).collect::<String>());
+    let fields = text.get(1..).unwrap_or("").split_whitespace();
+    Some(Quoted {
+        number,
+        letter: bytes[0],
+        fields: fields.filter_map(|field| field.parse().ok()).collect(),
+    })
+}
+
+fn number_after(text: &str, words: &str) -> Option<usize> {
+    leading_number(text.split_once(words)?.1)
+}
+
+fn leading_number(text: &str) -> Option<usize> {
+    let digits = text.find(|character: char| !character.is_ascii_digit());
+    text[..digits.unwrap_or(text.len())].parse().ok()
+}
