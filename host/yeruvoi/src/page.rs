@@ -31,7 +31,10 @@ impl Page {
     pub fn left_out(&mut self, indent: usize, count: usize) {
         if count > 0 {
             let count = grouped(count as u64);
-            self.line(format!("{:indent$}... {count} more, which --all shows", ""));
+            self.line(format!(
+                "{:indent$}... {count} more; yeruvoi check --all shows them",
+                ""
+            ));
         }
     }
 
@@ -64,7 +67,7 @@ pub fn grouped(number: u64) -> String {
     let digits = number.to_string();
     let mut text = String::new();
     for (index, digit) in digits.chars().enumerate() {
-        if index > 0 && (digits.len() - index) % 3 == 0 {
+        if index > 0 && (digits.len() - index).is_multiple_of(3) {
             text.push(',');
         }
         text.push(digit);
@@ -76,15 +79,6 @@ pub fn grouped(number: u64) -> String {
 pub fn counted(count: u64, thing: &str) -> String {
     let ending = if count == 1 { "" } else { "s" };
     format!("{} {thing}{ending}", grouped(count))
-}
-
-/// `1 2 5`
-pub fn listed(numbers: impl IntoIterator<Item = u64>) -> String {
-    let words: Vec<String> = numbers
-        .into_iter()
-        .map(|number| number.to_string())
-        .collect();
-    words.join(" ")
 }
 
 /// How many of so many rows a page shows.

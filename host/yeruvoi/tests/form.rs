@@ -375,7 +375,7 @@ fn a_long_list_is_cut_with_a_count_unless_all_is_asked_for() {
     let twenty: String = (1..=20).map(card).collect();
     refused(
         &file,
-        &format!("{first}{twenty}  ... 4 more, which --all shows\n"),
+        &format!("{first}{twenty}  ... 4 more; yeruvoi check --all shows them\n"),
     );
     let all: String = (1..=24).map(card).collect();
     assert_eq!(

@@ -41,7 +41,7 @@ impl<'a> Length<'a> {
     /// What is wrong with the length itself.
     fn problem(&self) -> String {
         let above = self.length > FILE_BYTES;
-        let uneven = self.length % LINE_BYTES as u64 != 0 && !self.more;
+        let uneven = !self.length.is_multiple_of(LINE_BYTES as u64) && !self.more;
         match (self.length, above, uneven) {
             (0, _, _) => "the file is empty".to_string(),
             (_, true, true) => format!("above {}, and {UNEVEN}", grouped(FILE_BYTES)),

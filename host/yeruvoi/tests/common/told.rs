@@ -151,11 +151,15 @@ fn quoted(line: &str, file: &[u8]) -> Option<Quoted> {
         }
     };
     assert_eq!(text, bytes.iter().map(shown).collect::<String>());
-    let fields = text.get(1..).unwrap_or("").split_whitespace();
+    let fields = (1..21)
+        .step_by(5)
+        .filter_map(|start| text.get(start..start + 5));
     Some(Quoted {
         number,
         letter: bytes[0],
-        fields: fields.filter_map(|field| field.parse().ok()).collect(),
+        fields: fields
+            .filter_map(|field| field.trim().parse().ok())
+            .collect(),
     })
 }
 
