@@ -44,10 +44,10 @@ fn the_rival_bounds_are_told_or_that_there_is_none() {
     refused(
         "H    6    0    0    0\nD    3    1\nD    3    2\nD    4    1\nD    4    5\nD    5    2\nD    6    3\nD    6    4\n",
         "refused with 12 at label 1, label 2: the two labels have no least upper bound\n\
-        \x20 label 3 dominates both, and none of the others that do\n\
+        \x20 label 3 is a rival bound: it dominates both, and no other bound\n\
         \x20   line 2       D    3    1              label 3 dominates label 1\n\
         \x20   line 3       D    3    2              label 3 dominates label 2\n\
-        \x20 label 4 dominates both, and none of the others that do\n\
+        \x20 label 4 is a rival bound: it dominates both, and no other bound\n\
         \x20   line 4       D    4    1              label 4 dominates label 1\n\
         \x20   line 5       D    4    5              label 4 dominates label 5\n\
         \x20   line 6       D    5    2              label 5 dominates label 2\n",
@@ -60,13 +60,13 @@ fn three_rival_bounds_are_told() {
         "H    6    0    0    0\nD    1    2\nD    1    3\nD    1    4\nD    2    5\nD    2    6\n\
         D    3    5\nD    3    6\nD    4    5\nD    4    6\n",
         "refused with 12 at label 5, label 6: the two labels have no least upper bound\n\
-        \x20 label 2 dominates both, and none of the others that do\n\
+        \x20 label 2 is a rival bound: it dominates both, and no other bound\n\
         \x20   line 5       D    2    5              label 2 dominates label 5\n\
         \x20   line 6       D    2    6              label 2 dominates label 6\n\
-        \x20 label 3 dominates both, and none of the others that do\n\
+        \x20 label 3 is a rival bound: it dominates both, and no other bound\n\
         \x20   line 7       D    3    5              label 3 dominates label 5\n\
         \x20   line 8       D    3    6              label 3 dominates label 6\n\
-        \x20 label 4 dominates both, and none of the others that do\n\
+        \x20 label 4 is a rival bound: it dominates both, and no other bound\n\
         \x20   line 9       D    4    5              label 4 dominates label 5\n\
         \x20   line 10      D    4    6              label 4 dominates label 6\n",
     );
@@ -160,6 +160,72 @@ fn every_assignment_at_fault_is_told() {
         \x20 line 18      A    3    1              15: user 3 is assigned to role 1\n\
         \x20 clearance    1, does not dominate label 2\n\
         \x20 r-level      of role 1, as above\n",
+    );
+}
+
+/// One role reads nine cards at label 2 and one at label 3.
+fn many_cards() -> String {
+    let mut file = "H    3    1    1   10\nD    2    1\nD    3    2\nU    1    1\n".to_string();
+    let label = |card: usize| if card == 10 { 3 } else { 2 };
+    file.extend((1..=10).map(|card| format!("O{card:>5}{:>5}\n", label(card))));
+    file.extend((1..=10).map(|card| format!("P    1{card:>5}    1\n")));
+    file + "A    1    1\n"
+}
+
+#[test]
+fn a_few_lines_of_a_level_are_told_one_of_each_label_among_them() {
+    let first = "\
+refused with 15 at user 1, role 1: the clearance does not dominate the r-level
+  line 25      A    1    1              user 1 is assigned to role 1
+  clearance    1, does not dominate label 2, label 3
+  r-level      3, the least upper bound of
+    line 15      P    1    1    1         label 2: card 1
+    line 16      P    1    2    1         label 2: card 2
+    line 17      P    1    3    1         label 2: card 3
+    line 18      P    1    4    1         label 2: card 4
+    line 19      P    1    5    1         label 2: card 5
+";
+    let last = "    line 24      P    1   10    1         label 3: card 10\n";
+    let cut = "    ... 4 more; yeruvoi check --all shows them\n";
+    refused(&many_cards(), &format!("{first}{last}{cut}"));
+    let rest: String = (6..=9)
+        .map(|card| {
+            format!(
+                "    line {:<4}    P    1    {card}    1         label 2: card {card}\n",
+                card + 14
+            )
+        })
+        .collect();
+    let all = run(&["check", "--all", "-"], &padded(&many_cards()));
+    assert_eq!(all.output, format!("{first}{rest}{last}"));
+}
+
+#[test]
+fn many_assignments_at_fault_are_cut_with_a_count() {
+    let mut file = "H    2    1   23    1\nD    2    1\n".to_string();
+    file.extend((1..=23).map(|user| format!("U{user:>5}    1\n")));
+    file += "O    1    2\nP    1    1    1\n";
+    file.extend((1..=23).map(|user| format!("A{user:>5}    1\n")));
+    let mut text = "\
+refused with 15 at user 1, role 1: the clearance does not dominate the r-level
+  line 28      A    1    1              user 1 is assigned to role 1
+  clearance    1, does not dominate label 2
+  r-level      2, the least upper bound of
+    line 27      P    1    1    1         label 2: card 1
+22 more assignments are refused, each with its number:
+"
+    .to_string();
+    text.extend((2..=20).map(|user| {
+        format!(
+            "  line {}      A{user:>5}    1              15: user {user} is assigned to role 1\n\
+            \x20 clearance    1, does not dominate label 2\n\
+            \x20 r-level      of role 1, as above\n",
+            user + 27
+        )
+    }));
+    refused(
+        &file,
+        &(text + "... 3 more; yeruvoi check --all shows them\n"),
     );
 }
 

@@ -56,7 +56,7 @@ impl Cause for Bounds<'_> {
         for bound in &self.rivals {
             let label = names.thing(Kind::Label, bound.label);
             page.line(format!(
-                "  {label} dominates both, and none of the others that do"
+                "  {label} is a rival bound: it dominates both, and no other bound"
             ));
             for line in &bound.lines {
                 page.quote(4, line, &says(line, Kind::Label, names));

@@ -1,6 +1,7 @@
 //! What the tests share: the built command, and files written by hand.
 #![allow(dead_code)]
 
+pub mod files;
 pub mod told;
 
 use std::fs;

@@ -5,17 +5,13 @@ use yeruvoi::arguments::Settings;
 use yeruvoi::check::answer;
 use yeruvoi::input::Input;
 
-pub mod letters {
-    /// A line of the file as a page quotes it.
-    #[derive(Clone, Debug)]
-    pub struct Quoted {
-        pub number: usize,
-        pub letter: u8,
-        pub fields: Vec<usize>,
-    }
+/// A line of the file as a page quotes it.
+#[derive(Clone, Debug)]
+pub struct Quoted {
+    pub number: usize,
+    pub letter: u8,
+    pub fields: Vec<usize>,
 }
-
-use letters::Quoted;
 
 pub struct Told {
     pub text: String,
@@ -69,7 +65,7 @@ impl Told {
     /// The labels that the page calls rivals.
     pub fn rivals(&self) -> Vec<usize> {
         let lines = self.text.lines().skip(1);
-        let told = lines.filter(|line| line.contains(" dominates both, and none of"));
+        let told = lines.filter(|line| line.contains(" is a rival bound: "));
         told.filter_map(|line| number_after(line, "  label "))
             .collect()
     }
@@ -103,15 +99,6 @@ impl Told {
             .collect()
     }
 
-    /// Line and number of each fault.
-    pub fn fault_numbers(&self) -> Vec<(usize, usize)> {
-        let faults = self.faults();
-        faults
-            .iter()
-            .map(|fault| (fault.line, fault.number))
-            .collect()
-    }
-
     /// Three lines: the assignment, the clearance, the level.
     fn fault(&self, lines: &[&str]) -> Fault {
         let note = lines[0].get(40..).expect("a note stands beside the line");
@@ -131,6 +118,13 @@ impl Told {
                 .collect(),
             level: if undefined { 99 } else { level.unwrap_or(0) },
         }
+    }
+}
+
+impl Fault {
+    /// The number and place that a load gives it.
+    pub fn verdict(&self) -> (usize, [usize; 2]) {
+        (self.number, [self.user, self.role])
     }
 }
 
