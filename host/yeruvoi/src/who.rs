@@ -103,6 +103,7 @@ impl Who {
             labels.map(move |&label| (holder.user, label, holder.roles))
         });
         Json::Object(vec![
+            ("accepted", Json::Boolean(true)),
             ("mode", Json::text(self.mode.word())),
             ("card", names.json(Kind::Card, self.card)),
             (

@@ -77,7 +77,7 @@ fn answered(question: Question, asked: &Asked) -> String {
 }
 
 impl<'a> Why<'a> {
-    fn of(question: Question, asked: &Asked, lines: &'a Lines<'a>) -> Why<'a> {
+    fn of(question: Question, asked: &Asked, lines: &Lines<'a>) -> Why<'a> {
         let givers = question.givers(&asked.policy);
         let served = served(question, &asked.policy, lines);
         let tried = match served.is_empty() {
@@ -115,11 +115,7 @@ impl Question {
 }
 
 /// The labels at which the user may, with the way that is told: those with the same role together.
-fn served<'a>(
-    question: Question,
-    policy: &Policy,
-    lines: &'a Lines<'a>,
-) -> Vec<(Vec<u64>, Way<'a>)> {
+fn served<'a>(question: Question, policy: &Policy, lines: &Lines<'a>) -> Vec<(Vec<u64>, Way<'a>)> {
     let Question { user, mode, card } = question;
     let ways = Ways::of(lines, user, card, mode);
     let mut served: Vec<(Vec<u64>, Way)> = Vec::new();

@@ -276,8 +276,10 @@ impl Sides<'_> {
             Level::Undefined => "undefined".to_string(),
             Level::Label(label) => number(self.legend, "label", label),
         };
-        let json = |level: Option<Level>| {
-            level.map_or("null".to_string(), |level| level.printed().to_string())
+        let json = |level: Option<Level>| match level {
+            None => "null".to_string(),
+            Some(Level::Label(label)) => thing(self.legend, "label", label),
+            Some(level) => text(&shown(level)),
         };
         let mut facts = Vec::new();
         for one in 1..=512 {
@@ -371,6 +373,10 @@ impl Sides<'_> {
             0 => "none".to_string(),
             _ => format!("role {}", number(self.legend, "role", role)),
         };
+        let json = |role: usize| match role {
+            0 => "null".to_string(),
+            _ => thing(self.legend, "role", role),
+        };
         let line = format!(
             "circles lowest role on one {}, was {}",
             shown(new),
@@ -381,8 +387,8 @@ impl Sides<'_> {
             lines: vec![line],
             json: object(&[
                 ("change", text("circle")),
-                ("old", old.to_string()),
-                ("new", new.to_string()),
+                ("old", json(old)),
+                ("new", json(new)),
             ]),
         })
     }

@@ -225,6 +225,7 @@ fn expected_json(expected: &Expected, legend: &Legend) -> String {
         ])
     });
     object(&[
+        ("accepted", "true".to_string()),
         ("labels", things("label", expected.labels)),
         ("roles", things("role", expected.roles)),
         ("dominance", order(&expected.dominance, "label")),

@@ -80,6 +80,7 @@ fn expected_json(policy: &Policy, legend: &Legend, asked: &[usize]) -> String {
         .filter(|card| !read.contains(card))
         .collect();
     object(&[
+        ("accepted", "true".to_string()),
         ("labels", things("label", counts.labels)),
         ("roles", things("role", counts.roles)),
         ("cards", things("card", counts.cards)),

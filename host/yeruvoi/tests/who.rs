@@ -129,6 +129,7 @@ fn json_of_random_files() {
             ])
         };
         expected += &object(&[
+            ("accepted", "true".to_string()),
             ("mode", text(word(mode))),
             ("card", thing(&legend, "card", card)),
             (

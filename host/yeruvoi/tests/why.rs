@@ -435,9 +435,17 @@ fn wrong_words() {
 fn expected_json(told: &Told, question: Question, givers: &[usize], legend: &Legend) -> String {
     let things = |kind, numbers: &[usize]| support::json::things(legend, kind, numbers);
     let line = |(number, quoted): &(usize, String)| {
-        object(&[("line", number.to_string()), ("text", text(quoted))])
+        let mut words = quoted.split_whitespace();
+        let letter = words.next().expect("a letter");
+        object(&[
+            ("number", number.to_string()),
+            ("text", text(quoted)),
+            ("letter", text(letter)),
+            ("fields", list(words, str::to_string)),
+        ])
     };
     object(&[
+        ("accepted", "true".to_string()),
         ("user", thing(legend, "user", question.user)),
         ("mode", text(question.word())),
         ("card", thing(legend, "card", question.card)),

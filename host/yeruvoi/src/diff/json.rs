@@ -1,9 +1,9 @@
 //! `diff` for programs.
 
-use super::change::{Change, Circle, Count, Kept, Labelled, Linked, Permitted, Right};
+use super::change::{Change, Circle, Count, Figure, Kept, Labelled, Linked, Permitted, Right};
 use super::Difference;
 use crate::json::Json;
-use crate::monitor::Mode;
+use crate::monitor::{Mode, FREE, UNDEFINED};
 use crate::names::{Kind, Names};
 
 type Members = Vec<(&'static str, Json)>;
@@ -30,7 +30,7 @@ fn members(change: &Change, names: &Names) -> Members {
         Change::Labelled(labelled) => of_labelled(labelled, names),
         Change::Linked(linked) => of_linked(linked, names),
         Change::Permitted(permitted) => of_permitted(permitted, names),
-        Change::Circle(circle) => of_circle(circle),
+        Change::Circle(circle) => of_circle(circle, names),
     }
 }
 
@@ -68,7 +68,12 @@ fn of_count(count: &Count) -> Members {
 
 fn of_labelled(labelled: &Labelled, names: &Names) -> Members {
     let (kind, word) = labelled.figure.words();
-    let value = |value: Option<u64>| value.map_or(Json::Null, Json::Number);
+    let value = |value: Option<u64>| match (labelled.figure, value) {
+        (_, None) => Json::Null,
+        (Figure::Level(_), Some(FREE)) => Json::text("free"),
+        (Figure::Level(_), Some(UNDEFINED)) => Json::text("undefined"),
+        (_, Some(label)) => names.json(Kind::Label, label),
+    };
     vec![
         ("change", Json::text(word)),
         (kind.word(), names.json(kind, labelled.number)),
@@ -87,11 +92,15 @@ fn of_linked(linked: &Linked, names: &Names) -> Members {
     ]
 }
 
-fn of_circle(circle: &Circle) -> Members {
+fn of_circle(circle: &Circle, names: &Names) -> Members {
+    let value = |role: u64| match role {
+        0 => Json::Null,
+        _ => names.json(Kind::Role, role),
+    };
     vec![
         ("change", Json::text("circle")),
-        ("old", Json::Number(circle.old)),
-        ("new", Json::Number(circle.new)),
+        ("old", value(circle.old)),
+        ("new", value(circle.new)),
     ]
 }
 

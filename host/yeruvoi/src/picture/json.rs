@@ -8,6 +8,7 @@ pub fn written(drawing: &Drawing, names: &Names) -> Json {
     let things = |kind, count| Json::list(1..=count, |number| names.json(kind, number));
     let circle = (1..=drawing.roles).filter(|&role| drawing.on_circle(role));
     Json::Object(vec![
+        ("accepted", Json::Boolean(true)),
         ("labels", things(Kind::Label, drawing.labels)),
         ("roles", things(Kind::Role, drawing.roles)),
         ("dominance", turned(&drawing.dominance, ["label", "over"])),

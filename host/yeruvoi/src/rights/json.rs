@@ -14,6 +14,7 @@ pub fn written(rights: &Rights, asked: &Asked) -> String {
     let names = &asked.settings.names;
     let things = |kind, count| Json::list(1..=count, |number| names.json(kind, number));
     Json::Object(vec![
+        ("accepted", Json::Boolean(true)),
         ("labels", things(Kind::Label, counts.labels)),
         ("roles", things(Kind::Role, counts.roles)),
         ("cards", things(Kind::Card, counts.cards)),

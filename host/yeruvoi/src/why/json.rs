@@ -9,6 +9,7 @@ use crate::way::Way;
 pub fn written(why: &Why, names: &Names) -> Json {
     let question = why.question;
     Json::Object(vec![
+        ("accepted", Json::Boolean(true)),
         ("user", names.json(Kind::User, question.user)),
         ("mode", Json::text(question.mode.word())),
         ("card", names.json(Kind::Card, question.card)),

@@ -51,7 +51,7 @@ fn put_way(page: &mut Page, way: &Way, why: &Why, settings: &Settings) {
     let question = why.question;
     let assigned = role(way.assignment.fields[1]);
     let note = format!("user {} is assigned to {assigned}", question.user);
-    page.quote(4, way.assignment, &note);
+    page.quote(4, &way.assignment, &note);
     for line in &way.seniority {
         let [senior, junior, ..] = line.fields;
         page.quote(
@@ -62,7 +62,7 @@ fn put_way(page: &mut Page, way: &Way, why: &Why, settings: &Settings) {
     }
     let (permitted, mode) = (way.permission.fields[0], question.mode.word());
     let note = format!("role {permitted} may {mode} card {}", question.card);
-    page.quote(4, way.permission, &note);
+    page.quote(4, &way.permission, &note);
 }
 
 /// What is missing where no role of the user gives the card.
