@@ -1,6 +1,7 @@
 //! `yeruvoi diff` against two readings of the model, and against texts written
 //! by hand.
 
+mod common;
 mod support;
 
 use monitor_model::{Mode, Policy};
@@ -717,6 +718,6 @@ fn a_refused_file() {
         let expected = format!(
             "yeruvoi: {bad} is refused with 4: a user, role, card, label or mode number is out of its range\n"
         );
-        assert_eq!(ran.problems, expected);
+        assert_eq!(ran.errors, expected);
     }
 }

@@ -1,6 +1,7 @@
 //! `yeruvoi picture`, read back and held to the model, and against texts written
 //! by hand.
 
+mod common;
 mod support;
 
 use monitor_model::Policy;

@@ -1,5 +1,6 @@
 //! `yeruvoi rights` against the model and against texts written by hand.
 
+mod common;
 mod support;
 
 use monitor_model::{Mode, Policy};
@@ -285,7 +286,7 @@ fn words_that_are_no_user() {
             let ran = run(&words, EXAMPLE.as_bytes());
             assert_eq!((ran.output.as_str(), ran.status), ("", 2), "{word}");
             let expected = format!("yeruvoi: user {word} is none of this file's 1 users\n");
-            assert_eq!(ran.problems, expected);
+            assert_eq!(ran.errors, expected);
         }
     }
 }

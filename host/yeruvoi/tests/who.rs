@@ -1,5 +1,6 @@
 //! `yeruvoi who` against the model and against texts written by hand.
 
+mod common;
 mod support;
 
 use monitor_model::{Mode, Policy};
@@ -228,7 +229,7 @@ fn wrong_words() {
         let ran = run(&["who", "-", words[0], words[1]], EXAMPLE.as_bytes());
         assert_eq!((ran.output.as_str(), ran.status), ("", 2));
         let expected = format!("yeruvoi: {problem}");
-        assert!(ran.problems.starts_with(&expected), "{}", ran.problems);
-        assert_eq!(ran.problems.lines().count(), 1);
+        assert!(ran.errors.starts_with(&expected), "{}", ran.errors);
+        assert_eq!(ran.errors.lines().count(), 1);
     }
 }

@@ -1,6 +1,7 @@
 //! `yeruvoi why`: what it tells is held to the model, and mended to see that it
 //! is the cause.
 
+mod common;
 mod support;
 
 use monitor_model::{Mode, Policy};
@@ -15,7 +16,7 @@ use support::files;
 use support::json::{list, object, parsed, text, thing};
 use support::legend::Legend;
 use support::run::{run, told};
-use support::told::{Barred, Told, Way};
+use support::why_page::{Barred, Told, Way};
 use support::{named, policy, CROSSED, EXAMPLES};
 
 const SEED: u64 = 23;
@@ -424,7 +425,7 @@ fn wrong_words() {
         let ran = run(&["why", "-", user, mode, card], EXAMPLE.as_bytes());
         assert_eq!((ran.output.as_str(), ran.status), ("", 2));
         let expected = format!("yeruvoi: {problem}");
-        assert!(ran.problems.starts_with(&expected), "{}", ran.problems);
+        assert!(ran.errors.starts_with(&expected), "{}", ran.errors);
     }
 }
 

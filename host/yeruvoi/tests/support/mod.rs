@@ -9,7 +9,7 @@ pub mod list;
 pub mod report;
 pub mod run;
 pub mod temporary;
-pub mod told;
+pub mod why_page;
 
 use legend::Legend;
 use monitor_model::Policy;
