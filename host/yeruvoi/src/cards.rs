@@ -1,11 +1,13 @@
 //! Sets of cards.
 
-/// The most cards that a file has, in words of 64.
-const WORDS: usize = 512 / 64;
+use crate::bits;
+
+/// The most cards that a file has, in words of 128.
+const WORDS: usize = 512 / 128;
 
 /// A set of the cards 1 to 512.
 #[derive(Clone, Copy, Debug, Default, PartialEq, Eq)]
-pub struct Cards([u64; WORDS]);
+pub struct Cards([u128; WORDS]);
 
 impl Cards {
     /// The cards 1 to `count`.
@@ -20,7 +22,7 @@ impl Cards {
 
     pub fn holds(&self, card: u64) -> bool {
         let place = (card - 1) as usize;
-        self.0[place / 64] >> (place % 64) & 1 == 1
+        self.0[place / 128] >> (place % 128) & 1 == 1
     }
 
     pub fn is_empty(&self) -> bool {
@@ -37,15 +39,21 @@ impl Cards {
         Cards(std::array::from_fn(|word| self.0[word] & !other.0[word]))
     }
 
+    fn count(&self) -> usize {
+        self.0.iter().map(|word| word.count_ones() as usize).sum()
+    }
+
     /// The cards, rising.
     pub fn iter(&self) -> impl Iterator<Item = u64> + '_ {
         let words = self.0.iter().zip(0..);
-        words.flat_map(|(&word, place)| ones(word).map(move |bit| 64 * place + bit + 1))
+        words.flat_map(|(&word, place)| bits::numbers(word).map(move |bit| 128 * place + bit))
     }
 
     /// The cards, rising.
     pub fn numbers(&self) -> Vec<u64> {
-        self.iter().collect()
+        let mut numbers = Vec::with_capacity(self.count());
+        numbers.extend(self.iter());
+        numbers
     }
 }
 
@@ -54,17 +62,8 @@ impl FromIterator<u64> for Cards {
         let mut set = Cards::default();
         for card in cards {
             let place = (card - 1) as usize;
-            set.0[place / 64] |= 1 << (place % 64);
+            set.0[place / 128] |= 1 << (place % 128);
         }
         set
     }
-}
-
-/// The places of the bits that are 1, rising.
-fn ones(mut word: u64) -> impl Iterator<Item = u64> {
-    std::iter::from_fn(move || {
-        let place = word.trailing_zeros();
-        word &= word.checked_sub(1)?;
-        Some(u64::from(place))
-    })
 }

@@ -5,6 +5,7 @@
 pub mod answer;
 pub mod arguments;
 pub mod asked;
+pub mod bits;
 mod c;
 pub mod cards;
 pub mod check;

@@ -1,6 +1,7 @@
 //! The archive's calls. Every fact that the command prints of an accepted file
 //! comes from here.
 
+use crate::bits;
 use crate::c;
 use crate::header::STATE_BYTES;
 
@@ -95,7 +96,7 @@ impl Roles {
 
     /// The roles, rising.
     pub fn iter(self) -> impl Iterator<Item = u64> {
-        (1..=128).filter(move |&role| self.holds(role))
+        bits::numbers(u128::from(self.high) << 64 | u128::from(self.low))
     }
 }
 

@@ -1,15 +1,12 @@
 //! Relations among the labels, among the roles, or between users and roles of a file.
 
+use crate::bits::numbers;
+
 /// Which of the things 1 to 128 each thing is related to.
 #[derive(Clone, Debug, Default, PartialEq, Eq)]
 pub struct Relation {
     /// By the first thing from 1: bit b - 1 stands for the second thing b.
     rows: Vec<u128>,
-}
-
-/// The things of a row, rising.
-fn things(row: u128) -> impl Iterator<Item = u64> {
-    (1..=128).filter(move |thing| row >> (thing - 1) & 1 == 1)
 }
 
 impl Relation {
@@ -43,14 +40,14 @@ impl Relation {
 
     /// The things that a is related to, rising.
     pub fn others(&self, a: u64) -> Vec<u64> {
-        things(self.row(a)).collect()
+        numbers(self.row(a)).collect()
     }
 
     /// All pairs, rising.
     pub fn pairs(&self) -> Vec<(u64, u64)> {
         let firsts = 1..=self.rows.len() as u64;
         firsts
-            .flat_map(|a| things(self.row(a)).map(move |b| (a, b)))
+            .flat_map(|a| numbers(self.row(a)).map(move |b| (a, b)))
             .collect()
     }
 
@@ -69,7 +66,7 @@ impl Relation {
 
     /// A step of this relation and then one of the other.
     pub fn then(&self, other: &Relation) -> Relation {
-        let reached = |&row: &u128| things(row).fold(0, |reached, b| reached | other.row(b));
+        let reached = |&row: &u128| numbers(row).fold(0, |reached, b| reached | other.row(b));
         Relation {
             rows: self.rows.iter().map(reached).collect(),
         }

@@ -4,6 +4,7 @@
 mod common;
 mod support;
 
+use common::run;
 use monitor_model::{Mode, Policy};
 use second_checker::check::{Counts, Level, RoleFile};
 use second_checker::example::EXAMPLE;
@@ -13,7 +14,7 @@ use second_checker::{check, Outcome};
 use std::collections::{BTreeMap, BTreeSet};
 use support::json::{object, parsed, text, thing};
 use support::legend::Legend;
-use support::run::{run, told};
+use support::run::told;
 use support::{files, named, number, policy, temporary, things, CROSSED};
 
 const SEED: u64 = 25;

@@ -3,6 +3,7 @@
 mod common;
 mod support;
 
+use common::run;
 use monitor_model::{Mode, Policy};
 use second_checker::check::READ;
 use second_checker::example::EXAMPLE;
@@ -12,7 +13,7 @@ use second_checker::random::Random;
 use support::json::{list, numbers, object, parsed, text, thing};
 use support::legend::Legend;
 use support::report::{assigned, by_anyone, given, members, takes, Page};
-use support::run::{run, told};
+use support::run::told;
 use support::{files, named, policy, CROSSED, EXAMPLES};
 
 const SEED: u64 = 21;

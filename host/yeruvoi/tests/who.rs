@@ -3,12 +3,13 @@
 mod common;
 mod support;
 
+use common::run;
 use monitor_model::{Mode, Policy};
 use second_checker::example::EXAMPLE;
 use second_checker::generate::write;
 use support::json::{object, parsed, text, thing};
 use support::legend::Legend;
-use support::run::{run, told};
+use support::run::told;
 use support::{files, named, number, policy, things, CROSSED, EXAMPLES};
 
 const SEED: u64 = 22;

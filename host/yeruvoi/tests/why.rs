@@ -4,6 +4,7 @@
 mod common;
 mod support;
 
+use common::run;
 use monitor_model::{Mode, Policy};
 use second_checker::check::{read, Level, RoleFile};
 use second_checker::example::EXAMPLE;
@@ -15,7 +16,7 @@ use std::collections::BTreeSet;
 use support::files;
 use support::json::{list, object, parsed, text, thing};
 use support::legend::Legend;
-use support::run::{run, told};
+use support::run::told;
 use support::why_page::{Barred, Told, Way};
 use support::{named, policy, CROSSED, EXAMPLES};
 

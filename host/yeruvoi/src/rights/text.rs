@@ -3,6 +3,7 @@
 use super::{Rights, User};
 use crate::arguments::Settings;
 use crate::list::rows;
+use crate::monitor::Roles;
 use crate::names::Kind;
 use crate::sessions::Session;
 use crate::threads;
@@ -14,14 +15,21 @@ pub fn written(rights: &Rights, settings: &Settings) -> String {
     let sessions = threads::map(&rights.sessions.all, |session| {
         of_session(session, settings)
     });
-    let mut text = String::new();
-    for user in &rights.users {
-        text += &of_user(user, settings);
+    let users: Vec<String> = rights
+        .users
+        .iter()
+        .map(|user| of_user(user, settings))
+        .collect();
+    let nobody = of_nobody(rights, settings);
+    let mut pieces: Vec<&str> = Vec::new();
+    for (user, text) in rights.users.iter().zip(&users) {
         let places = rights.sessions.places(user.number).iter();
-        places.for_each(|&place| text += &sessions[place]);
-        text += "\n";
+        pieces.push(text);
+        pieces.extend(places.map(|&place| sessions[place].as_str()));
+        pieces.push("\n");
     }
-    text + &of_nobody(rights, settings)
+    pieces.push(&nobody);
+    pieces.concat()
 }
 
 fn of_user(user: &User, settings: &Settings) -> String {
@@ -54,7 +62,7 @@ fn of_nobody(rights: &Rights, settings: &Settings) -> String {
     block("no user", rows.concat())
 }
 
-fn numbers(roles: crate::monitor::Roles) -> Vec<u64> {
+fn numbers(roles: Roles) -> Vec<u64> {
     roles.iter().collect()
 }
 
