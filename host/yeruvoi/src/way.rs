@@ -31,8 +31,8 @@ impl<'a> Way<'a> {
         first.chain(&self.seniority).chain(last)
     }
 
-    /// The least of several ways is told: one with the fewest lines, and of these one that takes the
-    /// role nearest to the permission.
+    /// A way with fewer lines is told first, and of these one that takes a role nearer to the
+    /// permission.
     fn rank(&self) -> (usize, usize, u64) {
         (self.seniority.len(), self.below, self.taken)
     }
@@ -53,14 +53,16 @@ impl<'a> Ways<'a> {
         }
     }
 
-    /// The way that is told where any of these roles may be taken.
-    pub fn best(&self, roles: Roles) -> Option<Way<'a>> {
-        let ways = roles.iter().filter_map(|role| self.past(role));
-        ways.min_by_key(Way::rank)
+    /// A shortest way past each of these roles, the one to be told first in front.
+    pub fn past(&self, roles: Roles) -> Vec<Way<'a>> {
+        let ways = roles.iter().filter_map(|role| self.past_one(role));
+        let mut ways: Vec<Way> = ways.collect();
+        ways.sort_by_key(Way::rank);
+        ways
     }
 
     /// A shortest way past this role.
-    fn past(&self, taken: u64) -> Option<Way<'a>> {
+    fn past_one(&self, taken: u64) -> Option<Way<'a>> {
         let above = self
             .assignments
             .iter()

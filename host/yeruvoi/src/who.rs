@@ -6,7 +6,7 @@ use crate::asked::{mode, number, of_accepted};
 use crate::json::Json;
 use crate::list::things;
 use crate::monitor::{Mode, Policy, Roles};
-use crate::names::Kind;
+use crate::names::{Kind, Names};
 use crate::page::Page;
 
 pub const SUBCOMMAND: Subcommand = Subcommand {
@@ -25,17 +25,18 @@ session of the user can do it, and the roles that give it there.
     run,
 };
 
-/// A user who may, at these labels by these roles.
-struct Holder {
+/// A session that may, and the roles by which it may.
+struct Session {
     user: u64,
-    labels: Vec<u64>,
+    label: u64,
     roles: Roles,
 }
 
 struct Who {
     card: u64,
     mode: Mode,
-    holders: Vec<Holder>,
+    /// By user, then by label.
+    sessions: Vec<Session>,
 }
 
 fn run(arguments: &Arguments) -> Result<Answer, Trouble> {
@@ -61,28 +62,30 @@ pub fn serving(policy: &Policy, user: u64, label: u64, card: u64, mode: Mode) ->
 
 impl Who {
     fn of(policy: &Policy, card: u64, mode: Mode) -> Who {
-        let users = 1..=policy.counts().users;
+        let counts = policy.counts();
+        let users = 1..=counts.users;
+        let all = users.flat_map(|user| (1..=counts.labels).map(move |label| (user, label)));
+        let sessions = all.filter_map(|(user, label)| {
+            let roles = serving(policy, user, label, card, mode)?;
+            Some(Session { user, label, roles })
+        });
         Who {
             card,
             mode,
-            holders: users
-                .flat_map(|user| holders(policy, user, card, mode))
+            sessions: sessions
+                .filter(|session| !session.roles.is_empty())
                 .collect(),
         }
     }
 
     fn text(&self, settings: &Settings) -> String {
-        let names = &settings.names;
         let mut page = Page::new();
-        if self.holders.is_empty() {
-            let card = names.thing(Kind::Card, self.card);
+        if self.sessions.is_empty() {
+            let card = settings.names.thing(Kind::Card, self.card);
             page.line(format!("no user may {} {card}", self.mode.word()));
         }
-        let rows: Vec<[String; 3]> = self
-            .holders
-            .iter()
-            .map(|holder| holder.row(settings))
-            .collect();
+        let together = together(&self.sessions);
+        let rows: Vec<[String; 3]> = together.iter().map(|one| one.row(settings)).collect();
         let width = |column: usize| {
             let widths = rows.iter().map(|row| row[column].chars().count());
             widths.max().unwrap_or(0)
@@ -98,32 +101,53 @@ impl Who {
 
     fn json(&self, settings: &Settings) -> Json {
         let names = &settings.names;
-        let sessions = self.holders.iter().flat_map(|holder| {
-            let labels = holder.labels.iter();
-            labels.map(move |&label| (holder.user, label, holder.roles))
-        });
         Json::Object(vec![
             ("accepted", Json::Boolean(true)),
             ("mode", Json::text(self.mode.word())),
             ("card", names.json(Kind::Card, self.card)),
             (
                 "sessions",
-                Json::list(sessions, |(user, label, roles)| {
-                    Json::Object(vec![
-                        ("user", names.json(Kind::User, user)),
-                        ("label", names.json(Kind::Label, label)),
-                        (
-                            "roles",
-                            Json::list(roles.iter(), |role| names.json(Kind::Role, role)),
-                        ),
-                    ])
-                }),
+                Json::list(&self.sessions, |session| session.json(names)),
             ),
         ])
     }
 }
 
-impl Holder {
+impl Session {
+    fn json(&self, names: &Names) -> Json {
+        let roles = Json::list(self.roles.iter(), |role| names.json(Kind::Role, role));
+        Json::Object(vec![
+            ("user", names.json(Kind::User, self.user)),
+            ("label", names.json(Kind::Label, self.label)),
+            ("roles", roles),
+        ])
+    }
+}
+
+/// The labels at which a user may by the same roles.
+struct Together {
+    user: u64,
+    labels: Vec<u64>,
+    roles: Roles,
+}
+
+fn together(sessions: &[Session]) -> Vec<Together> {
+    let mut all: Vec<Together> = Vec::new();
+    for &Session { user, label, roles } in sessions {
+        let mut of_user = all.iter_mut().rev().take_while(|one| one.user == user);
+        match of_user.find(|one| one.roles == roles) {
+            Some(one) => one.labels.push(label),
+            None => all.push(Together {
+                user,
+                labels: vec![label],
+                roles,
+            }),
+        }
+    }
+    all
+}
+
+impl Together {
     fn row(&self, settings: &Settings) -> [String; 3] {
         let roles: Vec<u64> = self.roles.iter().collect();
         [
@@ -132,23 +156,4 @@ impl Holder {
             things(&roles, Kind::Role, settings),
         ]
     }
-}
-
-/// The labels at which the user may, those with the same roles together.
-fn holders(policy: &Policy, user: u64, card: u64, mode: Mode) -> Vec<Holder> {
-    let mut holders: Vec<Holder> = Vec::new();
-    for label in 1..=policy.counts().labels {
-        let roles = serving(policy, user, label, card, mode).unwrap_or_default();
-        let same = holders.iter_mut().find(|holder| holder.roles == roles);
-        match same {
-            _ if roles.is_empty() => {}
-            Some(holder) => holder.labels.push(label),
-            None => holders.push(Holder {
-                user,
-                labels: vec![label],
-                roles,
-            }),
-        }
-    }
-    holders
 }

@@ -114,23 +114,27 @@ impl Question {
     }
 }
 
-/// The labels at which the user may, with the way that is told: those with the same role together.
+/// The labels at which the user may, each with the first way that takes a role which serves there;
+/// those with the same way together.
 fn served<'a>(question: Question, policy: &Policy, lines: &Lines<'a>) -> Vec<(Vec<u64>, Way<'a>)> {
     let Question { user, mode, card } = question;
-    let ways = Ways::of(lines, user, card, mode);
-    let mut served: Vec<(Vec<u64>, Way)> = Vec::new();
-    for label in 1..=policy.counts().labels {
-        let roles = serving(policy, user, label, card, mode).unwrap_or_default();
-        let Some(way) = ways.best(roles) else {
-            continue;
-        };
-        match served
-            .iter_mut()
-            .find(|(_, known)| known.taken == way.taken)
-        {
-            Some((labels, _)) => labels.push(label),
-            None => served.push((vec![label], way)),
-        }
+    let serving = |label| Some((label, serving(policy, user, label, card, mode)?));
+    let sessions = (1..=policy.counts().labels).filter_map(serving);
+    let mut left: Vec<(u64, Roles)> = sessions.filter(|(_, roles)| !roles.is_empty()).collect();
+    let roles = left
+        .iter()
+        .fold(Roles::default(), |all, (_, roles)| all.with(*roles));
+    let mut served = Vec::new();
+    for way in Ways::of(lines, user, card, mode).past(roles) {
+        let (now, later): (Vec<_>, Vec<_>) = left
+            .into_iter()
+            .partition(|(_, roles)| roles.holds(way.taken));
+        left = later;
+        let labels: Vec<u64> = now.into_iter().map(|(label, _)| label).collect();
+        served.push((labels, way));
     }
+    assert!(left.is_empty(), "lines give what the state has");
+    served.retain(|(labels, _)| !labels.is_empty());
+    served.sort_by_key(|(labels, _)| labels[0]);
     served
 }

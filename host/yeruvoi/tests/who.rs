@@ -210,6 +210,43 @@ user 13 (tax adviser)    at label 11 (office papers)   by role 65 (office reader
     );
 }
 
+/// Label 2 is over 3 and 3 over 1; role 2 reads at 2 as well, and so cannot be
+/// taken below.
+const TURNED: &str = "\
+H    3    2    1    2
+D    2    3          
+D    3    1          
+U    1    2          
+O    1    1          
+O    2    2          
+P    1    1    1     
+P    2    1    1     
+P    2    2    1     
+A    1    1          
+A    1    2          
+";
+
+#[test]
+fn labels_with_the_same_roles_are_put_together() {
+    let words = ["who", "-", "read", "1"];
+    assert_eq!(
+        told(&words, TURNED.as_bytes(), 0),
+        "\
+user 1   at labels 1 3   by role 1
+user 1   at label 2      by roles 1-2
+"
+    );
+    let printed = told(&[&words[..], &["--json"]].concat(), TURNED.as_bytes(), 0);
+    let session = |label: usize, roles: &str| {
+        format!(
+            "{{\"user\":{{\"number\":1}},\"label\":{{\"number\":{label}}},\"roles\":[{roles}]}}"
+        )
+    };
+    let (one, two) = ("{\"number\":1}", "{\"number\":1},{\"number\":2}");
+    let sessions = [session(1, one), session(2, two), session(3, one)].join(",");
+    assert!(parsed(&printed).ends_with(&format!("\"sessions\":[{sessions}]}}\n")));
+}
+
 #[test]
 fn each_by_itself() {
     let printed = told(&["who", "--each", "-", "read", "1"], EXAMPLE.as_bytes(), 0);
