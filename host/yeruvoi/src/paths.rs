@@ -78,4 +78,19 @@ mod tests {
         assert_eq!(numbers(1, 5), None);
         assert!(steps.from(3).reach(3) && !steps.from(3).reach(0));
     }
+
+    #[test]
+    fn the_shorter_of_two_walks_is_found_though_its_lines_come_first_or_last() {
+        for (short, long) in [(2, 3), (3, 2)] {
+            let pairs = [(1, 2), (1, 3), (short, 5), (long, 4), (4, 5)];
+            let lines = pairs.map(|(from, to)| format!("D{from:>5}{to:>5}          \n"));
+            let file = lines.concat();
+            let walk = Steps::of(&Lines::of(file.as_bytes()), b'D')
+                .from(1)
+                .to(5)
+                .unwrap();
+            assert_eq!(walk.len(), 2);
+            assert_eq!(walk[1].fields[..2], [short, 5]);
+        }
+    }
 }
