@@ -526,6 +526,35 @@ fn same_json(json: &[String; 2]) {
     assert_eq!(parsed.lines().count(), json[1].lines().count());
 }
 
+/// What the pages of a run must have between them.
+const WANTED: [&str; 25] = [
+    " gains read card ",
+    " loses read card ",
+    " gains write card ",
+    " loses write card ",
+    " keeps ",
+    "now dominates",
+    "no longer dominates",
+    " clearance ",
+    " a new user",
+    "gone, clearance was ",
+    " label ",
+    " r-level ",
+    " w-level ",
+    "is now senior to",
+    "is no longer senior to",
+    "is now assigned to",
+    "is no longer assigned to",
+    " P new ",
+    " P gone ",
+    "now flows to",
+    "no longer flows to",
+    "circles lowest",
+    "the same",
+    "0 of ",
+    "1 of ",
+];
+
 #[test]
 fn one_line_changed() {
     let mut json = [String::new(), String::new()];
@@ -549,33 +578,7 @@ fn one_line_changed() {
         seen += &(lines.join("\n") + "\n");
     }
     same_json(&json);
-    for wanted in [
-        " gains read card ",
-        " loses read card ",
-        " gains write card ",
-        " loses write card ",
-        " keeps ",
-        "now dominates",
-        "no longer dominates",
-        " clearance ",
-        " a new user",
-        "gone, clearance was ",
-        " label ",
-        " r-level ",
-        " w-level ",
-        "is now senior to",
-        "is no longer senior to",
-        "is now assigned to",
-        "is no longer assigned to",
-        " P new ",
-        " P gone ",
-        "now flows to",
-        "no longer flows to",
-        "circles lowest",
-        "the same",
-        "0 of ",
-        "1 of ",
-    ] {
+    for wanted in WANTED {
         assert!(seen.contains(wanted), "never seen: {wanted}");
     }
 }
@@ -603,49 +606,52 @@ fn compared(old: &str, new: &str, options: &[&str], status: i32) -> String {
     told(&words, old.as_bytes(), status)
 }
 
-#[test]
-fn edits_of_the_example() {
-    for (from, to, expected) in [
-        (
-            "P    1    1    1     \n",
-            "",
-            "\
+/// A line of the example, what stands in its place, and what is told.
+const EDITS: [(&str, &str, &str); 4] = [
+    (
+        "P    1    1    1     \n",
+        "",
+        "\
 user 1   loses   read   card 1
 role 1   r-level free, was 1
 role 2   r-level free, was 1
 role 1   P gone  read   card 1
 1 of 1 users changes
 ",
-        ),
-        (
-            "U    1    2          \n",
-            "U    1    1          \n",
-            "\
+    ),
+    (
+        "U    1    2          \n",
+        "U    1    1          \n",
+        "\
 user 1   keeps   read   card 1 at label 1, was at labels 1-2
 user 1   keeps   write  card 2 at label 1, was at labels 1-2
 user 1   clearance 1, was 2
 1 of 1 users changes
 ",
-        ),
-        (
-            "P    2    2    2     \n",
-            "P    2    1    1     \nP    2    2    2     \n",
-            "\
+    ),
+    (
+        "P    2    2    2     \n",
+        "P    2    1    1     \nP    2    2    2     \n",
+        "\
 role 2   P new   read   card 1
 0 of 1 users change
 ",
-        ),
-        (
-            "A    1    2          \n",
-            "A    1    1          \n",
-            "\
+    ),
+    (
+        "A    1    2          \n",
+        "A    1    1          \n",
+        "\
 user 1   loses   write  card 2
 user 1   is no longer assigned to role 2
 user 1   is now assigned to role 1
 1 of 1 users changes
 ",
-        ),
-    ] {
+    ),
+];
+
+#[test]
+fn edits_of_the_example() {
+    for (from, to, expected) in EDITS {
         let new = EXAMPLE.replace(from, to);
         assert_eq!(compared(EXAMPLE, &new, &[], 1), expected);
     }

@@ -105,6 +105,23 @@ fn random_files() {
     assert!(told_of > 40 && nobody > 10, "{told_of} {nobody}");
 }
 
+fn expected_json(policy: &Policy, legend: &Legend, mode: Mode, card: usize) -> String {
+    let session = |(user, label, roles): Holding| {
+        object(&[
+            ("user", thing(legend, "user", user)),
+            ("label", thing(legend, "label", label)),
+            ("roles", support::json::things(legend, "role", &roles)),
+        ])
+    };
+    let sessions = support::json::list(holdings(policy, mode, card), session);
+    object(&[
+        ("accepted", "true".to_string()),
+        ("mode", text(word(mode))),
+        ("card", thing(legend, "card", card)),
+        ("sessions", sessions),
+    ])
+}
+
 #[test]
 fn json_of_random_files() {
     let (mut printed, mut expected) = (String::new(), String::new());
@@ -123,23 +140,7 @@ fn json_of_random_files() {
         let mut words = vec!["who", "--json", "-", word(mode), &shown];
         words.extend(options.iter().map(String::as_str));
         printed += &told(&words, &file, 0);
-        let session = |(user, label, roles): Holding| {
-            object(&[
-                ("user", thing(&legend, "user", user)),
-                ("label", thing(&legend, "label", label)),
-                ("roles", support::json::things(&legend, "role", &roles)),
-            ])
-        };
-        expected += &object(&[
-            ("accepted", "true".to_string()),
-            ("mode", text(word(mode))),
-            ("card", thing(&legend, "card", card)),
-            (
-                "sessions",
-                support::json::list(holdings(&policy, mode, card), session),
-            ),
-        ]);
-        expected += "\n";
+        expected += &(expected_json(&policy, &legend, mode, card) + "\n");
     }
     let parsed = parsed(&printed);
     assert!(parsed.lines().count() > 20 && parsed.contains("\"roles\":[{"));

@@ -335,48 +335,50 @@ fn two_makers_mended() {
 // ---------------------------------------------------------------------------
 // By hand
 
-#[test]
-fn small_files() {
-    for (file, words, expected) in [
-        (
-            EXAMPLE,
-            ["1", "read", "1"],
-            "\
+/// A file, the words of a question, and what is told.
+const QUESTIONS: [(&str, [&str; 3], &str); 4] = [
+    (
+        EXAMPLE,
+        ["1", "read", "1"],
+        "\
 user 1 may read card 1, in a session at labels 1-2
   at labels 1-2, by role 1
     line 9       A    1    2              user 1 is assigned to role 2
     line 3       S    2    1              role 2 is senior to role 1
     line 7       P    1    1    1         role 1 may read card 1
 ",
-        ),
-        (
-            EXAMPLE,
-            ["1", "read", "2"],
-            "\
+    ),
+    (
+        EXAMPLE,
+        ["1", "read", "2"],
+        "\
 user 1 may not read card 2
   no role gives it: no line P has card 2 and mode 1
 ",
-        ),
-        (
-            CROSSED,
-            ["2", "write", "1"],
-            "\
+    ),
+    (
+        CROSSED,
+        ["2", "write", "1"],
+        "\
 user 2 may not write card 1
   roles 1-3 give it: none is assigned to the user, nor a senior of one
   an assignment to roles 1-3 would be refused with 16: the w-level does not dominate the clearance
 ",
-        ),
-        (
-            CROSSED,
-            ["1", "read", "1"],
-            "\
+    ),
+    (
+        CROSSED,
+        ["1", "read", "1"],
+        "\
 user 1 may not read card 1
   role 4 gives it: neither it nor a senior of it is assigned to the user
   an assignment to role 4 would be accepted
 ",
-        ),
-    ] {
-        let [user, mode, card] = words;
+    ),
+];
+
+#[test]
+fn small_files() {
+    for (file, [user, mode, card], expected) in QUESTIONS {
         let printed = told(&["why", "-", user, mode, card], file.as_bytes(), 0);
         assert_eq!(printed, expected);
     }
@@ -433,45 +435,57 @@ fn wrong_words() {
 // ---------------------------------------------------------------------------
 // For programs
 
+/// A line that the page quotes.
+fn line_json((number, quoted): &(usize, String)) -> String {
+    let mut words = quoted.split_whitespace();
+    let letter = words.next().expect("a letter");
+    object(&[
+        ("number", number.to_string()),
+        ("text", text(quoted)),
+        ("letter", text(letter)),
+        ("fields", list(words, str::to_string)),
+    ])
+}
+
+fn way_json(way: &Way, legend: &Legend) -> String {
+    object(&[
+        (
+            "labels",
+            support::json::things(legend, "label", &way.labels),
+        ),
+        ("role", thing(legend, "role", way.role)),
+        ("lines", list(&way.lines, line_json)),
+    ])
+}
+
+fn barred_json(barred: &Barred, legend: &Legend) -> String {
+    object(&[
+        ("kind", text(&barred.word)),
+        ("level", thing(legend, "label", barred.level)),
+        (
+            "roles",
+            support::json::things(legend, "role", &barred.roles),
+        ),
+        (
+            "labels",
+            support::json::things(legend, "label", &barred.labels),
+        ),
+    ])
+}
+
 /// The same facts as the page, which the tests above hold to the model.
 fn expected_json(told: &Told, question: Question, givers: &[usize], legend: &Legend) -> String {
     let things = |kind, numbers: &[usize]| support::json::things(legend, kind, numbers);
-    let line = |(number, quoted): &(usize, String)| {
-        let mut words = quoted.split_whitespace();
-        let letter = words.next().expect("a letter");
-        object(&[
-            ("number", number.to_string()),
-            ("text", text(quoted)),
-            ("letter", text(letter)),
-            ("fields", list(words, str::to_string)),
-        ])
-    };
     object(&[
         ("accepted", "true".to_string()),
         ("user", thing(legend, "user", question.user)),
         ("mode", text(question.word())),
         ("card", thing(legend, "card", question.card)),
         ("may", told.may.to_string()),
-        (
-            "served",
-            list(&told.ways, |way| {
-                object(&[
-                    ("labels", things("label", &way.labels)),
-                    ("role", thing(legend, "role", way.role)),
-                    ("lines", list(&way.lines, line)),
-                ])
-            }),
-        ),
+        ("served", list(&told.ways, |way| way_json(way, legend))),
         (
             "barred",
-            list(&told.barred, |barred| {
-                object(&[
-                    ("kind", text(&barred.word)),
-                    ("level", thing(legend, "label", barred.level)),
-                    ("roles", things("role", &barred.roles)),
-                    ("labels", things("label", &barred.labels)),
-                ])
-            }),
+            list(&told.barred, |barred| barred_json(barred, legend)),
         ),
         ("givers", things("role", givers)),
         (

@@ -42,7 +42,7 @@ fn kept(sides: &Sides, user: u64, mode: Mode, cards: Cards) -> impl Iterator<Ite
     );
     let moved = moved(&old, &new);
     let mut groups: BTreeMap<[Vec<u64>; 2], Vec<u64>> = BTreeMap::new();
-    for card in cards.iter().filter(|&card| moved.holds(card)) {
+    for card in cards.filtered(|card| moved.holds(card)).numbers() {
         let labels = [labels(&old, card), labels(&new, card)];
         groups.entry(labels).or_default().push(card);
     }
