@@ -1,6 +1,7 @@
 //! What the tests of several subcommands use.
 #![allow(dead_code)]
 
+pub mod difference;
 pub mod dot;
 pub mod files;
 pub mod json;
