@@ -7,10 +7,11 @@ mod text;
 mod things;
 
 use crate::answer::{Answer, Trouble};
-use crate::arguments::{Arguments, Subcommand};
-use crate::header::sentence;
+use crate::arguments::{Arguments, Settings, Subcommand};
+use crate::check;
 use crate::lines::Lines;
 use crate::monitor::{Counts, Mode, Policy};
+use crate::names::Names;
 use crate::relation::Relation;
 use crate::sessions::Sessions;
 use change::Change;
@@ -70,8 +71,8 @@ struct Difference {
 fn run(arguments: &Arguments) -> Result<Answer, Trouble> {
     let settings = arguments.settings()?;
     let sides = Sides {
-        old: Side::read(arguments, 0)?,
-        new: Side::read(arguments, 1)?,
+        old: Side::read(arguments, 0, &settings.names)?,
+        new: Side::read(arguments, 1, &settings.names)?,
     };
     let difference = Difference::of(&sides);
     let text = match settings.json {
@@ -85,13 +86,17 @@ fn run(arguments: &Arguments) -> Result<Answer, Trouble> {
 }
 
 impl Side {
-    /// Reads and loads a file. Of a refused one there is nothing to compare.
-    fn read(arguments: &Arguments, index: usize) -> Result<Side, Trouble> {
+    /// Reads and loads a file. A refused one cannot be compared: the first line of what `check` says.
+    fn read(arguments: &Arguments, index: usize, names: &Names) -> Result<Side, Trouble> {
         let input = arguments.file(index)?;
         let policy = Policy::load(&input.bytes).map_err(|verdict| {
-            let (number, words) = (verdict.number, sentence(verdict.number));
-            let file = arguments.word(index);
-            Trouble::new(format!("{file} is refused with {number}: {words}"))
+            let settings = Settings {
+                names: names.clone(),
+                ..Settings::default()
+            };
+            let told = check::refused(&input, verdict, &settings).text;
+            let first = told.lines().next().unwrap_or_default();
+            Trouble::new(format!("{}: {first}", arguments.word(index)))
         })?;
         Ok(Side::of(policy, &Lines::of(&input.bytes)))
     }

@@ -312,7 +312,7 @@ fn a_refused_file() {
         let ran = run(&words, b"");
         assert_eq!((ran.output.as_str(), ran.status), ("", 2));
         let expected = format!(
-            "yeruvoi: {bad} is refused with 4: a user, role, card, label or mode number is out of its range\n"
+            "yeruvoi: {bad}: refused with 4 at line 9: a user, role, card, label or mode number is out of its range\n"
         );
         assert_eq!(ran.errors, expected);
     }
