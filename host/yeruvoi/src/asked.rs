@@ -6,6 +6,7 @@ use crate::check;
 use crate::input::Input;
 use crate::monitor::{Mode, Policy};
 use crate::names::Kind;
+use crate::page::counted;
 
 /// An accepted file, and how the answer is to be written.
 pub struct Asked {
@@ -39,18 +40,21 @@ pub fn number(word: &str, kind: Kind, count: u64) -> Result<u64, Trouble> {
     let known = number.filter(|number| (1..=count).contains(number));
     known.ok_or_else(|| {
         let kind = kind.word();
-        let word: String = word.chars().take(40).collect();
-        Trouble::new(format!(
-            "{kind} {word} is none of this file's {count} {kind}s"
-        ))
+        let count = counted(count, kind);
+        Trouble::new(format!("no {kind} {}: the file has {count}", start(word)))
     })
+}
+
+/// An operand as it is told: a long one is cut.
+fn start(word: &str) -> String {
+    word.chars().take(40).collect()
 }
 
 /// `read` or `write`.
 pub fn mode(word: &str, subcommand: &Subcommand) -> Result<Mode, Trouble> {
     let found = Mode::BOTH.into_iter().find(|mode| mode.word() == word);
     found.ok_or_else(|| {
-        let word: String = word.chars().take(40).collect();
-        wrong(subcommand, &format!("neither read nor write: {word}"))
+        let problem = format!("neither read nor write: {}", start(word));
+        wrong(subcommand, &problem)
     })
 }

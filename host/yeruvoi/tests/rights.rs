@@ -286,7 +286,7 @@ fn words_that_are_no_user() {
         for words in [vec!["rights", "-", word], vec!["rights", "-", "1", word]] {
             let ran = run(&words, EXAMPLE.as_bytes());
             assert_eq!((ran.output.as_str(), ran.status), ("", 2), "{word}");
-            let expected = format!("yeruvoi: user {word} is none of this file's 1 users\n");
+            let expected = format!("yeruvoi: no user {word}: the file has 1 user\n");
             assert_eq!(ran.errors, expected);
         }
     }

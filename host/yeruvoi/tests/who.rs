@@ -257,9 +257,9 @@ fn each_by_itself() {
 #[test]
 fn wrong_words() {
     for (words, problem) in [
-        (["read", "3"], "card 3 is none of this file's 2 cards\n"),
-        (["read", "0"], "card 0 is none of this file's 2 cards\n"),
-        (["write", "x"], "card x is none of this file's 2 cards\n"),
+        (["read", "3"], "no card 3: the file has 2 cards\n"),
+        (["read", "0"], "no card 0: the file has 2 cards\n"),
+        (["write", "x"], "no card x: the file has 2 cards\n"),
         (
             ["reads", "1"],
             "neither read nor write: reads; usage: yeruvoi who ",

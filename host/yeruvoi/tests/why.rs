@@ -411,14 +411,8 @@ user 33 (maker A unannounced, lead) may read card 1 (maker A, gear pumps, publis
 #[test]
 fn wrong_words() {
     for (words, problem) in [
-        (
-            ["2", "read", "1"],
-            "user 2 is none of this file's 1 users\n",
-        ),
-        (
-            ["1", "read", "3"],
-            "card 3 is none of this file's 2 cards\n",
-        ),
+        (["2", "read", "1"], "no user 2: the file has 1 user\n"),
+        (["1", "read", "3"], "no card 3: the file has 2 cards\n"),
         (
             ["1", "see", "1"],
             "neither read nor write: see; usage: yeruvoi why ",

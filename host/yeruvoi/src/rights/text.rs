@@ -8,9 +8,6 @@ use crate::names::Kind;
 use crate::sessions::Session;
 use crate::threads;
 
-/// A word, and what stands behind it.
-type Row = (&'static str, String);
-
 pub fn written(rights: &Rights, settings: &Settings) -> String {
     let sessions = threads::map(&rights.sessions.all, |session| {
         of_session(session, settings)
@@ -33,55 +30,77 @@ pub fn written(rights: &Rights, settings: &Settings) -> String {
 }
 
 fn of_user(user: &User, settings: &Settings) -> String {
-    let (assigned, inherited) = (numbers(user.assigned), numbers(user.inherited));
+    let mut block = Block::new(format!("user {:>5}", user.number), settings);
+    block.name(Kind::User, user.number);
     let clearance = settings.names.number(Kind::Label, user.clearance);
-    let rows = [
-        name(Kind::User, user.number, settings),
-        vec![("clearance", clearance)],
-        list("assigned", &assigned, Kind::Role, settings),
-        list("inherited", &inherited, Kind::Role, settings),
-    ];
-    block(&format!("user {:>5}", user.number), rows.concat())
+    block.row("clearance", &clearance);
+    block.roles("assigned", user.assigned);
+    block.roles("inherited", user.inherited);
+    block.text
 }
 
 fn of_session(session: &Session, settings: &Settings) -> String {
-    let rows = [
-        name(Kind::Label, session.label, settings),
-        list("takes", &numbers(session.takes), Kind::Role, settings),
-        list("reads", &session.reads.numbers(), Kind::Card, settings),
-        list("writes", &session.writes.numbers(), Kind::Card, settings),
-    ];
-    block(&format!("label{:>5}", session.label), rows.concat())
+    let mut block = Block::new(format!("label{:>5}", session.label), settings);
+    block.name(Kind::Label, session.label);
+    block.roles("takes", session.takes);
+    block.list("reads", &session.reads.numbers(), Kind::Card);
+    block.list("writes", &session.writes.numbers(), Kind::Card);
+    block.text
 }
 
 fn of_nobody(rights: &Rights, settings: &Settings) -> String {
-    let rows = [
-        list("takes", &rights.untaken, Kind::Role, settings),
-        list("reads", &rights.unread, Kind::Card, settings),
-    ];
-    block("no user", rows.concat())
-}
-
-fn numbers(roles: Roles) -> Vec<u64> {
-    roles.iter().collect()
-}
-
-/// The row with the name of what a block is about, where it has one.
-fn name(kind: Kind, number: u64, settings: &Settings) -> Vec<Row> {
-    let name = settings.names.of(kind, number);
-    name.map(|name| ("name", name.to_string()))
-        .into_iter()
-        .collect()
-}
-
-fn list(word: &'static str, numbers: &[u64], kind: Kind, settings: &Settings) -> Vec<Row> {
-    let rows = rows(numbers, kind, settings);
-    rows.into_iter().map(|row| (word, row)).collect()
+    let mut block = Block::new("no user".to_string(), settings);
+    block.list("takes", &rights.untaken, Kind::Role);
+    block.list("reads", &rights.unread, Kind::Card);
+    block.text
 }
 
 /// Rows under a head, which stands before the first.
-fn block(head: &str, rows: Vec<Row>) -> String {
-    let heads = std::iter::once(head).chain(std::iter::repeat(""));
-    let line = |(head, (word, row)): (&str, Row)| format!("{head:<12}{word:<11}{row}\n");
-    heads.zip(rows).map(line).collect()
+struct Block<'a> {
+    text: String,
+    head: String,
+    settings: &'a Settings,
+}
+
+impl Block<'_> {
+    fn new(head: String, settings: &Settings) -> Block<'_> {
+        Block {
+            text: String::new(),
+            head,
+            settings,
+        }
+    }
+
+    fn row(&mut self, word: &str, row: &str) {
+        put(&mut self.text, &self.head, 12);
+        put(&mut self.text, word, 11);
+        self.text += row;
+        self.text.push('\n');
+        self.head.clear();
+    }
+
+    /// The name of what the block is about, where it has one.
+    fn name(&mut self, kind: Kind, number: u64) {
+        let settings = self.settings;
+        if let Some(name) = settings.names.of(kind, number) {
+            self.row("name", name);
+        }
+    }
+
+    fn list(&mut self, word: &str, numbers: &[u64], kind: Kind) {
+        for row in rows(numbers, kind, self.settings) {
+            self.row(word, &row);
+        }
+    }
+
+    fn roles(&mut self, word: &str, roles: Roles) {
+        let numbers: Vec<u64> = roles.iter().collect();
+        self.list(word, &numbers, Kind::Role);
+    }
+}
+
+/// Adds a word and the blanks up to a width.
+fn put(text: &mut String, word: &str, width: usize) {
+    text.push_str(word);
+    text.extend(std::iter::repeat_n(' ', width.saturating_sub(word.len())));
 }
