@@ -137,7 +137,7 @@ fn refused_with_2(number: usize, file: &[u8], shown: &str, column: &str) {
     refused(
         file,
         &format!(
-            "refused with 2 at line {number}: the line is malformed, its letter is unknown, or it is not where H must stand\n\
+            "refused with 2 at line {number}: the line is malformed, its letter is unknown, or H is not on line 1 alone\n\
             \x20 line {number}       {shown}\n\
             \x20 {column}\n"
         ),

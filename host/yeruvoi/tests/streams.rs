@@ -168,7 +168,7 @@ fn bytes_of_a_file_steer_no_terminal() {
     let run = run(&["check", "-"], &file);
     assert_eq!(
         run.output,
-        "refused with 2 at line 2: the line is malformed, its letter is unknown, or it is not where H must stand\n\
+        "refused with 2 at line 2: the line is malformed, its letter is unknown, or H is not on line 1 alone\n\
         \x20 line 2       ?[2J??????1\n\
         \x20 column 1     byte 27: the letter is one of H D S U O P A\n"
     );
