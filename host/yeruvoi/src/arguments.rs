@@ -4,6 +4,7 @@ use crate::answer::{Answer, Trouble};
 use crate::input::{first_bytes, open, Input};
 use crate::names::Names;
 use std::ffi::{OsStr, OsString};
+use std::os::unix::ffi::OsStrExt;
 
 /// A legend longer than this is none.
 const LEGEND_BYTES: u64 = 1 << 20;
@@ -65,9 +66,7 @@ impl Arguments {
                 }
                 Some("--help" | "-h") => return Ok(Request::Help),
                 Some("--names") => arguments.name(subcommand, words.next())?,
-                Some(option) if option.starts_with("--names=") => {
-                    arguments.name(subcommand, Some(OsString::from(&option[8..])))?
-                }
+                _ if legend_in(&word).is_some() => arguments.name(subcommand, legend_in(&word))?,
                 _ if is_option(&word) => arguments.option(subcommand, &word)?,
                 _ => arguments.operands.push(word),
             }
@@ -153,8 +152,13 @@ impl Arguments {
 
 /// `-` alone is no option.
 fn is_option(word: &OsStr) -> bool {
-    let bytes = word.as_encoded_bytes();
-    bytes.len() > 1 && bytes[0] == b'-'
+    word.len() > 1 && word.as_bytes()[0] == b'-'
+}
+
+/// The legend of `--names=LEGEND`.
+fn legend_in(word: &OsStr) -> Option<OsString> {
+    let legend = word.as_bytes().strip_prefix(b"--names=")?;
+    Some(OsStr::from_bytes(legend).to_os_string())
 }
 
 /// Wrong use of a subcommand.

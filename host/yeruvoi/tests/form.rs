@@ -54,7 +54,7 @@ fn a_wrong_length_is_told() {
 }
 
 #[test]
-fn a_line_that_ends_elsewhere_is_told_and_its_reason_recognised() {
+fn what_an_editor_did_to_the_ends_of_lines_is_recognised() {
     let file = String::from_utf8(padded(DOCUMENT)).unwrap();
     refused_with_1(
         file.replace('\n', "\r\n").as_bytes(),
@@ -86,6 +86,11 @@ fn a_line_that_ends_elsewhere_is_told_and_its_reason_recognised() {
         \x20 line 9 has 11 bytes: its trailing blanks and the newline are missing\n\
         \x20 line 9       A    1    2\n",
     );
+}
+
+#[test]
+fn a_line_that_ends_elsewhere_is_told() {
+    let file = String::from_utf8(padded(DOCUMENT)).unwrap();
     refused_with_1(
         format!("{file}\n").as_bytes(),
         "  199 bytes: not a multiple of 22\n\

@@ -3,7 +3,10 @@
 mod common;
 
 use common::{command, kept, padded, run, told, Run, DOCUMENT};
+use std::ffi::{OsStr, OsString};
 use std::fs::{self, File};
+use std::os::unix::ffi::OsStrExt;
+use std::path::Path;
 use std::process::Stdio;
 
 const USAGE: &str = "usage: yeruvoi check [--names LEGEND] [--json] [--all] FILE";
@@ -159,6 +162,30 @@ fn a_file_is_read_by_its_name_or_from_standard_input() {
     let legend = "label 1: public\n".as_bytes();
     let run = run(&["check", "--names=-", &file], legend);
     assert_eq!((run.status, &run.output[..]), (0, accepted));
+}
+
+#[test]
+fn a_name_of_a_file_need_not_be_text() {
+    let folder = Path::new(env!("CARGO_TARGET_TMPDIR"));
+    let [file, legend] =
+        [b"\xff.role", b"\xff.lgnd"].map(|name| folder.join(OsStr::from_bytes(name)));
+    fs::write(&file, padded(DOCUMENT)).unwrap();
+    fs::write(&legend, "label 1: public\n").unwrap();
+    let mut option = OsString::from("--names=");
+    option.push(&legend);
+    let output = command(&["check"]).arg(option).arg(&file).output().unwrap();
+    assert_eq!(told(output).status, 0);
+    fs::remove_file(&legend).unwrap();
+    let output = command(&["check", "--names"])
+        .arg(&legend)
+        .arg(&file)
+        .output()
+        .unwrap();
+    let run = told(output);
+    assert!(run
+        .errors
+        .ends_with("/???.lgnd: No such file or directory (os error 2)\n"));
+    assert_eq!(run.status, 2);
 }
 
 #[test]
