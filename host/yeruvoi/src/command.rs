@@ -35,9 +35,9 @@ FILE - is standard input. Options of every subcommand:
   --                ends the options
 
 Exit status: 0 accepted (diff: the same), 1 refused (diff: different), 2 wrong
-use, a file that cannot be read or an output that cannot be written (a closed
-pipe too), with one line on standard error. `yeruvoi --version` prints the
-versions.
+use, a file that cannot be read (diff: or is refused) or an output that cannot be
+written (a closed pipe too), with one line on standard error. `yeruvoi --version`
+prints the versions.
 ";
 
 /// What the command answers to its words, its own name left out.
