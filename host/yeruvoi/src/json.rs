@@ -56,8 +56,8 @@ impl Display for Json {
     fn fmt(&self, formatter: &mut Formatter) -> fmt::Result {
         match self {
             Json::Null => formatter.write_str("null"),
-            Json::Boolean(value) => write!(formatter, "{value}"),
-            Json::Number(value) => write!(formatter, "{value}"),
+            Json::Boolean(value) => value.fmt(formatter),
+            Json::Number(value) => value.fmt(formatter),
             Json::Text(text) => write_text(formatter, text),
             Json::List(values) => write_list(formatter, values),
             Json::Object(members) => write_object(formatter, members),
@@ -70,7 +70,8 @@ fn write_list(formatter: &mut Formatter, values: &[Json]) -> fmt::Result {
     formatter.write_str("[")?;
     for (index, value) in values.iter().enumerate() {
         let before = if index == 0 { "" } else { ", " };
-        write!(formatter, "{before}{value}")?;
+        formatter.write_str(before)?;
+        value.fmt(formatter)?;
     }
     formatter.write_str("]")
 }
