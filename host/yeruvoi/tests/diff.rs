@@ -134,8 +134,8 @@ const WANTED: [&str; 25] = [
     "is no longer senior to",
     "is now assigned to",
     "is no longer assigned to",
-    " P new ",
-    " P gone ",
+    " line P new: ",
+    " line P gone: ",
     "now flows to",
     "no longer flows to",
     "circles lowest",
@@ -204,7 +204,7 @@ const EDITS: [(&str, &str, &str); 4] = [
 user 1   loses   read   card 1
 role 1   r-level free, was 1
 role 2   r-level free, was 1
-role 1   P gone  read   card 1
+role 1   line P gone: read card 1
 1 of 1 users changes
 ",
     ),
@@ -222,7 +222,7 @@ user 1   clearance 1, was 2
         "P    2    2    2     \n",
         "P    2    1    1     \nP    2    2    2     \n",
         "\
-role 2   P new   read   card 1
+role 2   line P new: read card 1
 0 of 1 users change
 ",
     ),
@@ -265,7 +265,7 @@ fn many_cards() {
         format!(
             "\
 user 1   gains   read   cards 1-9
-{level}role 1   P new   read   cards 1-9
+{level}role 1   line P new: read cards 1-9
 1 of 1 users changes
 "
         )
@@ -274,7 +274,7 @@ user 1   gains   read   cards 1-9
         format!("user 1   gains   read   card {card}\n")
     });
     let lines = cards(1..=9, &|card| {
-        format!("role 1   P new   read   card {card}\n")
+        format!("role 1   line P new: read card {card}\n")
     });
     assert_eq!(
         compared(&old, &new, &["--each"], 1),

@@ -50,9 +50,9 @@ fn right_rows(right: &Right, settings: &Settings) -> Vec<Row> {
 }
 
 fn permitted_rows(permitted: &Permitted, settings: &Settings) -> Vec<Row> {
-    let verb = if permitted.now { "P new" } else { "P gone" };
+    let word = if permitted.now { "new" } else { "gone" };
     let subject = settings.names.thing(Kind::Role, permitted.role);
-    let doing = doing(verb, permitted.mode);
+    let doing = format!("line P {word}: {} ", permitted.mode.word());
     card_rows(&subject, &doing, &permitted.cards, settings)
 }
 

@@ -345,8 +345,8 @@ impl Sides<'_> {
         let (old, new) = (lines(&self.old), lines(&self.new));
         let mut facts = Vec::new();
         for (lines, words) in [
-            (&old - &new, ("P gone", "permission gone")),
-            (&new - &old, ("P new", "permission new")),
+            (&old - &new, ("line P gone:", "permission gone")),
+            (&new - &old, ("line P new:", "permission new")),
         ] {
             for role in 1..=128 {
                 for mode in MODES {
