@@ -50,3 +50,22 @@ pub fn things(numbers: &[u64], kind: Kind, settings: &Settings) -> String {
     let listed = rows(numbers, kind, settings).join(", ");
     format!("{}{ending} {listed}", kind.word())
 }
+
+#[cfg(test)]
+mod tests {
+    use super::*;
+
+    #[test]
+    fn lists_are_written_as_ranges() {
+        for (numbers, text) in [
+            (&[][..], "none"),
+            (&[7], "7"),
+            (&[1, 2], "1-2"),
+            (&[1, 3], "1 3"),
+            (&[1, 2, 3, 4, 7, 9, 10, 11, 12], "1-4 7 9-12"),
+            (&[99, 100, 511, 512], "99-100 511-512"),
+        ] {
+            assert_eq!(ranges(numbers), text);
+        }
+    }
+}

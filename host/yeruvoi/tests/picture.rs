@@ -7,7 +7,7 @@ mod support;
 use monitor_model::Policy;
 use second_checker::example::EXAMPLE;
 use second_checker::generate::write;
-use second_checker::line::print_line;
+use second_checker::line::{print_line, MOST_LINES};
 use second_checker::order::{reached, steps, Order};
 use std::collections::BTreeSet;
 use support::dot::{self, Graph};
@@ -204,6 +204,19 @@ fn the_most_flows() {
     }
     let graph = dot::read(&told(&["picture", "-"], &file, 0));
     assert_eq!(graph.edges.len(), 128 * 127);
+    graph_holds(&graph, &Expected::of(&policy(&file)), &Legend::default());
+}
+
+/// Half of the roles senior to each of as many others as the file has room for.
+#[test]
+fn the_most_seniors() {
+    let mut file = print_line(b'H', &[1, 128, 0, 0]);
+    let pairs = (1..=64).flat_map(|senior| (65..=128).map(move |junior| [senior, junior]));
+    for pair in pairs.take(MOST_LINES - 1) {
+        file.extend(print_line(b'S', &pair));
+    }
+    let graph = dot::read(&told(&["picture", "-"], &file, 0));
+    assert_eq!(graph.edges.len(), MOST_LINES - 1);
     graph_holds(&graph, &Expected::of(&policy(&file)), &Legend::default());
 }
 
