@@ -114,6 +114,15 @@ fn edges(graph: &Graph, part: &str, letter: char, wanted: &dyn Fn(&str, &str) ->
         .collect()
 }
 
+/// The number has a line of its own, and a line of the name is short or one word.
+fn lines_are_short(shown: &str) {
+    for line in shown.split('\n') {
+        assert!(line.chars().count() <= 16 || !line.contains(' '), "{line}");
+    }
+    let number = shown.split('\n').next().expect("a line");
+    assert!(number.bytes().all(|byte| byte.is_ascii_digit()), "{shown}");
+}
+
 /// The nodes of a part are these, with number and name, and red where wanted.
 fn nodes_hold(
     graph: &Graph,
@@ -128,9 +137,11 @@ fn nodes_hold(
     for (node, one) in nodes.into_iter().zip(1..) {
         let letter = kind.chars().next().expect("a letter");
         assert_eq!(number(&node.name, letter), one);
-        let name = legend.name(kind, one).map(|name| format!("\n{name}"));
+        let name = legend.name(kind, one).map(|name| format!(" {name}"));
         let caption = format!("{one}{}", name.unwrap_or_default());
-        assert_eq!(dot::shown(&node.attributes["label"]), caption);
+        let shown = dot::shown(&node.attributes["label"]);
+        assert_eq!(shown.replace('\n', " "), caption);
+        lines_are_short(&shown);
         let color = node.attributes.get("color").map(String::as_str);
         assert_eq!(color, red.contains(&one).then_some("red"));
     }
@@ -340,6 +351,16 @@ fn crossed() {
             &["r1 -> r4", "r4 -> r2 [color=red]"],
         )
     );
+}
+
+/// A long name is broken at its blanks.
+#[test]
+fn names_are_broken() {
+    let legend = support::temporary(b"label 1: maker A unannounced drafts of it\n");
+    let name = legend.path.to_str().expect("a path of text");
+    let text = told(&["picture", "--names", name, "-"], EXAMPLE.as_bytes(), 0);
+    let node = "l1 [label=\"1\\nmaker A\\nunannounced\\ndrafts of it\"];";
+    assert!(text.contains(node), "{text}");
 }
 
 /// Quotes, backslashes and ampersands of a name stay what they are.

@@ -48,12 +48,32 @@ fn edge(letter: &str, (from, to): (u64, u64), red: bool) -> String {
     format!("    {letter}{from} -> {letter}{to}{color};\n")
 }
 
+/// How long a line of a name may be, so that names do not draw the picture apart.
+const WIDTH: usize = 16;
+
 /// The number, and the name under it.
 fn caption(kind: Kind, number: u64, names: &Names) -> String {
-    match names.of(kind, number) {
-        Some(name) => format!("{number}\\n{}", escaped(name)),
-        None => number.to_string(),
+    let mut caption = number.to_string();
+    for line in names.of(kind, number).map(wrapped).unwrap_or_default() {
+        caption += "\\n";
+        caption += &escaped(&line);
     }
+    caption
+}
+
+/// The lines of a name, broken at blanks; a word that is longer than a line has one of its own.
+fn wrapped(name: &str) -> Vec<String> {
+    let mut lines: Vec<String> = Vec::new();
+    for word in name.split(' ') {
+        match lines.last_mut() {
+            Some(line) if line.chars().count() + 1 + word.chars().count() <= WIDTH => {
+                *line += " ";
+                *line += word;
+            }
+            _ => lines.push(word.to_string()),
+        }
+    }
+    lines
 }
 
 /// A name within double quotes: Graphviz reads there escapes and HTML's character names.
