@@ -22,8 +22,8 @@
  * not covered. This is proved, and rests on what the server does:
  *   - One state and one store belong together. Each call is lent the two, at
  *     the same lengths, as the last one left them; an older copy is not used
- *     again. From the first call after a load on, nothing but these calls
- *     changes them.
+ *     again. From a load on, nothing but these calls changes the state, and
+ *     from the first call after it on nothing but these changes the store.
  *   - A session's calls are made at its own place, and by what it asks alone.
  *   - A read is its number and its bytes on the same state and store: after 0
  *     the part is handed on, or copied for that, before any other call, but

@@ -1,9 +1,10 @@
 -- A set of roles as two numbers: what is put in is read back, the halves of a row are its two numbers, and two sets meet where one of two pairs of numbers shares a bit. Assumes nothing.
-use Prim.Native.Nat.{ℕ, suc, _+_, _-_, _/_, _%_, _^_, _<_}
+use Prim.Native.Nat.{ℕ, suc, _+_, _-_, _*_, _/_, _%_, _^_, _<_}
 use mathlib.Core.Path.{_≡_, sym, ap, _∙_}
 use mathlib.Core.Logic.{_↔_}
 use mathlib.Core.List.{List}
 use mathlib.Core.Bool.{Bool, false, not, _&&_, and-false, Bool·not-not}
+use native.Mathlib.Nat.{zero-add}
 use native.Mathlib.Omega.{arith}
 use native.Mathlib.Decide.{decLe}
 use lib.Bits.{bitAnd, bitOr}
@@ -13,7 +14,7 @@ use Rattle.search.specs.Search.{some, among, Among}
 use Rattle.search.proofs.Truth.{and-when, among-iff, same, either}
 use Rattle.search.proofs.Found.{None, some-none}
 use Rattle.roleset.specs.Row.{AllBytes, bit, roleByte, roleBit, member}
-use Rattle.roleset.specs.Set.{inSet, lowOf, highOf}
+use Rattle.roleset.specs.Set.{inSet, bitsOf, lowOf, highOf}
 use Rattle.roleset.specs.inner.Halves.{halfAt}
 use Rattle.roleset.proofs.Bits.{bit-zero, same-bits, bit-byte, bytes-below, bits-below, bits-bit, and-none, or-none}
 
@@ -59,26 +60,26 @@ module _ (xs : List ℕ) (at : ℕ) (bytes : AllBytes xs) where
   half-below : (from : ℕ) → halfAt xs from < 2 ^ 64
   half-below from = bytes-below 8 _ (λ k. bytes (from + k))
 
-  pub low-half : halfAt xs at ≡ lowOf (member xs at)
+  -- half h, the first being 0, has the roles from 64 h on
+  half-roles : (h : ℕ) → h < 2 → halfAt xs (at + 8 * h) ≡ bitsOf 64 (λ r. member xs at (64 * h + r))
   unfolding member
-  low-half = same-bits 64 _ _ (half-below at) (bits-below 64 (member xs at)) (λ j l. low-bit j l ∙ sym (bits-bit 64 (member xs at) j l))
+  half-roles h l =
+      same-bits 64 _ _ (half-below (at + 8 * h)) (bits-below 64 (λ r. member xs at (64 * h + r)))
+      (λ j m. role-bit j m ∙ sym (bits-bit 64 (λ r. member xs at (64 * h + r)) j m))
     where
-      low-bit : (j : ℕ) → j < 64 → bit (halfAt xs at) j ≡ member xs at (suc j)
-      low-bit j l =
-          let place : suc j - 1 ≡ j = omega arith in
-          bit-byte 8 _ (λ k. bytes (at + k)) j (omega arith) ∙ rw (among-iff 128 (suc j) .1 (omega arith), place)
+      role-bit : (j : ℕ) → j < 64 → bit (halfAt xs (at + 8 * h)) j ≡ member xs at (64 * h + suc j)
+      role-bit j m =
+          let byte : at + roleByte (64 * h + suc j) ≡ at + 8 * h + j / 8 = omega arith in
+          let place : roleBit (64 * h + suc j) ≡ j % 8 = omega arith in
+          bit-byte 8 _ (λ k. bytes (at + 8 * h + k)) j (omega arith) ∙ rw (among-iff 128 (64 * h + suc j) .1 (omega arith), byte, place)
+
+  pub low-half : halfAt xs at ≡ lowOf (member xs at)
+  low-half =
+      let start : at ≡ at + 8 * 0 = omega arith in
+      ap (halfAt xs) start ∙ half-roles 0 (omega arith) ∙ ap (bitsOf 64) (λ i r. member xs at (zero-add r i))
 
   pub high-half : halfAt xs (at + 8) ≡ highOf (member xs at)
-  unfolding member
-  high-half =
-      same-bits 64 _ _ (half-below (at + 8)) (bits-below 64 (λ r. member xs at (64 + r)))
-      (λ j l. high-bit j l ∙ sym (bits-bit 64 (λ r. member xs at (64 + r)) j l))
-    where
-      high-bit : (j : ℕ) → j < 64 → bit (halfAt xs (at + 8)) j ≡ member xs at (64 + suc j)
-      high-bit j l =
-          let byte : at + roleByte (64 + suc j) ≡ at + 8 + j / 8 = omega arith in
-          let place : roleBit (64 + suc j) ≡ j % 8 = omega arith in
-          bit-byte 8 _ (λ k. bytes (at + 8 + k)) j (omega arith) ∙ rw (among-iff 128 (64 + suc j) .1 (omega arith), byte, place)
+  high-half = half-roles 1 (omega arith)
 
 -- ---- sets that meet
 

@@ -6,7 +6,6 @@ mod support;
 
 use monitor_model::Policy;
 use second_checker::example::EXAMPLE;
-use second_checker::generate::write;
 use second_checker::line::{print_line, MOST_LINES};
 use second_checker::order::{reached, steps, Order};
 use std::collections::BTreeSet;
@@ -14,7 +13,7 @@ use support::dot::{self, Graph};
 use support::json::{list, numbers, object, parsed, thing};
 use support::legend::Legend;
 use support::run::told;
-use support::{files, named, policy, CROSSED, EXAMPLES};
+use support::{draw, named, policy, Drawn, CROSSED, EXAMPLES};
 
 const SEED: u64 = 24;
 const FILES: u64 = 120;
@@ -174,13 +173,12 @@ fn graph_holds(graph: &Graph, expected: &Expected, legend: &Legend) {
 fn random_files() {
     let (mut red, mut blue, mut inherited) = (0, 0, 0);
     for index in 0..FILES {
-        let (mut random, role_file) = files::random(SEED, index);
-        let file = write(&role_file);
-        let policy = policy(&file);
-        let legend = match index % 2 {
-            0 => Legend::default(),
-            _ => Legend::random(&mut random, policy.counts),
-        };
+        let Drawn {
+            file,
+            policy,
+            legend,
+            ..
+        } = draw(SEED, index, index % 2 != 0);
         let (_kept, options) = named(&legend);
         let mut words = vec!["picture", "-"];
         words.extend(options.iter().map(String::as_str));
@@ -264,10 +262,12 @@ fn expected_json(expected: &Expected, legend: &Legend) -> String {
 fn json_of_random_files() {
     let (mut printed, mut expected) = (String::new(), String::new());
     for index in 0..40 {
-        let (mut random, role_file) = files::random(SEED + 1, index);
-        let file = write(&role_file);
-        let policy = policy(&file);
-        let legend = Legend::random(&mut random, policy.counts);
+        let Drawn {
+            file,
+            policy,
+            legend,
+            ..
+        } = draw(SEED + 1, index, true);
         let (_kept, options) = named(&legend);
         let mut words = vec!["picture", "--json", "-"];
         words.extend(options.iter().map(String::as_str));

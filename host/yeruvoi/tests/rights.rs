@@ -7,14 +7,13 @@ use common::run;
 use monitor_model::{Mode, Policy};
 use second_checker::check::READ;
 use second_checker::example::EXAMPLE;
-use second_checker::generate::write;
 use second_checker::line::print_line;
 use second_checker::random::Random;
 use support::json::{list, numbers, object, parsed, text, thing};
 use support::legend::Legend;
 use support::report::{assigned, by_anyone, given, members, takes, Page};
 use support::run::told;
-use support::{files, named, policy, CROSSED, EXAMPLES};
+use support::{draw, named, policy, Drawn, CROSSED, EXAMPLES};
 
 const SEED: u64 = 21;
 const FILES: u64 = 120;
@@ -46,13 +45,12 @@ fn some_users(random: &mut Random, users: usize) -> (Vec<usize>, Vec<String>) {
 fn random_files() {
     let mut bytes = 0;
     for index in 0..FILES {
-        let (mut random, role_file) = files::random(SEED, index);
-        let file = write(&role_file);
-        let policy = policy(&file);
-        let legend = match index % 3 {
-            0 => Legend::default(),
-            _ => Legend::random(&mut random, policy.counts),
-        };
+        let Drawn {
+            mut random,
+            file,
+            policy,
+            legend,
+        } = draw(SEED, index, index % 3 != 0);
         let each = index % 4 == 1;
         let (asked, users) = some_users(&mut random, policy.counts.users);
         let (_kept, mut options) = named(&legend);
@@ -124,13 +122,12 @@ fn json_of_user(policy: &Policy, legend: &Legend, user: usize) -> String {
 fn json_of_random_files() {
     let (mut printed, mut expected) = (String::new(), String::new());
     for index in 0..40 {
-        let (mut random, role_file) = files::random(SEED + 1, index);
-        let file = write(&role_file);
-        let policy = policy(&file);
-        let legend = match index % 2 {
-            0 => Legend::default(),
-            _ => Legend::random(&mut random, policy.counts),
-        };
+        let Drawn {
+            mut random,
+            file,
+            policy,
+            legend,
+        } = draw(SEED + 1, index, index % 2 != 0);
         let (asked, users) = some_users(&mut random, policy.counts.users);
         let (_kept, mut options) = named(&legend);
         options.push("--json".to_string());

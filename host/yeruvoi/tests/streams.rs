@@ -111,18 +111,17 @@ fn a_full_disk_is_told_in_one_line() {
         &["--version"],
     ] {
         let full = File::options().write(true).open("/dev/full").unwrap();
-        let output = command(words)
-            .stdout(full)
-            .stderr(Stdio::piped())
-            .output()
-            .unwrap();
-        let run = told(output);
-        assert_eq!(
-            run.errors,
-            "yeruvoi: standard output: No space left on device (os error 28)\n"
-        );
-        assert_eq!(run.status, 2);
+        unwritten(words, full.into(), "No space left on device (os error 28)");
     }
+}
+
+/// An output that cannot be written is told in one line, with the system's words.
+fn unwritten(words: &[&str], output: Stdio, problem: &str) {
+    let mut command = command(words);
+    command.stdout(output).stderr(Stdio::piped());
+    let run = told(command.output().unwrap());
+    assert_eq!(run.errors, format!("yeruvoi: standard output: {problem}\n"));
+    assert_eq!(run.status, 2);
 }
 
 #[test]
@@ -130,17 +129,11 @@ fn a_closed_pipe_is_told_in_one_line() {
     let file = kept("pipe.role", &padded(DOCUMENT));
     let (reader, writer) = std::io::pipe().unwrap();
     drop(reader);
-    let output = command(&["check", &file])
-        .stdout(writer)
-        .stderr(Stdio::piped())
-        .output()
-        .unwrap();
-    let run = told(output);
-    assert_eq!(
-        run.errors,
-        "yeruvoi: standard output: Broken pipe (os error 32)\n"
+    unwritten(
+        &["check", &file],
+        writer.into(),
+        "Broken pipe (os error 32)",
     );
-    assert_eq!(run.status, 2);
 }
 
 #[test]

@@ -6,11 +6,10 @@ mod support;
 use common::run;
 use monitor_model::{Mode, Policy};
 use second_checker::example::EXAMPLE;
-use second_checker::generate::write;
 use support::json::{object, parsed, text, thing};
 use support::legend::Legend;
 use support::run::told;
-use support::{files, named, number, policy, things, CROSSED, EXAMPLES};
+use support::{draw, named, number, things, Drawn, CROSSED, EXAMPLES};
 
 const SEED: u64 = 22;
 const FILES: u64 = 80;
@@ -80,16 +79,15 @@ fn squeezed(page: &str) -> Vec<String> {
 fn random_files() {
     let (mut told_of, mut nobody) = (0, 0);
     for index in 0..FILES {
-        let (mut random, role_file) = files::random(SEED, index);
-        let file = write(&role_file);
-        let policy = policy(&file);
+        let Drawn {
+            mut random,
+            file,
+            policy,
+            legend,
+        } = draw(SEED, index, index % 2 != 0);
         if policy.counts.cards == 0 {
             continue;
         }
-        let legend = match index % 2 {
-            0 => Legend::default(),
-            _ => Legend::random(&mut random, policy.counts),
-        };
         let (_kept, options) = named(&legend);
         for mode in [Mode::Read, Mode::Write] {
             let card = 1 + random.place(0, policy.counts.cards);
@@ -126,13 +124,15 @@ fn expected_json(policy: &Policy, legend: &Legend, mode: Mode, card: usize) -> S
 fn json_of_random_files() {
     let (mut printed, mut expected) = (String::new(), String::new());
     for index in 0..40 {
-        let (mut random, role_file) = files::random(SEED + 1, index);
-        let file = write(&role_file);
-        let policy = policy(&file);
+        let Drawn {
+            mut random,
+            file,
+            policy,
+            legend,
+        } = draw(SEED + 1, index, true);
         if policy.counts.cards == 0 {
             continue;
         }
-        let legend = Legend::random(&mut random, policy.counts);
         let card = 1 + random.below(policy.counts.cards);
         let mode = random.pick(&[Mode::Read, Mode::Write]);
         let (_kept, options) = named(&legend);

@@ -14,6 +14,8 @@ pub mod why_page;
 
 use legend::Legend;
 use monitor_model::Policy;
+use second_checker::generate::write;
+use second_checker::random::Random;
 use temporary::Temporary;
 
 /// Document 01's example, and the file of the two makers with its legend.
@@ -48,6 +50,31 @@ pub fn policy(file: &[u8]) -> Policy {
     match Policy::of(file) {
         Ok(policy) => policy,
         Err(verdict) => panic!("refused: {verdict:?}"),
+    }
+}
+
+/// A random accepted file, the model's reading of it, its names, and the source that goes on.
+pub struct Drawn {
+    pub random: Random,
+    pub file: Vec<u8>,
+    pub policy: Policy,
+    pub legend: Legend,
+}
+
+/// File `index` of the run with this seed, with names or without.
+pub fn draw(seed: u64, index: u64, with_names: bool) -> Drawn {
+    let (mut random, role_file) = files::random(seed, index);
+    let file = write(&role_file);
+    let policy = policy(&file);
+    let legend = match with_names {
+        true => Legend::random(&mut random, policy.counts),
+        false => Legend::default(),
+    };
+    Drawn {
+        random,
+        file,
+        policy,
+        legend,
     }
 }
 
