@@ -1,5 +1,5 @@
--- The cases of "Example files", those with a star and the others too: each file with what the document says of it, and session calls after its load with their
--- numbers. Where the document tells of a file without showing it, the file is a small one of that kind. Assumes nothing.
+-- The cases of "Example files", those with a star and the others too: each file with what document 01 says of it, as document 02 changes it, and session calls after its load with their
+-- numbers; and cases of the changes. Where a document tells of a file without showing it, the file is a small one of that kind. Assumes nothing.
 use Prim.Native.Nat.{ℕ, _*_}
 use Prim.Native.String.{String}
 use mathlib.Core.List.{List, [], _∷_, _++_, map}
@@ -78,6 +78,21 @@ exampleFile =
     ∷ "A    1    2          "
     ∷ []
 
+-- the same with role 2 writing card 1 too
+abbrev pub reviewerFile : List String
+reviewerFile =
+    "H    2    2    1    2"
+    ∷ "D    2    1          "
+    ∷ "S    2    1          "
+    ∷ "U    1    2          "
+    ∷ "O    1    1          "
+    ∷ "O    2    2          "
+    ∷ "P    1    1    1     "
+    ∷ "P    2    1    2     "
+    ∷ "P    2    2    2     "
+    ∷ "A    1    2          "
+    ∷ []
+
 unfoldable pub cases : List Case
 cases =
     record {
@@ -131,20 +146,73 @@ cases =
       expected = record { verdict = refusal 15 1 2; rows = []; circle = none; flows = []; calls = [] };
     }
     ∷ record {
-      -- "role 2 writing card 1 too: w-level 1, 16 at [1, 2]"
+      -- "role 2 writing card 1 too: w-level 1", and "then accepted" (document 02, change 1)
+      file = reviewerFile;
+      expected = record { verdict = fine; rows = (2, 1, 1) ∷ []; circle = none; flows = []; calls = [] };
+    }
+    ∷ record {
+      -- a reviewer's day: cleared to 2, she opens at 1, takes role 2 and corrects card 1; at 2 she cannot take it
+      file = reviewerFile;
+      expected = record {
+        verdict = fine;
+        rows = [];
+        circle = none;
+        flows = [];
+        calls =
+            (opens 1 1 1, 0)
+            ∷ (takes 1 2, 0)
+            ∷ (writes 1 1 0 (65 ∷ []), 0)
+            ∷ (opens 2 1 2, 0)
+            ∷ (takes 2 2, 28)
+            ∷ (writes 2 1 0 (65 ∷ []), 29)
+            ∷ [];
+      };
+    }
+    ∷ record {
+      -- role 2 reading card 2 and writing card 1: r-level 2 over w-level 1, and no label lies at or above the one and at or below the other
       file =
           "H    2    2    1    2"
           ∷ "D    2    1          "
-          ∷ "S    2    1          "
           ∷ "U    1    2          "
           ∷ "O    1    1          "
           ∷ "O    2    2          "
-          ∷ "P    1    1    1     "
           ∷ "P    2    1    2     "
-          ∷ "P    2    2    2     "
+          ∷ "P    2    2    1     "
           ∷ "A    1    2          "
           ∷ [];
-      expected = record { verdict = refusal 16 1 2; rows = (2, 1, 1) ∷ []; circle = none; flows = []; calls = [] };
+      expected = record { verdict = refusal 16 1 2; rows = (2, 2, 1) ∷ []; circle = none; flows = []; calls = [] };
+    }
+    ∷ record {
+      -- labels 1, 2, 3 with D 3 1 and D 3 2, user 1 cleared to 1, role 1 writing at 2: the r-level is free, and no label lies under both 1 and 2
+      file =
+          "H    3    1    1    1"
+          ∷ "D    3    1          "
+          ∷ "D    3    2          "
+          ∷ "U    1    1          "
+          ∷ "O    1    2          "
+          ∷ "P    1    1    2     "
+          ∷ "A    1    1          "
+          ∷ [];
+      expected = record { verdict = refusal 16 1 1; rows = (1, 0, 2) ∷ []; circle = none; flows = []; calls = [] };
+    }
+    ∷ record {
+      -- cleared to 3 instead: accepted, and the role can be taken at 2
+      file =
+          "H    3    1    1    1"
+          ∷ "D    3    1          "
+          ∷ "D    3    2          "
+          ∷ "U    1    3          "
+          ∷ "O    1    2          "
+          ∷ "P    1    1    2     "
+          ∷ "A    1    1          "
+          ∷ [];
+      expected = record {
+        verdict = fine;
+        rows = [];
+        circle = none;
+        flows = [];
+        calls = (opens 1 1 2, 0) ∷ (takes 1 1, 0) ∷ (opens 2 1 3, 0) ∷ (takes 2 1, 28) ∷ (opens 3 1 1, 0) ∷ (takes 3 1, 28) ∷ [];
+      };
     }
     ∷ record {
       -- "D 1 1 in front: 11 at [1, 0]"

@@ -14,7 +14,8 @@ use Rattle.policy.specs.Tables.{tableOf}
 use Rattle.monitor.specs.Session.{sound, labelsIn, rolesIn, usersIn, cardsIn, cleared, entitled, fitting}
 use Rattle.monitor.specs.Calls.{unless, Figured}
 use Rattle.monitor.specs.Runs.{Call, opens, takes, reads, writes, Memory, number, after}
-use Rattle.monitor.specs.Rules.{entitledBy, fittingBy}
+use Rattle.monitor.specs.Rules.{entitledBy, fittingBy, begun, rule, standing}
+use Rattle.monitor.specs.Granted.{OpenFor}
 
 -- ---- by the state's bytes
 
@@ -66,3 +67,13 @@ pub record CouldUse (m₀ : Memory) (p u l o m r : ℕ) : Type 0 where
   pub opened : number m₀ (opens p u l) ≡ 0
   pub taken : number (after m₀ (opens p u l)) (takes p r) ≡ 0
   pub used : number (after (after m₀ (opens p u l)) (takes p r)) (useOf m p o) ≡ 0
+
+-- ---- by the rules: whether a user can take a role at all
+
+-- after some calls a session of user u is open, at some place and label, and taking role r there is answered 0
+pub record CouldTake (σ : Settings) (α : Relation) (u r : ℕ) : Type 0 where
+  pub calls : List Call
+  pub place : ℕ
+  pub label : ℕ
+  pub session : OpenFor σ α calls place u label
+  pub taken : rule σ 0 (standing σ (begun α) calls) (takes place r) ≡ 0

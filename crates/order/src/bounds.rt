@@ -9,7 +9,7 @@ use super::marks::Table;
 ghost use mathlib.Core.Path.{_≡_};
 ghost use mathlib.Core.Bool.{_&&_};
 ghost use Prim.Native.Nat.{_+_, _≤_, _<_, min};
-ghost use Rattle.search.specs.Search.{every, implies};
+ghost use Rattle.search.specs.Search.{some, every, implies};
 ghost use Rattle.order.specs.Closure.{Agree};
 ghost use Rattle.order.specs.Bound.{upper, leastOf, converse, partnerWithoutBound, FirstWithoutBound};
 ghost use Rattle.order.specs.Table.{marks, mark, Upto, FirstThings};
@@ -38,6 +38,19 @@ fn common(s: Set, t: Set) -> Set
         i += 1;
     }
     r
+}
+
+// Whether some thing is in all three sets.
+pub fn meet(s: Set, t: Set, u: Set) -> bool
+    ensures { λ r. ⌜ r ≡ some 32 (λ a. marks s a && (marks t a && marks u a)) ⌝ }
+{
+    let mut found = false;
+    let mut i = 0;
+    while i < THINGS {
+        found = found | (s[i] & (t[i] & u[i]));
+        i += 1;
+    }
+    found
 }
 
 // Whether all of s is in t.
@@ -175,12 +188,11 @@ pub struct Pair {
     pub higher: usize,
 }
 
-// The first pair among the first n things that has no least upper bound.
-pub fn first_pair(t: Table, n: usize) -> Pair
-    ensures { λ r. ⌜ FirstWithoutBound (min n 32) (mark t) (r .lower) (r .higher) ⌝ }
+// The first pair among the first n things that has no least upper bound, in the order that was turned round.
+pub fn first_pair(up: Table, n: usize) -> Pair
+    ensures { λ r. ⌜ FirstWithoutBound (min n 32) (converse (mark up)) (r .lower) (r .higher) ⌝ }
 {
     let m = marks::lesser(n, THINGS);
-    let up = converse(t);
     let mut i = 0;
     while i < m {
         let higher = partner(&up, m, i);

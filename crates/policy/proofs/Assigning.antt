@@ -1,17 +1,20 @@
 -- 14 to 16 by the tables: a verdict with no number has no place, and the tables' verdict is that of the settings where the tables are. Assumes nothing.
-use Prim.Native.Nat.{ℕ, _≤_}
+use Prim.Native.Nat.{ℕ, _≤_, _<_}
 use mathlib.Core.Path.{_≡_, refl, sym, _∙_}
 use mathlib.Core.Logic.{_⊎_, inl, inr, ⊎-elim}
 use mathlib.Core.Bool.{Bool, true, false, not, _&&_, _||_, cond, and-false}
 use mathlib.Core.List.{List}
 use native.Mathlib.Omega.{arith}
+use native.Mathlib.Decide.{decLt}
 use lib.Dec.{leb, eqb}
 use lib.ListN.{getD}
-use borrow.Author.Tests.{ne-eqb, le-leb}
-use Rattle.search.specs.Search.{Among, among}
-use Rattle.search.proofs.Truth.{and-iff, among-iff, same}
-use Rattle.order.specs.Closure.{Relation}
+use borrow.Author.Tests.{ne-eqb, leb-true, le-leb, lt-leb}
+use Rattle.search.specs.Search.{Among, among, some}
+use Rattle.search.proofs.Truth.{and-iff, among-iff, untrue, both, same}
+use Rattle.search.proofs.Found.{some-cut}
+use Rattle.order.specs.Closure.{Relation, Agree}
 use Rattle.order.specs.Bound.{converse}
+use Rattle.order.specs.Table.{mark}
 use Rattle.rolefile.specs.declared.Verdict.{Verdict}
 use Rattle.rolefile.specs.Line.{A, lineAt, lines, part}
 use Rattle.rolefile.specs.Form.{refusal, header, scan}
@@ -25,19 +28,20 @@ use Rattle.policy.specs.Policy.{Level, Free, Label, Undefined}
 use Rattle.policy.specs.Settings.{Inside, Settings, dominates, settings}
 use Rattle.policy.specs.Policy.{mayAt, level, rLevel, wLevel, passes, isDefined, levelNumber}
 use Rattle.policy.specs.Tables.{clearancesAt, rLevelsAt, wLevelsAt, byteOf, marked, passesIn, markAt}
-use Rattle.policy.specs.inner.Filling.{assignByTables}
+use Rattle.policy.specs.inner.Filling.{inRow, levelRow, someServes, assignByTables}
+use Rattle.policy.specs.inner.Stages.{Turned}
 use Rattle.policy.specs.Image.{Labelled, Dominating, Levelled}
-use Rattle.policy.specs.Verdict.{assignVerdict, assignmentVerdict}
+use Rattle.policy.specs.Verdict.{serves, assignVerdict, assignmentVerdict}
 use Rattle.policy.proofs.Readying.{one-within, two-within, limits-a}
 use Rattle.policy.proofs.Levels.{Tells, level-tells}
 use Rattle.policy.proofs.Checks.{assignment-clean}
 
-pub tables-clean : (xs : List ℕ) (u r : ℕ) → Clean (assignByTables xs u r)
+pub tables-clean : (xs : List ℕ) (down up : List (List Bool)) (u r : ℕ) → Clean (assignByTables xs down up u r)
 unfolding assignByTables
-tables-clean xs u r =
+tables-clean xs down up u r =
     unless-clean (not (eqb (byteOf xs wLevelsAt r) 99)) (refusal 14 u r) (λ e. omega arith)
     (unless-clean (passesIn xs (byteOf xs rLevelsAt r) (byteOf xs clearancesAt u) (byteOf xs rLevelsAt r)) (refusal 15 u r) (λ e. omega arith)
-    (unless-clean (passesIn xs (byteOf xs wLevelsAt r) (byteOf xs wLevelsAt r) (byteOf xs clearancesAt u)) (refusal 16 u r) (λ e. omega arith)
+    (unless-clean (someServes down up (byteOf xs clearancesAt u) (byteOf xs rLevelsAt r) (byteOf xs wLevelsAt r)) (refusal 16 u r) (λ e. omega arith)
     (λ e. refl)))
 
 -- ---- a level as it is kept: no label is 0 or 99
@@ -61,42 +65,86 @@ module _ (n : ℕ) (ge : Relation) (s : ℕ → Bool) (few : n ≤ 32) where
       go (Label c) (h, b) = rw (ne-eqb c 0 (λ e. omega (arith, b .inside))) (agree c (b .inside))
       go Undefined t = none
 
--- ---- the tables' verdict
+-- ---- dominance by the marks m of 32 labels: those of bytes, or of a table
 
-module _ (σ : Settings) (ys : List ℕ) (few : σ .labels ≤ 32) (inside : Inside (σ .labels) (σ .dominates)) (dominating : Dominating σ ys) where
-  abbrev byte : ℕ → ℕ → ℕ
-  byte a b = getD ys (markAt a b) 0
-
-  marks-byte : (a b : ℕ) → Among 32 a → Among 32 b → eqb (byte a b) 1 ≡ (leb a (σ .labels) && σ .dominates a b)
-  marks-byte a b v w = rw (dominating a b v w) (go (leb a (σ .labels) && σ .dominates a b))
+module _ (σ : Settings) (few : σ .labels ≤ 32) (inside : Inside (σ .labels) (σ .dominates)) (m : Relation) (says : Agree 32 32 m (λ a b. leb a (σ .labels) && σ .dominates a b)) where
+  -- where one of the two is a label
+  mark-is : (a b : ℕ) → Among (σ .labels) a ⊎ Among (σ .labels) b → (among 32 a && (among 32 b && m a b)) ≡ σ .dominates a b
+  mark-is a b known = same (among 32 a && (among 32 b && m a b)) (σ .dominates a b) to of
     where
-      go : (m : Bool) → eqb (cond m 1 0) 1 ≡ m
-      go true = refl
-      go false = refl
-
-  -- dominance by the bytes, where one of the two is a label
-  pub marked-is : (a b : ℕ) → Among (σ .labels) a ⊎ Among (σ .labels) b → marked ys a b ≡ σ .dominates a b
-  marked-is a b known = same (marked ys a b) (σ .dominates a b) to of
-    where
-      to : marked ys a b ≡ true → σ .dominates a b ≡ true
+      to : (among 32 a && (among 32 b && m a b)) ≡ true → σ .dominates a b ≡ true
       to h =
-          let (v, g) = and-iff (among 32 a) (among 32 b && eqb (byte a b) 1) .0 h in
-          let (w, e) = and-iff (among 32 b) (eqb (byte a b) 1) .0 g in
-          and-iff (leb a (σ .labels)) (σ .dominates a b) .0 (sym (marks-byte a b (among-iff 32 a .0 v) (among-iff 32 b .0 w)) ∙ e) .1
+          let (v, g) = and-iff (among 32 a) (among 32 b && m a b) .0 h in
+          let (w, e) = and-iff (among 32 b) (m a b) .0 g in
+          and-iff (leb a (σ .labels)) (σ .dominates a b) .0 (sym (says a b (among-iff 32 a .0 v) (among-iff 32 b .0 w)) ∙ e) .1
 
-      both : σ .dominates a b ≡ true → Among (σ .labels) a × Among (σ .labels) b
-      both h =
+      counted : σ .dominates a b ≡ true → Among (σ .labels) a × Among (σ .labels) b
+      counted h =
           ⊎-elim
           (λ i. ⊎-elim (λ v. (v, rw i at v)) (λ w. (rw i w, w)) known)
           (λ vw. vw)
           (inside a b h)
 
-      of : σ .dominates a b ≡ true → marked ys a b ≡ true
+      of : σ .dominates a b ≡ true → (among 32 a && (among 32 b && m a b)) ≡ true
       of h =
-          let (v, w) = both h in
+          let (v, w) = counted h in
           let i : Among 32 a = omega arith in
           let j : Among 32 b = omega arith in
-          rw (among-iff 32 a .1 i, among-iff 32 b .1 j, marks-byte a b i j, le-leb a (σ .labels) (v .1)) h
+          rw (among-iff 32 a .1 i, among-iff 32 b .1 j, says a b i j, le-leb a (σ .labels) (v .1)) h
+
+  -- a label past those of the settings is marked under none
+  mark-past : (a b : ℕ) → Among 32 a → Among 32 b → σ .labels < b → m a b ≡ false
+  mark-past a b v w past =
+      untrue (m a b) (λ h.
+      let (l, d) = and-iff (leb a (σ .labels)) (σ .dominates a b) .0 (sym (says a b v w) ∙ h) in
+      let few = leb-true a (σ .labels) l in
+      ⊎-elim (λ i. omega arith) (λ (x, y). omega arith) (inside a b d))
+
+-- ---- 16 by two tables
+
+module _ (σ : Settings) (few : σ .labels ≤ 32) (inside : Inside (σ .labels) (σ .dominates)) (down up : List (List Bool))
+    (closed : Agree 32 32 (mark down) (λ a b. leb a (σ .labels) && σ .dominates a b)) (turned : Turned down up) where
+  module _ (y : ℕ) (label : Among (σ .labels) y) where
+    in-down : (a : ℕ) → inRow down a y ≡ σ .dominates a y
+    in-down a = rw (among-iff 32 y .1 (omega arith)) at (mark-is σ few inside (mark down) closed a y (inr label))
+
+    in-up : (a : ℕ) → Among (σ .labels) a → inRow up a y ≡ σ .dominates y a
+    in-up a w =
+        let v : Among 32 a = omega arith in
+        let i : Among 32 y = omega arith in
+        rw (among-iff 32 a .1 v, turned a y v i, closed y a i v, le-leb y (σ .labels) (label .1))
+
+    over-is : (r : ℕ) → levelRow up (levelNumber (rLevel σ r)) y ≡ passes (λ l. σ .dominates y l) (rLevel σ r)
+    unfolding rLevel
+    over-is r = passes-number (σ .labels) (σ .dominates) (mayAt σ 1 r) few (λ a. inRow up a y) (λ l. σ .dominates y l) refl in-up
+
+    under-is : (r : ℕ) → levelRow down (levelNumber (wLevel σ r)) y ≡ passes (λ l. σ .dominates l y) (wLevel σ r)
+    unfolding wLevel
+    under-is r = passes-number (σ .labels) (converse (σ .dominates)) (mayAt σ 2 r) few (λ a. inRow down a y) (λ l. σ .dominates l y) refl (λ a i. in-down a)
+
+  in-past : (a y : ℕ) → Among 32 y → σ .labels < y → inRow down a y ≡ false
+  in-past a y w past = untrue (inRow down a y) (λ h.
+      let (v, e) = and-iff (among 32 a) (mark down a y) .0 h in
+      both e (mark-past σ few inside (mark down) closed a y (among-iff 32 a .0 v) w past))
+
+  some-serves : (u r : ℕ) → someServes down up (σ .clearance u) (levelNumber (rLevel σ r)) (levelNumber (wLevel σ r)) ≡ some (σ .labels) (serves σ u r)
+  unfolding someServes
+  some-serves u r = some-cut (σ .labels) 32 few (serves σ u r) _ (λ y w. elim (decLt (σ .labels) y) [
+    | yes l ↦ rw (in-past (σ .clearance u) y w l, lt-leb y (σ .labels) l)
+    | no l ↦
+        let label : Among (σ .labels) y = omega arith in
+        rw (in-down y label (σ .clearance u), over-is y label r, under-is y label r, le-leb y (σ .labels) (label .1))
+  ])
+
+-- ---- the verdict by a state's bytes and by two tables
+
+module _ (σ : Settings) (ys : List ℕ) (few : σ .labels ≤ 32) (inside : Inside (σ .labels) (σ .dominates)) (dominating : Dominating σ ys) where
+  pub marked-is : (a b : ℕ) → Among (σ .labels) a ⊎ Among (σ .labels) b → marked ys a b ≡ σ .dominates a b
+  marked-is = mark-is σ few inside (λ a b. eqb (getD ys (markAt a b) 0) 1) (λ a b v w. rw (dominating a b v w) (go (leb a (σ .labels) && σ .dominates a b)))
+    where
+      go : (m : Bool) → eqb (cond m 1 0) 1 ≡ m
+      go true = refl
+      go false = refl
 
   -- a role's levels by the bytes: whether the w-level is defined, and both at label l
   defined-test : (r : ℕ) → not (eqb (levelNumber (wLevel σ r)) 99) ≡ isDefined (wLevel σ r)
@@ -116,8 +164,9 @@ module _ (σ : Settings) (ys : List ℕ) (few : σ .labels ≤ 32) (inside : Ins
         passes-number (σ .labels) (converse (σ .dominates)) (mayAt σ 2 r) few (λ a. marked ys a l) (λ a. σ .dominates a l)
         refl (λ a i. marked-is a l (inl i))
 
-  module _ (labelled : Labelled σ ys) (levelled : Levelled σ ys) where
-    pub tables-verdict : (u r : ℕ) → Among 256 u → Among 128 r → assignByTables ys u r ≡ assignVerdict σ u r
+  module _ (labelled : Labelled σ ys) (levelled : Levelled σ ys) (down up : List (List Bool))
+      (closed : Agree 32 32 (mark down) (λ a b. leb a (σ .labels) && σ .dominates a b)) (turned : Turned down up) where
+    pub tables-verdict : (u r : ℕ) → Among 256 u → Among 128 r → assignByTables ys down up u r ≡ assignVerdict σ u r
     unfolding assignByTables assignVerdict
     tables-verdict u r v w =
         rw (
@@ -126,7 +175,7 @@ module _ (σ : Settings) (ys : List ℕ) (few : σ .labels ≤ 32) (inside : Ins
           levelled .writes r w,
           defined-test r,
           reads-test (σ .clearance u) r,
-          writes-test (σ .clearance u) r,
+          some-serves σ few inside down up closed turned u r,
         )
 
 -- ---- the assignments of a file, by the section of its A lines

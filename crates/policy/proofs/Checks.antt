@@ -4,9 +4,9 @@ use Prim.Native.Nat.{ℕ, suc, _<_}
 use mathlib.Core.Path.{_≡_, refl, _∙_}
 use mathlib.Core.Logic.{inl, inr, ⊎-elim}
 use mathlib.Core.List.{List}
-use mathlib.Core.Bool.{Bool}
 use native.Mathlib.Omega.{arith}
 use lib.Dec.{eqb}
+use Rattle.search.specs.Search.{some}
 use Rattle.search.proofs.Truth.{eqb-iff, either}
 use Rattle.order.specs.Closure.{Relation, path, closure, PartialOrder, toItself}
 use Rattle.order.specs.Bound.{converse, lowestWithoutBound, partnerWithoutBound, AllJoined, FirstPair}
@@ -19,11 +19,13 @@ use Rattle.rolefile.specs.Said.{labels}
 use Rattle.rolefile.proofs.Verdicts.{Clean, unless-clean}
 use Rattle.rolefile.proofs.Decides.{Decides, Else, Fails, decides-as}
 use Rattle.rolefile.proofs.Decides.{cond-decides, fine-decides, test-decides, unless-decides, found-decides, search-decides}
-use Rattle.policy.specs.Settings.{Settings, dominates, settings}
+use Rattle.rolefile.specs.WellFormed.{GoodLines}
+use Rattle.policy.specs.Settings.{Inside, Settings, dominates, settings}
 use Rattle.policy.specs.Policy.{mayAt, rLevel, wLevel, passes, isDefined}
-use Rattle.policy.specs.Verdict.{circleVerdict, pairVerdict, assignVerdict, assignmentVerdict}
-use Rattle.policy.specs.Accepted.{ReadsUnder, WritesOver, NoWriteLevel, WithinLevels, GoodOrder, GoodAssignment, LowestOnCircle, AssignRefused, noLevel, readsMore, writesLess}
-use Rattle.policy.proofs.Levels.{defined-iff, without-bound, passing-bounded, reads-under-iff, writes-over-iff}
+use Rattle.policy.specs.Verdict.{circleVerdict, pairVerdict, serves, assignVerdict, assignmentVerdict}
+use Rattle.policy.specs.Accepted.{ReadsUnder, NoWriteLevel, WithinLevels, GoodOrder, GoodAssignment, LowestOnCircle, AssignRefused, noLevel, readsMore, noLabel}
+use Rattle.policy.proofs.Levels.{defined-iff, without-bound, passing-bounded, reads-under-iff, within-iff, clearance-reads}
+use Rattle.policy.proofs.Inside.{dominates-inside}
 
 -- ---- 11 and 13
 
@@ -86,49 +88,46 @@ module _ (n : ℕ) (ge : Relation) where
 
 -- ---- 14 to 16
 
-abbrev AssignRefusal : Settings → ℕ → ℕ → Verdict → Type 0
+abbrev pub AssignRefusal : Settings → ℕ → ℕ → Verdict → Type 0
 AssignRefusal σ u r v = (n : ℕ) × AssignRefused σ u r n × (v ≡ refusal n u r)
 
 -- for line i, where it is an assignment
 abbrev pub AssignmentRefusal : List ℕ → ℕ → Verdict → Type 0
 AssignmentRefusal f i v = (lineAt f i .letter ≡ A) × AssignRefusal (settings f) (lineAt f i .a) (lineAt f i .b) v
 
-module _ (σ : Settings) (o : PartialOrder (σ .labels) (σ .dominates)) where
-  assign-decides : (u r : ℕ) → Decides (assignVerdict σ u r) (WithinLevels σ u r) (AssignRefusal σ u r)
+module _ (σ : Settings) (o : PartialOrder (σ .labels) (σ .dominates)) (inside : Inside (σ .labels) (σ .dominates)) where
+  pub assign-decides : (u r : ℕ) → Decides (assignVerdict σ u r) (WithinLevels σ u r) (AssignRefusal σ u r)
   unfolding assignVerdict rLevel wLevel
   assign-decides u r =
       decides-as
       (unless-decides (defined-iff (σ .labels) (converse (σ .dominates)) (mayAt σ 2 r)) (refusal 14 u r) (omega arith) (λ d.
       unless-decides (reads-under-iff σ o (σ .clearance u) r) (refusal 15 u r) (omega arith) (λ p.
-      test-decides (writes-over-iff σ o (σ .clearance u) r) (refusal 16 u r) (omega arith)))) (
-        λ (d, (p, q)). record { reads = p; writes = q },
-        λ a. (passing-bounded (σ .labels) (converse (σ .dominates)) (mayAt σ 2 r) writes (a .writes), (a .reads, a .writes)),
+      test-decides (within-iff σ o u r) (refusal 16 u r) (omega arith)))) (
+        λ (d, (p, q)). q,
+        λ q. (passing-bounded (σ .labels) (converse (σ .dominates)) (mayAt σ 2 r) (λ l. σ .dominates l (q .0)) (q .1 .writes), (clearance-reads σ o u r inside q, q)),
       )
       (λ v. (to v, λ (n, b, e). of b v e))
     where
-      writes : ℕ → Bool
-      writes l = σ .dominates l (σ .clearance u)
-
       Why : Verdict → Type 0
       Why = Else (Fails (NoWriteLevel σ r → ⊥) (refusal 14 u r)) (NoWriteLevel σ r → ⊥)
-          (Else (Fails (ReadsUnder σ (σ .clearance u) r) (refusal 15 u r)) (ReadsUnder σ (σ .clearance u) r) (Fails (WritesOver σ (σ .clearance u) r) (refusal 16 u r)))
+          (Else (Fails (ReadsUnder σ (σ .clearance u) r) (refusal 15 u r)) (ReadsUnder σ (σ .clearance u) r) (Fails (WithinLevels σ u r) (refusal 16 u r)))
 
       to : (v : Verdict) → Why v → AssignRefusal σ u r v
       to v (inl (d, e)) = (14, noLevel (without-bound (σ .labels) (converse (σ .dominates)) (mayAt σ 2 r) d), e)
       to v (inr (d, inl (h, e))) = (15, readsMore d h, e)
-      to v (inr (d, inr (p, (h, e)))) = (16, writesLess d p h, e)
+      to v (inr (d, inr (p, (h, e)))) = (16, noLabel d p h, e)
 
       of : {n : ℕ} → AssignRefused σ u r n → (v : Verdict) → v ≡ refusal n u r → Why v
       of (noLevel b) v e = inl (λ d. d b, e)
       of (readsMore d h) v e = inr (d, inl (h, e))
-      of (writesLess d p h) v e = inr (d, inr (p, (h, e)))
+      of (noLabel d p h) v e = inr (d, inr (p, (h, e)))
 
-module _ (f : List ℕ) (o : PartialOrder (labels f) (dominates f)) where
+module _ (f : List ℕ) (good : GoodLines f) (o : PartialOrder (labels f) (dominates f)) where
   pub assignment-decides : (i : ℕ) → Decides (assignmentVerdict f i) (GoodAssignment f i) (AssignmentRefusal f i)
   unfolding assignmentVerdict
   assignment-decides i =
       decides-as
-      (cond-decides (assign-decides (settings f) o (lineAt f i .a) (lineAt f i .b)) (eqb-iff (lineAt f i .letter) A) fine-decides)
+      (cond-decides (assign-decides (settings f) o (dominates-inside f good) (lineAt f i .a) (lineAt f i .b)) (eqb-iff (lineAt f i .letter) A) fine-decides)
       (λ (g, u). g, λ g. (g, λ n. tt))
       (λ x. (⊎-elim (λ r. r) (λ (n, none). absurd none), inl))
 
@@ -138,7 +137,7 @@ unfolding assignVerdict
 assign-clean σ u r =
     unless-clean (isDefined (wLevel σ r)) (refusal 14 u r) (omega arith)
     (unless-clean (passes (λ l. σ .dominates (σ .clearance u) l) (rLevel σ r)) (refusal 15 u r) (omega arith)
-    (unless-clean (passes (λ l. σ .dominates l (σ .clearance u)) (wLevel σ r)) (refusal 16 u r) (omega arith) (λ e. refl)))
+    (unless-clean (some (σ .labels) (serves σ u r)) (refusal 16 u r) (omega arith) (λ e. refl)))
 
 pub assignment-clean : (f : List ℕ) (i : ℕ) → Clean (assignmentVerdict f i)
 unfolding assignmentVerdict

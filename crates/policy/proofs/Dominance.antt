@@ -7,7 +7,7 @@ use native.Mathlib.Omega.{arith}
 use lib.Dec.{ltb}
 use borrow.Author.Tests.{le-leb, lt-ltb}
 use Rattle.order.specs.Closure.{Relation, Agree, path, withItself}
-use Rattle.order.specs.Bound.{partnerWithoutBound, lowestWithoutBound, FirstWithoutBound}
+use Rattle.order.specs.Bound.{converse, partnerWithoutBound, lowestWithoutBound, FirstWithoutBound}
 use Rattle.order.specs.Table.{mark, Rows}
 use Rattle.order.proofs.Closure.{loop-circle}
 use Rattle.order.proofs.Bound.{first-without-agree}
@@ -19,7 +19,7 @@ use Rattle.rolefile.specs.WellFormed.{GoodLines}
 use Rattle.policy.specs.Settings.{dominates}
 use Rattle.policy.specs.inner.Filling.{Marking}
 use Rattle.policy.specs.Verdict.{orderVerdict, labelVerdict, pairVerdict}
-use Rattle.policy.specs.inner.Stages.{Paths, Closed}
+use Rattle.policy.specs.inner.Stages.{Paths, Closed, Turned}
 use Rattle.policy.proofs.Inside.{over-between}
 use Rattle.policy.proofs.Closing.{paths-table, closed-table}
 
@@ -37,9 +37,12 @@ pub closed-of : (f : List ℕ) (t c : List (List Bool)) → Paths f t
 unfolding dominates
 closed-of f t c = closed-table 32 (labels f) (over f) (mark t) (mark c)
 
--- on the labels it is dominance
+-- on the labels it is dominance, and so is the order that was turned round
 pub closed-agree : (f : List ℕ) (t : List (List Bool)) → labels f ≤ 32 → Closed f t → Agree (labels f) (labels f) (mark t) (dominates f)
 closed-agree f t few closed a b v w = closed a b (omega arith) (omega arith) ∙ rw (le-leb a (labels f) (v .1))
+
+pub turned-agree : (f : List ℕ) (down up : List (List Bool)) → labels f ≤ 32 → Closed f down → Turned down up → Agree (labels f) (labels f) (converse (mark up)) (dominates f)
+turned-agree f down up few closed turned a b v w = turned b a (omega arith) (omega arith) ∙ closed-agree f down few closed a b v w
 
 -- ---- 11 and 12
 
@@ -52,20 +55,21 @@ pair-verdict n ge a b h = rw (← (h .lower)) (go a (h .higher))
     go zero e = refl
     go (suc a) e = rw (e, lt-ltb 0 (suc a) (omega arith))
 
-pub order-verdict-is : (f : List ℕ) (t c : List (List Bool)) → labels f ≤ 32 → Paths f t → Closed f c
-    → orderVerdict (labels f) (mark t) (mark c) ≡ labelVerdict f
+-- by the paths, and by an order that is dominance on the labels
+pub order-verdict-is : (f : List ℕ) (t : List (List Bool)) (ge : Relation) → labels f ≤ 32 → Paths f t → Agree (labels f) (labels f) ge (dominates f)
+    → orderVerdict (labels f) (mark t) ge ≡ labelVerdict f
 unfolding orderVerdict labelVerdict
-order-verdict-is f t c few p closed =
-    rw (loop-circle (over f) few p, pair-verdict n (mark c) a b here, pair-verdict n (dominates f) a b (first-without-agree n (mark c) (dominates f) (closed-agree f c few closed) a b here))
+order-verdict-is f t ge few p agree =
+    rw (loop-circle (over f) few p, pair-verdict n ge a b here, pair-verdict n (dominates f) a b (first-without-agree n ge (dominates f) agree a b here))
   where
     n : ℕ
     n = labels f
 
     a : ℕ
-    a = lowestWithoutBound n (mark c)
+    a = lowestWithoutBound n ge
 
     b : ℕ
-    b = cond (ltb 0 a) (partnerWithoutBound n (mark c) a) 0
+    b = cond (ltb 0 a) (partnerWithoutBound n ge a) 0
 
-    here : FirstWithoutBound n (mark c) a b
+    here : FirstWithoutBound n ge a b
     here = record { lower = refl; higher = refl }

@@ -32,10 +32,10 @@ use Rattle.policy.specs.Tables.{rLevelsAt, wLevelsAt, seniorsAt, readers
 use Rattle.policy.specs.inner.Filling.{DominanceRows}
 use Rattle.policy.specs.inner.Filling.{lineGrants, grantedByLines, brings, gathered, Bytes, GrantedRows}
 use Rattle.policy.specs.Image.{Labelled, Seniors, Permitting, Allows}
-use Rattle.policy.specs.inner.Stages.{Ready, Zeros, Closed, Granting}
+use Rattle.policy.specs.inner.Stages.{Ready, Zeros, Closed, Turned, Granting}
 use Rattle.policy.proofs.Readying.{good-of, counts-of, p-lines, one-within, limits-p}
 use Rattle.policy.proofs.Inside.{Between, closure-between, above-between}
-use Rattle.policy.proofs.Dominance.{closed-agree}
+use Rattle.policy.proofs.Dominance.{closed-agree, turned-agree}
 use Rattle.policy.proofs.Builds.{seniors-stay, permitting-stays, labelled-stays}
 use Rattle.policy.proofs.Gathering.{level-empty, level-agree}
 use Rattle.policy.proofs.Relating.{unites-zeros}
@@ -140,10 +140,9 @@ module _ (f : List ℕ) (counts : GoodCounts (header f)) (between : Between (rol
 -- ---- the whole stage, from x₀: the table of dominance, the lines' permissions, the levels of reading and those of writing
 
 module _ (f : List ℕ) (q : Parts) (h : Line) (t up : List (List Bool)) (x₀ x₁ x₂ x₃ x₄ reading writing : List ℕ) (ready : Ready f q h)
-    (labelled : Labelled (settings f) x₀) (seniors : Seniors (settings f) x₀) (closed : Closed f t) (no-level : Zeros 1808 2064 x₀) (no-role : Zeros 12304 28688 x₀)
+    (labelled : Labelled (settings f) x₀) (seniors : Seniors (settings f) x₀) (closed : Closed f t) (turned : Turned t up) (no-level : Zeros 1808 2064 x₀) (no-role : Zeros 12304 28688 x₀)
     (put : DominanceRows 32 t x₀ x₁)
     (grants : GrantedRows (grantedByLines x₁ (part f (q .p .start)) (q .p .count)) x₁ x₂)
-    (turns : Agree 32 32 (mark up) (converse (mark t)))
     (reads : Agree 32 128 (related reading 0) (gathered x₂ readersAt (h .d)))
     (read-levels : Bytes rLevelsAt (h .b) (λ r. levelNumber (level (h .a) (converse (mark up)) (λ l. member reading (rowOf 0 l) r))) x₂ x₃)
     (writes : Agree 32 128 (related writing 0) (gathered x₃ writersAt (h .d)))
@@ -184,14 +183,11 @@ module _ (f : List ℕ) (q : Parts) (h : Line) (t up : List (List Bool)) (x₀ x
   zeros₂ : Zeros 1808 2064 x₂
   zeros₂ i l m = grants .rest i (λ n. omega arith) ∙ kept i (λ n. omega arith) ∙ no-level i l m
 
-  -- the order of the upper bounds
-  upward : Agree (labels f) (labels f) (converse (mark up)) (dominates f)
-  upward a b v w = turns b a (omega (arith, counts .labels)) (omega (arith, counts .labels)) ∙ closed-agree f t (counts .labels .1) closed a b v w
-
   read₃ : (r : ℕ) → Among 128 r → byteOf x₃ rLevelsAt r ≡ levelNumber (rLevel (settings f) r)
   unfolding rLevel
   read₃ =
-      levels-are f counts between 1 rLevelsAt (converse (mark up)) (dominates f) reading x₂ x₃ upward
+      levels-are f counts between 1 rLevelsAt (converse (mark up)) (dominates f) reading x₂ x₃
+      (turned-agree f t up (counts .labels .1) closed turned)
       (λ l r v w. rw (ready .head) at reads l r v w ∙ may-at-is f x₂ (counts .cards) labelled₂ 1 readersAt (permitting₂ .readers) l r w)
       (rw (ready .head) at read-levels)
       (λ i l m. zeros₂ i (omega arith) (omega arith))

@@ -1,22 +1,23 @@
--- A level as a property: free where the set is empty, its least upper bound where it has one, and else undefined; and which levels pass.
+-- A level as a property: free where the set is empty, its least upper bound where it has one, and else undefined; which levels pass, and which labels serve an assignment.
 -- Assumes nothing.
 use Prim.Native.Nat.{ℕ, zero, suc, _≤_}
 use mathlib.Core.Path.{_≡_, refl}
-use mathlib.Core.Logic.{_↔_, inl, inr, ⊎-elim}
+use mathlib.Core.Logic.{_↔_, Iff·trans, inl, inr, ⊎-elim}
 use mathlib.Core.Bool.{Bool, true, false, cond, false≢true, true≢false}
 use native.Mathlib.Omega.{arith}
-use Rattle.search.specs.Search.{some}
-use Rattle.search.proofs.Truth.{other-iff}
+use Rattle.search.specs.Search.{some, Among}
+use Rattle.search.proofs.Truth.{and-both, other-iff}
 use Rattle.search.proofs.Found.{some-iff}
 use Rattle.order.specs.Closure.{Relation, PartialOrder}
 use Rattle.order.specs.Bound.{lub, converse, IsLub}
 use Rattle.order.proofs.Bound.{lub-none, lub-is, lub-iff}
 use Rattle.policy.specs.Policy.{Level, Free, Label, Undefined}
-use Rattle.policy.specs.Settings.{Settings}
+use Rattle.policy.specs.Settings.{Inside, Settings}
 use Rattle.policy.specs.Policy.{mayAt, levelAt, level, rLevel, wLevel, passes, isDefined}
-use Rattle.policy.specs.Accepted.{Some, UndefinedLevel, Passing, ReadsUnder, WritesOver}
+use Rattle.policy.specs.Verdict.{serves}
+use Rattle.policy.specs.Accepted.{Some, UndefinedLevel, Passing, ReadsUnder, WritesOver, Serves, WithinLevels}
 
-converse-order : {n : ℕ} {ge : Relation} → PartialOrder n ge → PartialOrder n (converse ge)
+pub converse-order : {n : ℕ} {ge : Relation} → PartialOrder n ge → PartialOrder n (converse ge)
 converse-order o = record {
   reflexive = o .reflexive;
   transitive = λ a b c u v w p q. o .transitive c b a w v u q p;
@@ -95,3 +96,21 @@ module _ (σ : Settings) (o : PartialOrder (σ .labels) (σ .dominates)) (l r : 
   pub writes-over-iff : (passes (λ a. σ .dominates a l) (wLevel σ r) ≡ true) ↔ WritesOver σ l r
   unfolding wLevel
   writes-over-iff = passes-iff (σ .labels) (converse (σ .dominates)) (mayAt σ 2 r) (converse-order o) (λ a. σ .dominates a l)
+
+-- the labels that serve an assignment
+module _ (σ : Settings) (o : PartialOrder (σ .labels) (σ .dominates)) (u r : ℕ) where
+  serves-iff : (y : ℕ) → (serves σ u r y ≡ true) ↔ ((σ .dominates (σ .clearance u) y ≡ true) × (ReadsUnder σ y r × WritesOver σ y r))
+  serves-iff y = and-both (λ e. e, λ e. e) (and-both (reads-under-iff σ o y r) (writes-over-iff σ o y r))
+
+  pub within-iff : (some (σ .labels) (serves σ u r) ≡ true) ↔ WithinLevels σ u r
+  within-iff = Iff·trans (some-iff (serves σ u r) (σ .labels)) (
+    λ (y, w, e). let (c, (p, q)) = serves-iff y .0 e in (y, record { label = w; cleared = c; reads = p; writes = q }),
+    λ (y, s). (y, s .label, serves-iff y .1 (s .cleared, (s .reads, s .writes))),
+  )
+
+  -- where one does, the clearance dominates the r-level
+  pub clearance-reads : Inside (σ .labels) (σ .dominates) → WithinLevels σ u r → ReadsUnder σ (σ .clearance u) r
+  clearance-reads inside (y, s) = ⊎-elim inl (λ (c, b, e). inr (c, b, o .transitive (σ .clearance u) y c known (s .label) (b .inside) (s .cleared) e)) (s .reads)
+    where
+      known : Among (σ .labels) (σ .clearance u)
+      known = ⊎-elim (λ i. rw i (s .label)) (λ (v, w). v) (inside (σ .clearance u) y (s .cleared))

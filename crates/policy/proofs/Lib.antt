@@ -1,5 +1,6 @@
 pub mod Levels
 pub mod Defined
+pub mod Juniors
 pub mod Checks
 pub mod Outcomes
 pub mod Relating

@@ -17,7 +17,7 @@ use Rattle.rolefile.proofs.Formed.{FormRefusal, form-decides}
 use Rattle.policy.specs.Settings.{dominates, senior, settings}
 use Rattle.policy.specs.Verdict.{circleVerdict, pairVerdict, orderVerdict, labelVerdict, roleVerdict, assignmentVerdict, policyVerdict, verdict}
 use Rattle.policy.specs.Accepted.{LabelOrder, RoleOrder, GoodAssignment, Accepted, AssignRefused, Outcome}
-use Rattle.policy.specs.Accepted.{noLevel, readsMore, writesLess}
+use Rattle.policy.specs.Accepted.{noLevel, readsMore, noLabel}
 use Rattle.policy.specs.Accepted.{accepted, badSize, badLine, badUser, badCard, labelCircle, noBound, roleCircle, badAssignment}
 use Rattle.policy.proofs.Said.{assignments-iff}
 use Rattle.policy.proofs.Checks.{CircleRefusal, PairRefusal, AssignmentRefusal}
@@ -44,7 +44,7 @@ verdict-decides f =
     then-decides (circle-decides (labels f) (over f) 10) (λ d.
     then-decides (pair-decides (labels f) (dominates f) (d .order)) (λ j.
     then-decides (circle-decides (roles f) (above f) 12) (λ s.
-    scan-decides (assignment-decides f (d .order)) (lines f)))))) (
+    scan-decides (assignment-decides f (w .good) (d .order)) (lines f)))))) (
       λ (w, (d, (j, (s, a)))). record {
         form = w;
         lawful = record { dominance = d .order; joins = j; seniority = s .order };
@@ -117,7 +117,7 @@ verdict-numbers f = of (outcome f)
     assignment : {u r n : ℕ} → AssignRefused (settings f) u r n → FileNumber n
     assignment (noLevel b) = inr (omega arith)
     assignment (readsMore d h) = inr (omega arith)
-    assignment (writesLess d p h) = inr (omega arith)
+    assignment (noLabel d p h) = inr (omega arith)
 
     of : {v : Verdict} → Outcome f v → FileNumber (v .number)
     of (accepted a) = inl (omega arith)

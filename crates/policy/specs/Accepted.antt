@@ -42,11 +42,16 @@ WritesOver σ l r = Passing (σ .labels) (converse (σ .dominates)) (mayAt σ 2 
 abbrev pub NoWriteLevel : Settings → ℕ → Type 0
 NoWriteLevel σ r = UndefinedLevel (σ .labels) (converse (σ .dominates)) (mayAt σ 2 r)
 
--- 003, Theorem 3, for an A line: "the w-level must not be undefined, the clearance must dominate the r-level, and the w-level must dominate the
--- clearance"; an undefined level does not pass
-pub record WithinLevels (σ : Settings) (u r : ℕ) : Type 0 where
-  pub reads : ReadsUnder σ (σ .clearance u) r
-  pub writes : WritesOver σ (σ .clearance u) r
+-- label y is "dominated by the clearance" of user u and "lies at or above the r-level and at or below the w-level" of role r, "free levels passing"
+pub record Serves (σ : Settings) (u r y : ℕ) : Type 0 where
+  pub label : Among (σ .labels) y
+  pub cleared : σ .dominates (σ .clearance u) y ≡ true
+  pub reads : ReadsUnder σ y r
+  pub writes : WritesOver σ y r
+
+-- document 02, change 1, for an A line: some label serves
+abbrev pub WithinLevels : Settings → ℕ → ℕ → Type 0
+WithinLevels σ u r = (y : ℕ) × Serves σ u r y
 
 -- ---- what acceptance asks of settings and of assignments
 
@@ -56,7 +61,7 @@ pub record Lawful (σ : Settings) : Type 0 where
   pub joins : AllJoined (σ .labels) (σ .dominates)
   pub seniority : PartialOrder (σ .roles) (σ .senior)
 
--- each assignment is as Theorem 3 asks
+-- each assignment has a label that serves
 abbrev pub AllWithinLevels : Settings → Relation → Type 0
 AllWithinLevels σ α = (u r : ℕ) → α u r ≡ true → WithinLevels σ u r
 
@@ -89,7 +94,7 @@ pub record Ordered (f : List ℕ) : Type 0 where
   pub dominance : LabelOrder f
   pub joins : AllJoined (labels f) (dominates f)
 
--- line i, where it is an A line, is as Theorem 3 asks
+-- line i, where it is an A line, has a label that serves
 abbrev pub GoodAssignment : List ℕ → ℕ → Type 0
 GoodAssignment f i = lineAt f i .letter ≡ A → WithinLevels (settings f) (lineAt f i .a) (lineAt f i .b)
 
@@ -101,7 +106,7 @@ LowestOnCircle n e = LowestOf n (OnCircle n e) (λ a. OnCircle n e a → ⊥)
 pub data AssignRefused (σ : Settings) (u r : ℕ) : ℕ → Type 0 where
   noLevel : NoWriteLevel σ r → AssignRefused σ u r 14
   readsMore : (NoWriteLevel σ r → ⊥) → (ReadsUnder σ (σ .clearance u) r → ⊥) → AssignRefused σ u r 15
-  writesLess : (NoWriteLevel σ r → ⊥) → ReadsUnder σ (σ .clearance u) r → (WritesOver σ (σ .clearance u) r → ⊥) → AssignRefused σ u r 16
+  noLabel : (NoWriteLevel σ r → ⊥) → ReadsUnder σ (σ .clearance u) r → (WithinLevels σ u r → ⊥) → AssignRefused σ u r 16
 
 pub data Outcome (f : List ℕ) : Verdict → Type 0 where
   accepted : Accepted f → Outcome f fine

@@ -1,8 +1,9 @@
 -- "The security officer, by what the file says": the numbers 11 to 16, and the verdict on a whole file. Assumes nothing.
 use Prim.Native.Nat.{ℕ}
 use mathlib.Core.List.{List}
-use mathlib.Core.Bool.{cond}
+use mathlib.Core.Bool.{Bool, _&&_, cond}
 use lib.Dec.{eqb}
+use Rattle.search.specs.Search.{some}
 use Rattle.order.specs.Closure.{Relation, path, loop}
 use Rattle.order.specs.Bound.{lowestWithoutBound, partnerWithoutBound}
 use Rattle.rolefile.specs.declared.Verdict.{Verdict}
@@ -30,12 +31,16 @@ labelVerdict f = orderVerdict (labels f) (path (labels f) (over f)) (dominates f
 unfoldable pub roleVerdict : List ℕ → Verdict
 roleVerdict f = circleVerdict 13 (roles f) (path (roles f) (above f))
 
--- 14 to 16, of the assignment of user u to role r: "the w-level must not be undefined, the clearance must dominate the r-level, and the w-level must dominate the clearance"
+-- label y is "dominated by the clearance" of user u and "lies at or above the r-level and at or below the w-level" of role r, "free levels passing" (document 02, change 1)
+abbrev pub serves : Settings → ℕ → ℕ → ℕ → Bool
+serves σ u r y = σ .dominates (σ .clearance u) y && (passes (λ l. σ .dominates y l) (rLevel σ r) && passes (λ l. σ .dominates l y) (wLevel σ r))
+
+-- 14 to 16, of the assignment of user u to role r: "the w-level must not be undefined, the clearance must dominate the r-level", and some label must serve
 unfoldable pub assignVerdict : Settings → ℕ → ℕ → Verdict
 assignVerdict σ u r =
     unless (isDefined (wLevel σ r)) (refusal 14 u r)
     (unless (passes (λ l. σ .dominates (σ .clearance u) l) (rLevel σ r)) (refusal 15 u r)
-    (unless (passes (λ l. σ .dominates l (σ .clearance u)) (wLevel σ r)) (refusal 16 u r) fine))
+    (unless (some (σ .labels) (serves σ u r)) (refusal 16 u r) fine))
 
 -- of line i, where it is an assignment
 unfoldable pub assignmentVerdict : List ℕ → ℕ → Verdict

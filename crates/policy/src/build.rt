@@ -14,6 +14,7 @@ ghost use mathlib.Core.Path.{_≡_};
 ghost use Prim.Native.Nat.{_+_, _*_, _≤_, _<_, min};
 ghost use lib.ListN.{length};
 ghost use Rattle.roleset.specs.Row.{Kept};
+ghost use Rattle.order.specs.Bound.{converse};
 ghost use Rattle.order.specs.Table.{mark};
 ghost use Rattle.rolefile.specs.Line.{lines, part};
 ghost use Rattle.rolefile.specs.Form.{scan};
@@ -23,7 +24,7 @@ ghost use Rattle.policy.specs.Tables.{clearancesAt, rLevelsAt, seniorsAt
 ghost use Rattle.policy.specs.Settings.{settings};
 ghost use Rattle.policy.specs.Image.{Labelled, Seniors, Levelled, Dominating};
 ghost use Rattle.policy.specs.Verdict.{orderVerdict, assignmentVerdict};
-ghost use Rattle.policy.specs.inner.Stages.{Laid, Ready, Zeros, Noting, Paths, Closed, Ranking, Granting, Counting, Finishing, Built, Copied};
+ghost use Rattle.policy.specs.inner.Stages.{Laid, Ready, Zeros, Noting, Paths, Closed, Turned, Ranking, Granting, Counting, Finishing, Built, Copied};
 
 // The lines of one letter: how many stand before them, and how many they are.
 pub struct Part {
@@ -95,15 +96,15 @@ fn dominance(f: &[u8], q: Parts, h: Line) -> Table
     order::marks::paths(table, h.a as usize)
 }
 
-// 11 and 12, by the paths and the closed table.
-fn check_labels(paths: Table, closed: Table, n: usize) -> Verdict
-    ensures { λ v. ⌜ v ≡ orderVerdict (min n 32) (mark paths) (mark closed) ⌝ }
+// 11 and 12, by the paths and by the closed table turned round.
+fn check_labels(paths: Table, up: Table, n: usize) -> Verdict
+    ensures { λ v. ⌜ v ≡ orderVerdict (min n 32) (mark paths) (converse (mark up)) ⌝ }
 {
     let a = order::marks::lowest_loop(paths, n);
     if a != 0 {
         return check::refused(11, a as u64, 0);
     }
-    let pair = order::bounds::first_pair(closed, n);
+    let pair = order::bounds::first_pair(up, n);
     if pair.lower != 0 {
         return check::refused(12, pair.lower as u64, pair.higher as u64);
     }
@@ -129,33 +130,32 @@ fn rank_roles(f: &[u8], s: &mut [u8], q: Parts, h: Line) -> Verdict
 }
 
 // Dominance, readers, writers and levels, put into the state.
-fn grant_all(f: &[u8], s: &mut [u8], q: Parts, h: Line, t: Table)
-    requires { ⌜ Ready (now f) q h × (stateSize ≤ length (now s)) × Labelled (settings (now f)) (now s) × Seniors (settings (now f)) (now s) × Closed (now f) t × Zeros rLevelsAt seniorsAt (now s) × Zeros readersAt (writersAt + 16 * 512) (now s) ⌝ }
+fn grant_all(f: &[u8], s: &mut [u8], q: Parts, h: Line, down: &Table, up: &Table)
+    requires { ⌜ Ready (now f) q h × (stateSize ≤ length (now s)) × Labelled (settings (now f)) (now s) × Seniors (settings (now f)) (now s) × Closed (now f) (now down) × Turned (now down) (now up) × Zeros rLevelsAt seniorsAt (now s) × Zeros readersAt (writersAt + 16 * 512) (now s) ⌝ }
     ensures { λ _. ⌜ Granting (now (f .entry)) (now (s .entry)) (now (s .exit)) ⌝ }
 {
     let p = q.p;
     let lines = read::part(f, p.start);
-    marks::put_table(s, t);
+    marks::put_table(s, *down);
     rows::grant_lines(s, lines, p.count);
     let n = h.a as usize;
     let roles = h.b as usize;
     let cards = h.d as usize;
     let all = order::bounds::first_things(n);
-    let up = order::bounds::converse(t);
     let read_at = gather::gather(s, layout::READERS_AT, cards);
-    gather::put_levels(s, layout::R_LEVELS_AT, read_at, &up, n, &all, roles);
+    gather::put_levels(s, layout::R_LEVELS_AT, read_at, up, n, &all, roles);
     let written_at = gather::gather(s, layout::WRITERS_AT, cards);
-    gather::put_levels(s, layout::W_LEVELS_AT, written_at, &t, n, &all, roles);
+    gather::put_levels(s, layout::W_LEVELS_AT, written_at, down, n, &all, roles);
 }
 
-// 14 to 16, by the tables in the state.
-fn check_assignments(f: &[u8], s: &[u8], q: Parts, h: Line) -> Verdict
-    requires { ⌜ Ready (now f) q h × (stateSize ≤ length (now s)) × Labelled (settings (now f)) (now s) × Dominating (settings (now f)) (now s) × Levelled (settings (now f)) (now s) ⌝ }
+// 14 to 16, by the tables in the state and those of dominance.
+fn check_assignments(f: &[u8], s: &[u8], q: Parts, h: Line, down: &Table, up: &Table) -> Verdict
+    requires { ⌜ Ready (now f) q h × (stateSize ≤ length (now s)) × Labelled (settings (now f)) (now s) × Dominating (settings (now f)) (now s) × Levelled (settings (now f)) (now s) × Closed (now f) (now down) × Turned (now down) (now up) ⌝ }
     ensures { λ v. ⌜ v ≡ scan (lines (now (f .entry))) (assignmentVerdict (now (f .entry))) ⌝ }
 {
     let a = q.a;
     let p = read::part(f, a.start);
-    assign::assign_lines(s, p, a.count)
+    assign::assign_lines(s, down, up, p, a.count)
 }
 
 // The lower and the upper byte of a count at `at`.
@@ -207,8 +207,9 @@ pub fn build(f: &[u8], s: &mut [u8]) -> Verdict
     }
     let paths = dominance(f, q, h);
     let n = h.a as usize;
-    let closed = order::marks::reflected(paths, n);
-    let v = check_labels(paths, closed, n);
+    let down = order::marks::reflected(paths, n);
+    let up = order::bounds::converse(down);
+    let v = check_labels(paths, up, n);
     if v.number != 0 {
         return v;
     }
@@ -216,8 +217,8 @@ pub fn build(f: &[u8], s: &mut [u8]) -> Verdict
     if v.number != 0 {
         return v;
     }
-    grant_all(f, s, q, h, closed);
-    let v = check_assignments(f, s, q, h);
+    grant_all(f, s, q, h, &down, &up);
+    let v = check_assignments(f, s, q, h, &down, &up);
     if v.number != 0 {
         return v;
     }

@@ -230,6 +230,18 @@ module _ (m n : ℕ) (l : m ≤ n) where
       go zero none = λ a w. elim (decLt m a) [ yes k ↦ high a w k | no k ↦ let v : Among m a = omega arith in low a v ∙ none a v ]
       go (suc a) f = lowest-as l (λ b u e. low b u ∙ e) (λ b u e. low b u ∙ e) f
 
+  pub some-cut : (p q : ℕ → Bool) → ((a : ℕ) → Among n a → q a ≡ (leb a m && p a)) → some n q ≡ some m p
+  some-cut p q h =
+      same (some n q) (some m p)
+      (λ e.
+      let (a, w, x) = some-iff q n .0 e in
+      let (i, y) = and-iff (leb a m) (p a) .0 (sym (h a w) ∙ x) in
+      let b = leb-true a m i in
+      some-iff p m .1 (a, omega arith, y))
+      (λ e.
+      let (a, w, x) = some-iff p m .0 e in
+      some-iff q n .1 (a, omega arith, h a (omega arith) ∙ and-iff (leb a m) (p a) .1 (le-leb a m (w .1), x)))
+
   pub every-cut : (s t p : ℕ → Bool) → ((a : ℕ) → Among n a → t a ≡ (leb a m && s a))
       → every n (λ a. implies (t a) (p a)) ≡ every m (λ a. implies (s a) (p a))
   every-cut s t p h =

@@ -99,13 +99,25 @@ pastCard t xs o r q = related t 0 r q || flowsByCard xs r q o
 abbrev pub withoutLoops : List ℕ → Relation
 withoutLoops t r q = related t 0 r q && not (eqb q r)
 
--- ---- 14 to 16 by the tables
+-- ---- 14 to 16 by the tables of a state and by two tables of marks: down has the labels under each label, up those over it
 
-unfoldable pub assignByTables : List ℕ → ℕ → ℕ → Verdict
-assignByTables xs u r =
+-- y is in the row of label a; what is no label has an empty row
+abbrev pub inRow : List (List Bool) → ℕ → ℕ → Bool
+inRow t a y = among 32 a && mark t a y
+
+-- y is in the row of a level, which is every label's where the level is 0, free
+abbrev pub levelRow : List (List Bool) → ℕ → ℕ → Bool
+levelRow t level y = eqb level 0 || inRow t level y
+
+-- some label is under the clearance, over the r-level and under the w-level
+unfoldable pub someServes : List (List Bool) → List (List Bool) → ℕ → ℕ → ℕ → Bool
+someServes down up clearance reads writes = some 32 (λ y. inRow down clearance y && (levelRow up reads y && levelRow down writes y))
+
+unfoldable pub assignByTables : List ℕ → List (List Bool) → List (List Bool) → ℕ → ℕ → Verdict
+assignByTables xs down up u r =
     let c = byteOf xs clearancesAt u in
     let reads = byteOf xs rLevelsAt r in
     let writes = byteOf xs wLevelsAt r in
     unless (not (eqb writes 99)) (refusal 14 u r)
     (unless (passesIn xs reads c reads) (refusal 15 u r)
-    (unless (passesIn xs writes writes c) (refusal 16 u r) fine))
+    (unless (someServes down up c reads writes) (refusal 16 u r) fine))

@@ -7,6 +7,7 @@ use lib.Dec.{leb}
 use lib.ListN.{getD}
 use Rattle.roleset.specs.Row.{Kept}
 use Rattle.order.specs.Closure.{Relation, Agree, path}
+use Rattle.order.specs.Bound.{converse}
 use Rattle.order.specs.Table.{mark, Rows}
 use Rattle.rolefile.specs.declared.Line.{Line}
 use Rattle.rolefile.specs.declared.Verdict.{Verdict}
@@ -61,6 +62,10 @@ Paths f t = PathRows 32 (labels f) (over f) (mark t)
 
 abbrev pub Closed : List ℕ → List (List Bool) → Type 0
 Closed f t = Agree 32 32 (mark t) (λ a b. leb a (labels f) && dominates f a b)
+
+-- up is the order of down turned round
+abbrev pub Turned : List (List Bool) → List (List Bool) → Type 0
+Turned down up = Agree 32 32 (mark up) (converse (mark down))
 
 -- 13
 pub record Ranking (f : List ℕ) (v : Verdict) (xs ys : List ℕ) : Type 0 where

@@ -1,4 +1,4 @@
--- A search for the first thing with a partner, in the order that was turned round, which is the same order.
+-- A search for the first thing with a partner.
 use Prim.Native.Nat.{ℕ, _≤_, _-_, min}
 use mathlib.Core.Path.{_≡_}
 use mathlib.Core.Bool.{Bool}
@@ -14,24 +14,15 @@ use Rattle.order.proofs.bounds.first_pair.Statement.{statement}
 use Rattle.order.proofs.bounds.first_pair.Tie as tie
 
 abbrev Inv-loop : tie.InvT-loop
-Inv-loop n m up i₀ i = (m ≤ 32) × (i ≤ m) × NoneWithout m (converse (mark up)) i
+Inv-loop n up m i₀ i = (m ≤ 32) × (i ≤ m) × NoneWithout m (converse (mark up)) i
 
 abbrev μ-loop : tie.MeasureT-loop
-μ-loop n m up i₀ i = m - i
-
--- what is found in the order turned twice is so in the order
-settled : (m n a b : ℕ) (t up : List (List Bool)) → m ≡ min n 32
-    → Agree 32 32 (mark up) (converse (mark t))
-    → FirstWithoutBound m (converse (mark up)) a b → FirstWithoutBound (min n 32) (mark t) a b
-settled m n a b t up e same h =
-    rw (← e) (first-without-agree m (converse (mark up)) (mark t) (λ x y v w. same y x (omega arith) (omega arith)) a b h)
+μ-loop n up m i₀ i = m - i
 
 returns : tie.Need-returns Inv-loop μ-loop
 returns c =
-    let turn = c .before .before .before .before .before in
-    let a = turn .before .before .args in
     let w = c .before .before .before .before .loop in
-    settled _ (a .n) _ _ (a .t) (turn .converse .result) (turn .before .lesser .ensures) (turn .converse .ensures)
+    rw (← (c .before .before .before .before .before .lesser .ensures))
     (without-found _ _ (w .i) _ (search needs) (w .inv .2) (c .before .partner .ensures) (c .if1 .taken))
 
 loop-again : tie.Need-loop-again Inv-loop μ-loop
@@ -41,11 +32,10 @@ loop-again c =
 
 returns-2 : tie.Need-returns-2 Inv-loop μ-loop
 returns-2 c =
-    let turn = c .before .before in
-    let a = turn .before .before .args in
+    let m = c .before .before .lesser in
     let w = c .before .loop in
-    let q : w .i ≡ turn .before .lesser .result = omega arith in
-    settled _ (a .n) _ _ (a .t) (turn .converse .result) (turn .before .lesser .ensures) (turn .converse .ensures) (none-without _ _ (rw q at (w .inv .2)))
+    let q : w .i ≡ m .result = omega arith in
+    rw (← (m .ensures)) (none-without _ _ (rw q at (w .inv .2)))
 
 pub first-pair-spec : {M : Type 1} → statement M
 first-pair-spec =
@@ -53,7 +43,6 @@ first-pair-spec =
     (tie.spec
     Inv-loop
     μ-loop
-    (λ c κs. search needs)
     (λ c κs. search needs)
     (λ c. (search needs, search needs, first-yet _))
     (λ c κs. search needs)

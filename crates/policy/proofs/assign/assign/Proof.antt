@@ -7,18 +7,19 @@ use borrow.Author.Tests.{eq-eqb, ne-eqb}
 use denote.Ref.{now}
 use Rattle.search.proofs.Truth.{passed, failed}
 use Rattle.policy.specs.Tables.{byteOf, passesIn, clearancesAt, rLevelsAt, wLevelsAt}
-use Rattle.policy.specs.inner.Filling.{assignByTables}
+use Rattle.policy.specs.inner.Filling.{someServes, assignByTables}
 use Rattle.policy.proofs.assign.assign.Statement.{statement}
 use Rattle.policy.proofs.assign.assign.Tie as tie
 
--- what the two tests of levels find
+-- what the tests of 15 and 16 find
 reading : (c : tie.After-passes) → let a = c .before .before .before .before .before .before .args in let reads = byteOf (now (a .s)) rLevelsAt (a .r) in
     c .passes .result ≡ passesIn (now (a .s)) reads (byteOf (now (a .s)) clearancesAt (a .u)) reads
 reading c = c .passes .ensures
 
-writing : (c : tie.After-passes2) → let a = c .before .before .before .before .before .before .before .before .args in let writes = byteOf (now (a .s)) wLevelsAt (a .r) in
-    c .passes2 .result ≡ passesIn (now (a .s)) writes writes (byteOf (now (a .s)) clearancesAt (a .u))
-writing c = c .passes2 .ensures
+serving : (c : tie.After-some-serves) → let a = c .before .before .before .before .before .before .before .before .args in
+    c .some-serves .result
+    ≡ someServes (now (a .down)) (now (a .up)) (byteOf (now (a .s)) clearancesAt (a .u)) (byteOf (now (a .s)) rLevelsAt (a .r)) (byteOf (now (a .s)) wLevelsAt (a .r))
+serving c = c .some-serves .ensures
 
 returns : tie.Need-returns
 unfolding assignByTables
@@ -38,7 +39,7 @@ returns-3 c =
     rw (
       ne-eqb _ _ (d .before .if1 .left),
       passed (reading d) (e .before .if2 .left),
-      failed (writing e) (c .before .if3 .taken),
+      failed (serving e) (c .before .if3 .taken),
     ) (c .refused3 .ensures)
 
 returns-4 : tie.Need-returns-4
@@ -49,7 +50,7 @@ returns-4 c =
     rw (
       ne-eqb _ _ (d .before .if1 .left),
       passed (reading d) (e .before .if2 .left),
-      passed (writing e) (c .before .if3 .left),
+      passed (serving e) (c .before .if3 .left),
     ) (c .nothing .ensures)
 
 pub assign-spec : {M : Type 1} → statement M

@@ -6,6 +6,8 @@ use native.Mathlib.Omega.{arith}
 use borrow.Author.Needs.{needs}
 use denote.Ref.{now}
 use lib.ListN.{length}
+use Rattle.order.specs.Bound.{converse}
+use Rattle.order.specs.Table.{mark}
 use Rattle.rolefile.specs.Line.{lines}
 use Rattle.rolefile.specs.Form.{linesVerdict, unlabelledVerdict}
 use Rattle.rolefile.specs.Said.{labels}
@@ -14,7 +16,7 @@ use Rattle.policy.proofs.Checks.{assignment-clean}
 use Rattle.policy.specs.Verdict.{labelVerdict, roleVerdict, assignmentVerdict, verdict}
 use Rattle.policy.specs.inner.Stages.{Ready, Closed}
 use Rattle.policy.proofs.Readying.{counts-of, head-labels}
-use Rattle.policy.proofs.Dominance.{closed-of, order-verdict-is}
+use Rattle.policy.proofs.Dominance.{closed-of, turned-agree, order-verdict-is}
 use Rattle.policy.proofs.Builds.{refused-lines, refused-labels, refused-order, refused-roles, the-last, built-refused}
 use Rattle.policy.proofs.Builds.{Ranked, ranked-of, level-zeros, row-zeros, third-labelled, third-zeros, image}
 use Rattle.policy.proofs.build.build.Statement.{statement}
@@ -32,7 +34,7 @@ abbrev laid : tie.After-note-labels → tie.After-lay-out
 laid c = c .before .before
 
 abbrev noted : tie.After-check-labels → tie.After-note-labels
-noted c = c .before .before .before .before .before .before .before
+noted c = c .before .before .before .before .before .before .before .before
 
 abbrev ordered : tie.After-rank-roles → tie.After-check-labels
 ordered c = c .before .before .before .before
@@ -41,7 +43,10 @@ abbrev ranked : tie.Else4 → tie.After-rank-roles
 ranked c = c .before .before .before .before
 
 abbrev granted : tie.After-check-assignments → tie.After-grant-all
-granted c = c .before .before .before .before
+granted c = c .before .before .before .before .before .before
+
+abbrev passed : tie.After-grant-all → tie.Else4
+passed c = c .before .before .before .before
 
 -- ---- the stages passed so far
 
@@ -52,23 +57,25 @@ ready : (c : tie.After-lay-out) → Ready (file c) (c .lay-out .result) (c .befo
 ready c = record { lines = lines-pass c; laid = c .lay-out .ensures; head = c .before .first-line .ensures }
 
 labels-pass : (c : tie.After-check-labels) → unlabelledVerdict (file (laid (noted c))) .number ≡ 0
-labels-pass c = rw (noted c .note-labels .ensures .answer) at (c .before .before .before .if2 .left)
+labels-pass c = rw (noted c .note-labels .ensures .answer) at (c .before .before .before .before .if2 .left)
 
 count : (c : tie.After-lay-out) → min (c .before .first-line .result .a) 32 ≡ labels (file c)
 count c = head-labels _ _ _ (ready c)
 
-closed : (c : tie.After-check-labels) → Closed (file (laid (noted c))) (c .before .reflected .result)
+closed : (c : tie.After-check-labels) → Closed (file (laid (noted c))) (c .before .before .reflected .result)
 closed c =
-    let paths = c .before .before .dominance in
-    closed-of _ (paths .result) (c .before .reflected .result) (paths .ensures) (rw (count (laid (noted c))) at (c .before .reflected .ensures))
+    let down = c .before .before in
+    let paths = down .before .dominance in
+    closed-of _ (paths .result) (down .reflected .result) (paths .ensures) (rw (count (laid (noted c))) at (down .reflected .ensures))
 
 -- the order's verdict is the file's
 order-is : (c : tie.After-check-labels) → c .check-labels .result ≡ labelVerdict (file (laid (noted c)))
 order-is c =
-    let paths = c .before .before .dominance in
+    let paths = c .before .before .before .dominance in
     let few = counts-of _ (lines-pass (laid (noted c))) .labels in
     c .check-labels .ensures
-    ∙ rw (count (laid (noted c))) (order-verdict-is _ (paths .result) (c .before .reflected .result) (few .1) (paths .ensures) (closed c))
+    ∙ rw (count (laid (noted c)))
+    (order-verdict-is _ (paths .result) (converse (mark (c .before .converse .result))) (few .1) (paths .ensures) (turned-agree _ (c .before .before .reflected .result) (c .before .converse .result) (few .1) (closed c) (c .before .converse .ensures)))
 
 order-pass : (c : tie.After-rank-roles) → labelVerdict (file (laid (noted (ordered c)))) .number ≡ 0
 order-pass c = rw (order-is (ordered c)) at (c .before .before .if3 .left)
@@ -90,11 +97,11 @@ module _ (c : tie.Else4) where
 
   stands : Ranked (file (laid labelling)) (ranked c .rank-roles .last .1 .0)
   stands =
-      ranked-of (entry .pre .1) (labelling .note-labels .ensures) (ordered (ranked c) .before .before .before .if2 .left)
+      ranked-of (entry .pre .1) (labelling .note-labels .ensures) (ordered (ranked c) .before .before .before .before .if2 .left)
       (ranked c .rank-roles .ensures) (c .if4 .left)
 
-granted-long : (c : tie.After-grant-all) → length (c .grant-all .last .1 .0) ≡ length (now (entry (c .before .before) .args .s))
-granted-long c = c .grant-all .kept .1 .0 ∙ ranked-long (c .before .before)
+granted-long : (c : tie.After-grant-all) → length (c .grant-all .last .1 .0) ≡ length (now (entry (passed c) .args .s))
+granted-long c = c .grant-all .kept .1 .0 ∙ ranked-long (passed c)
 
 -- ---- what each stage needs
 
@@ -113,22 +120,22 @@ rank-roles-requires c κs =
 
 grant-all-requires : tie.Need-grant-all-requires
 grant-all-requires c κs =
-    let d = c .before in
+    let d = c .before .before .before in
     let long = ranked-long d ∙ entry d .pre .0 in
-    (ready (laid (labelling d)), omega arith, stands d .labelled, stands d .seniors, closed (ordered (ranked d)), level-zeros (stands d), row-zeros (stands d))
+    (ready (laid (labelling d)), omega arith, stands d .labelled, stands d .seniors, closed (ordered (ranked d)), ordered (ranked d) .before .converse .ensures, level-zeros (stands d), row-zeros (stands d))
 
 check-assignments-requires : tie.Need-check-assignments-requires
 check-assignments-requires c κs =
-    let g = c .before .before .before in
-    let d = g .before .before in
+    let g = c .before .before .before .before .before in
+    let d = passed g in
     let granting = g .grant-all .ensures in
     let long = granted-long g ∙ entry d .pre .0 in
-    (ready (laid (labelling d)), omega arith, third-labelled (stands d) granting, granting .dominating, granting .levelled)
+    (ready (laid (labelling d)), omega arith, third-labelled (stands d) granting, granting .dominating, granting .levelled, closed (ordered (ranked d)), ordered (ranked d) .before .converse .ensures)
 
 finish-requires : tie.Need-finish-requires
 finish-requires c κs =
     let g = granted (c .before .before .before) in
-    let d = g .before .before in
+    let d = passed g in
     let long = granted-long g ∙ entry d .pre .0 in
     (ready (laid (labelling d)), omega arith, third-zeros (stands d) (g .grant-all .ensures))
 
@@ -159,9 +166,9 @@ returns-4 c =
     built-refused _ _ _ (v ∙ refused-roles _ (lines-pass (laid (noted o))) (labels-pass o) (order-pass r) (λ z. c .if4 .taken (rw (← v) at z))) (c .if4 .taken)
 
 -- the last stage decides
-the-rest : (c : tie.After-check-assignments) → c .check-assignments .result ≡ verdict (file (laid (labelling (granted c .before .before))))
+the-rest : (c : tie.After-check-assignments) → c .check-assignments .result ≡ verdict (file (laid (labelling (passed (granted c)))))
 the-rest c =
-    let d = granted c .before .before in
+    let d = passed (granted c) in
     let o = ordered (ranked d) in
     c .check-assignments .ensures ∙ the-last _ (lines-pass (laid (noted o))) (labels-pass o) (order-pass (ranked d)) (roles-pass d)
 
@@ -173,7 +180,7 @@ returns-6 c =
     let e = c .before .before .before .before .before in
     let assigned = e .before .before in
     let g = granted assigned in
-    let d = g .before .before in
+    let d = passed g in
     let f = file (laid (labelling d)) in
     record {
       answer =
@@ -196,6 +203,7 @@ build-spec =
     (λ c. search needs)
     returns-2
     dominance-requires
+    (λ c κs. search needs)
     (λ c κs. search needs)
     (λ c κs. search needs)
     (λ c. search needs)
