@@ -43,6 +43,28 @@ fn replace(lines: &mut [(usize, usize)], old: (usize, usize), new: (usize, usize
         .expect("the file has the line") = new;
 }
 
+/// Role 128 writes a card that it read, far under its r-level, and is assigned to the last user alone.
+fn bar_the_last_assignment(file: &mut RoleFile) {
+    let line = file
+        .permissions
+        .iter_mut()
+        .find(|&&mut (role, _, mode)| role == 128 && mode == READ);
+    line.expect("role 128 reads").2 = WRITE;
+    for line in file.assignments.iter_mut().filter(|line| line.1 == 128) {
+        line.1 = 127;
+    }
+    *file.assignments.last_mut().expect("there are assignments") = (256, 128);
+}
+
+/// The largest file with every clearance above the w-levels of the roles that its user has.
+pub fn high_clearances() -> RoleFile {
+    let mut file = largest();
+    for line in &mut file.clearances {
+        line.1 = 30;
+    }
+    file
+}
+
 /// Edits of the largest file, each refused at the end of a stage of the load: what the stage does,
 /// and the number. A load's time up to one of them less the time up to the one before is the stage's.
 pub fn stages() -> Vec<(&'static str, u64, Vec<u8>)> {
@@ -77,7 +99,7 @@ pub fn stages() -> Vec<(&'static str, u64, Vec<u8>)> {
         (
             "grants, levels, assignments",
             16,
-            edited(&file, |f| replace(&mut f.clearances, (256, 29), (256, 30))),
+            edited(&file, bar_the_last_assignment),
         ),
     ]
 }

@@ -23,12 +23,14 @@ fn print_load(what: &str, [proved, plain, simple]: Three<Times>) {
 /// Checks for accepted files that the loads agree, times them and prints the rows.
 fn report_accepted(rounds: usize) {
     let (largest, smallest) = (write(&files::largest()), files::smallest());
+    let high = write(&files::high_clearances());
     let names = [
         "load of 2,900 lines",
+        "the same, clearances above the w-levels",
         "load of two-makers.role, 2,064 lines",
         "load of one line",
     ];
-    let files: [&[u8]; 3] = [&largest, TWO_MAKERS.as_bytes(), &smallest];
+    let files: [&[u8]; 4] = [&largest, &high, TWO_MAKERS.as_bytes(), &smallest];
     files.iter().for_each(|file| agree(file, 0));
     for (what, times) in names.iter().zip(measure(ALL, &files, rounds)) {
         print_load(what, times);

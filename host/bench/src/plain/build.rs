@@ -1,6 +1,7 @@
 //! A policy built from a file, check by check, in the order in which a load checks.
 
 use super::levels::{gather, put_levels};
+use super::order::Dominance;
 use super::read::{split_letter, Line, Part, LINE};
 use super::{check, order, roleset, tables};
 use super::{
@@ -40,18 +41,19 @@ fn note_labels(state: &mut [u8], n: &Counts, users: Part, cards: Part) -> Result
 }
 
 /// 11 and 12; dominance where there is nothing to refuse.
-fn closed_dominance(lines: Part, labels: usize) -> Result<order::Table, Verdict> {
-    let mut dominance = tables::dominance(lines);
-    order::close(&mut dominance, labels);
-    let label = order::lowest_loop(&dominance, labels);
+fn closed_dominance(lines: Part, labels: usize) -> Result<Dominance, Verdict> {
+    let mut down = tables::dominance(lines);
+    order::close(&mut down, labels);
+    let label = order::lowest_loop(&down, labels);
     if label != 0 {
         return Err(refused(11, label, 0));
     }
-    order::reflect(&mut dominance, labels);
-    if let Some((lower, higher)) = order::first_pair(&dominance, labels) {
+    order::reflect(&mut down, labels);
+    let up = order::turned(&down);
+    if let Some((lower, higher)) = order::first_pair(&up, labels) {
         return Err(refused(12, lower, higher));
     }
-    Ok(dominance)
+    Ok(Dominance { down, up })
 }
 
 /// 13, with the seniors of each role put into the state.
@@ -67,16 +69,15 @@ fn rank_roles(state: &mut [u8], lines: Part, roles: usize) -> Result<(), Verdict
 }
 
 /// Dominance, readers, writers and levels, put into the state.
-fn grant_all(state: &mut [u8], n: &Counts, dominance: &order::Table, lines: Part) {
-    tables::put_dominance(state, dominance);
+fn grant_all(state: &mut [u8], n: &Counts, dominance: &Dominance, lines: Part) {
+    tables::put_dominance(state, &dominance.down);
     tables::grant(state, lines);
     let readers = gather(state, READERS, n.cards);
-    let up = order::turned(dominance);
     let levels = &mut state[READ_LEVELS..READ_LEVELS + n.roles];
-    put_levels(levels, &readers, &up, n.labels);
+    put_levels(levels, &readers, &dominance.up, n.labels);
     let writers = gather(state, WRITERS, n.cards);
     let levels = &mut state[WRITE_LEVELS..WRITE_LEVELS + n.roles];
-    put_levels(levels, &writers, dominance, n.labels);
+    put_levels(levels, &writers, &dominance.down, n.labels);
 }
 
 /// The whole check of a file, into a state of zeros.
@@ -95,7 +96,7 @@ pub fn build(file: &[u8], state: &mut [u8]) -> Result<(), Verdict> {
     let dominance = closed_dominance(d, labels)?;
     rank_roles(state, s, roles)?;
     grant_all(state, &n, &dominance, p);
-    tables::judge_assignments(state.first_chunk().expect("a whole state"), a)?;
+    tables::judge_assignments(state.first_chunk().expect("a whole state"), &dominance, a)?;
     tables::note_assigned(state, ASSIGNED, a);
     put_counts(state, &head);
     Ok(())

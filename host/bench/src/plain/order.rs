@@ -3,6 +3,12 @@
 pub type Set = [bool; 32];
 pub type Table = [Set; 32];
 
+/// Dominance: the labels under each label, and those over it.
+pub struct Dominance {
+    pub down: Table,
+    pub up: Table,
+}
+
 /// Leaves the paths of one step or more among the first n labels.
 pub fn close(table: &mut Table, n: usize) {
     for k in 0..n {
@@ -52,6 +58,15 @@ fn narrow(set: &mut Set, other: &Set) {
     }
 }
 
+/// Whether some label is in all three sets.
+pub fn meet(first: &Set, second: &Set, third: &Set) -> bool {
+    first
+        .iter()
+        .zip(second)
+        .zip(third)
+        .fold(false, |found, ((&a, &b), &c)| found | (a & b & c))
+}
+
 /// Whether all of the set is in the other.
 fn within(set: &Set, other: &Set) -> bool {
     set.iter()
@@ -77,16 +92,15 @@ pub fn greatest_lower(table: &Table, n: usize, all: &Set, set: &Set) -> usize {
     greatest(table, &bounds)
 }
 
-/// The first pair among the first n labels that has no least upper bound.
-pub fn first_pair(table: &Table, n: usize) -> Option<(usize, usize)> {
-    let up = turned(table);
+/// The first pair among the first n labels that has no least upper bound, in the order that was turned round.
+pub fn first_pair(up: &Table, n: usize) -> Option<(usize, usize)> {
     for i in 0..n {
         let mut over = first_labels(n);
         narrow(&mut over, &up[i]);
         for j in i + 1..n {
             let mut bounds = over;
             narrow(&mut bounds, &up[j]);
-            if greatest(&up, &bounds) == 0 {
+            if greatest(up, &bounds) == 0 {
                 return Some((i + 1, j + 1));
             }
         }

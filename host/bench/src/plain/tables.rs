@@ -1,6 +1,6 @@
 //! The tables that the lines of each letter fill.
 
-use super::order::Table;
+use super::order::{meet, Dominance, Set, Table};
 use super::read::Part;
 use super::roleset::{add, row, row_mut, taken, unite};
 use super::state::{dominates, State};
@@ -66,8 +66,16 @@ pub fn grant(state: &mut [u8], part: Part) {
     }
 }
 
+/// The row of a level: every label where it is free, 0.
+fn level_row(table: &Table, level: u8) -> Set {
+    match level {
+        0 => [true; 32],
+        label => table[label as usize - 1],
+    }
+}
+
 /// 14 to 16: each assignment against the levels of its role.
-pub fn judge_assignments(state: &State, part: Part) -> Result<(), Verdict> {
+pub fn judge_assignments(state: &State, order: &Dominance, part: Part) -> Result<(), Verdict> {
     for (user, role, _) in part.numbers() {
         let clearance = state[CLEARANCES + user - 1];
         let read = state[READ_LEVELS + role - 1];
@@ -78,7 +86,9 @@ pub fn judge_assignments(state: &State, part: Part) -> Result<(), Verdict> {
         if read != 0 && !dominates(state, clearance.into(), read.into()) {
             return Err(refused(15, user, role));
         }
-        if write != 0 && !dominates(state, write.into(), clearance.into()) {
+        let lower = &order.down[clearance as usize - 1];
+        let (over, under) = (level_row(&order.up, read), level_row(&order.down, write));
+        if !meet(lower, &over, &under) {
             return Err(refused(16, user, role));
         }
     }

@@ -53,9 +53,18 @@ impl Policy {
         match (self.write_levels[&role], self.read_levels[&role]) {
             (Level::Undefined, _) => refusal(14),
             (_, Level::At(read)) if !self.dominates(clearance, read) => refusal(15),
-            (Level::At(write), _) if !self.dominates(write, clearance) => refusal(16),
+            _ if !(1..=self.labels).any(|y| self.serves(y, clearance, role)) => refusal(16),
             _ => Ok(()),
         }
+    }
+
+    /// Whether a label is dominated by the clearance and lies at or above the r-level and at or below the w-level.
+    fn serves(&self, label: u64, clearance: u64, role: u64) -> bool {
+        let over = |level| !matches!(level, Level::At(read) if !self.dominates(label, read));
+        let under = |level| !matches!(level, Level::At(write) if !self.dominates(write, label));
+        self.dominates(clearance, label)
+            && over(self.read_levels[&role])
+            && under(self.write_levels[&role])
     }
 }
 
