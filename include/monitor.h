@@ -72,7 +72,8 @@
  *       [lowest role on one, 0]
  *   14  assigned role with undefined w-level [user, role]
  *   15  clearance does not dominate the r-level [user, role]
- *   16  w-level does not dominate the clearance [user, role]
+ *   16  no label dominated by the clearance lies at or above the r-level and
+ *       at or below the w-level, free levels passing [user, role]
  *
  * The translator, by a session call, or the server by a review call:
  *   24  no session at the place (close, take, drop, read, write, session_at)
@@ -390,7 +391,8 @@ static inline const char *monitor_words(uint64_t number)
     case 15:
         return "the clearance does not dominate the r-level";
     case 16:
-        return "the w-level does not dominate the clearance";
+        return "no label dominated by the clearance lies at or above the "
+               "r-level and at or below the w-level";
     case 21:
         return "the state is too short or holds a number outside its limits";
     case 22:

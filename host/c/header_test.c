@@ -36,7 +36,7 @@ static int listed(uint64_t number)
 static int is_sentence(const char *words)
 {
     size_t length = strlen(words);
-    return 4 <= length && length <= 90 && 'a' <= words[0] && words[0] <= 'z' &&
+    return 4 <= length && length <= 100 && 'a' <= words[0] && words[0] <= 'z' &&
            words[length - 1] != '.' && strchr(words, '\n') == NULL;
 }
 
@@ -66,8 +66,9 @@ static void words(void)
           "numbers above 32 bits are others too");
     check(strstr(monitor_words(15), "does not dominate the r-level") != NULL,
           "15 speaks of the r-level");
-    check(strstr(monitor_words(16), "does not dominate the clearance") != NULL,
-          "16 speaks of the clearance");
+    check(strstr(monitor_words(16), "no label dominated by the clearance") !=
+              NULL,
+          "16 speaks of no label");
     check(strstr(monitor_words(24), "no session") != NULL,
           "24 speaks of no session");
 }

@@ -26,7 +26,7 @@ static void put(uint8_t *file, unsigned line, char letter, unsigned first,
     memcpy(file + LINE_BYTES * (line - 1), text, LINE_BYTES);
 }
 
-/* Labels and roles are chains. Cards 1 to 256 have label 1, the others label
+/* Labels and roles are chains. Cards 1 to 256 have label 2, the others label
    32; all users are cleared to label 16. */
 static void put_orders(uint8_t *file)
 {
@@ -41,11 +41,11 @@ static void put_orders(uint8_t *file)
         put(file, LARGEST_U + at, 'U', at + 1, 16, 0, 0);
     }
     for (unsigned at = 0; at < 512; at++) {
-        put(file, LARGEST_O + at, 'O', at + 1, at < 256 ? 1 : 32, 0, 0);
+        put(file, LARGEST_O + at, 'O', at + 1, at < 256 ? 2 : 32, 0, 0);
     }
 }
 
-/* Every role reads four cards of label 1 and writes four of label 32, and
+/* Every role reads four cards of label 2 and writes four of label 32, and
    users are assigned to four roles each until the lines are used up. */
 static void put_permissions(uint8_t *file)
 {

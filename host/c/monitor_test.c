@@ -1,5 +1,5 @@
 /*
- * Document 01's cases about sessions, and every number of the list that a
+ * The documents' cases about sessions, and every number of the list that a
  * session call can get, over include/monitor.h alone. Every buffer is one
  * allocation of its exact length, so that valgrind and the address sanitizer
  * see a byte too far.
@@ -38,9 +38,12 @@ static uint64_t read_number(const uint8_t *state, const uint8_t *store,
 #define SENIORITY "S    2    1          \n"
 #define CLEARED_TO_1 "U    1    1          \n"
 #define CLEARED_TO_2 "U    1    2          \n"
+#define CLEARED_TO_3 "U    1    3          \n"
 #define CARDS "O    1    1          \nO    2    2          \n"
 #define ROLE_1_READS_CARD_1 "P    1    1    1     \n"
 #define ROLE_1_READS_CARD_2 "P    1    2    1     \n"
+#define ROLE_1_WRITES_CARD_1 "P    1    1    2     \n"
+#define ROLE_1_WRITES_CARD_2 "P    1    2    2     \n"
 #define ROLE_2_WRITES_CARD_1 "P    2    1    2     \n"
 #define ROLE_2_WRITES_CARD_2 "P    2    2    2     \n"
 #define ASSIGNED_ROLE_1 "A    1    1          \n"
@@ -53,6 +56,37 @@ static const char example[] = COUNTS DOMINANCE SENIORITY CLEARED_TO_2 CARDS
 static const char cleared_to_1[] = COUNTS DOMINANCE SENIORITY CLEARED_TO_1 CARDS
     ROLE_1_READS_CARD_1 ROLE_2_WRITES_CARD_2 ASSIGNED_ROLE_2;
 
+/* "role 2 writing card 1 too" */
+static const char reviewer[] = COUNTS DOMINANCE SENIORITY CLEARED_TO_2 CARDS
+    ROLE_1_READS_CARD_1 ROLE_2_WRITES_CARD_1 ROLE_2_WRITES_CARD_2
+        ASSIGNED_ROLE_2;
+
+/* Three labels, 1 and 2 under 3 and none under both; one role. */
+#define APART                                                                  \
+    "H    3    1    1    2\nD    3    1          \nD    3    2          \n"
+
+/* 14 to 16. */
+static void assignments(uint8_t *state)
+{
+    verdict(load(APART CLEARED_TO_3 CARDS ROLE_1_WRITES_CARD_1
+                     ROLE_1_WRITES_CARD_2 ASSIGNED_ROLE_1,
+                 state),
+            14, 1, 1, "an assigned role that writes at 1 and 2: 14");
+    verdict(load(COUNTS DOMINANCE SENIORITY CLEARED_TO_1 CARDS
+                     ROLE_1_READS_CARD_1 ROLE_1_READS_CARD_2
+                         ROLE_2_WRITES_CARD_2 ASSIGNED_ROLE_2,
+                 state),
+            15, 1, 2, "and role 1 reading card 2 as well: 15 at [1, 2]");
+    verdict(load(COUNTS DOMINANCE SENIORITY CLEARED_TO_2 CARDS
+                     ROLE_1_READS_CARD_1 ROLE_1_READS_CARD_2
+                         ROLE_2_WRITES_CARD_1 ASSIGNED_ROLE_2,
+                 state),
+            16, 1, 2, "role 2 reading card 2 and writing card 1: 16 at [1, 2]");
+    verdict(load(APART CLEARED_TO_1 CARDS ROLE_1_WRITES_CARD_2 ASSIGNED_ROLE_1,
+                 state),
+            16, 1, 1, "no label under clearance 1 and w-level 2: 16 at [1, 1]");
+}
+
 static void files(void)
 {
     uint8_t *state = bytes_of(STATE_BYTES, 0xa5);
@@ -61,32 +95,12 @@ static void files(void)
                      ROLE_2_WRITES_CARD_2 ASSIGNED_ROLE_2,
                  state),
             12, 1, 2, "the example without its D line: 12 at [1, 2]");
-    verdict(load(COUNTS DOMINANCE SENIORITY CLEARED_TO_1 CARDS
-                     ROLE_1_READS_CARD_1 ROLE_1_READS_CARD_2
-                         ROLE_2_WRITES_CARD_2 ASSIGNED_ROLE_2,
-                 state),
-            15, 1, 2, "and role 1 reading card 2 as well: 15 at [1, 2]");
-    verdict(load(COUNTS DOMINANCE SENIORITY CLEARED_TO_2 CARDS
-                     ROLE_1_READS_CARD_1 ROLE_2_WRITES_CARD_1
-                         ROLE_2_WRITES_CARD_2 ASSIGNED_ROLE_2,
-                 state),
-            16, 1, 2, "role 2 writing card 1 too: 16 at [1, 2]");
+    assignments(state);
     verdict(load(COUNTS "D    1    1          \n" DOMINANCE SENIORITY
                      CLEARED_TO_2 CARDS ROLE_1_READS_CARD_1
                          ROLE_2_WRITES_CARD_2 ASSIGNED_ROLE_2,
                  state),
             11, 1, 0, "D 1 1 in front: 11 at [1, 0]");
-    verdict(load("H    3    1    1    2\n"
-                 "D    3    1          \n"
-                 "D    3    2          \n"
-                 "U    1    3          \n"
-                 "O    1    1          \n"
-                 "O    2    2          \n"
-                 "P    1    1    2     \n"
-                 "P    1    2    2     \n"
-                 "A    1    1          \n",
-                 state),
-            14, 1, 1, "an assigned role that writes at 1 and 2: 14");
     verdict(load("H   33    0    0    0\n", state), 3, 1, 0,
             "only H with 33 labels: 3 at [1, 0]");
     verdict(load("", state), 1, 0, 0, "an empty file: 1");
@@ -133,6 +147,38 @@ static void writing_up(const char *file, const char *name)
     number(read_number(state, store, 1, 2, 0, 5), 29, "reads card 2: 29");
     number(read_number(state, store, 1, 1, 0, 64), 0,
            "reads card 1 by its junior role 1");
+    free(state);
+    free(store);
+}
+
+/* "A reviewer with a high clearance opens a low session to correct a published
+   card" (document 02). */
+static void correcting_a_low_card(void)
+{
+    uint8_t *state = bytes_of(STATE_BYTES, 0);
+    uint8_t *store = bytes_of(STORE_BYTES, '.');
+    about = "correcting a low card";
+    accepted(reviewer, state, "role 2 writing card 1 too: accepted");
+    number(monitor_open(state, STATE_BYTES, 1, 1, 1), 0,
+           "user 1, cleared to 2, opens place 1 at label 1");
+    number(monitor_take(state, STATE_BYTES, 1, 2), 0, "takes role 2");
+    number(write_bytes(state, store, STORE_BYTES, 1, 1, 0, "valve"), 0,
+           "writes card 1");
+    check(memcmp(store, "valve", 5) == 0 &&
+              all_bytes_are(store + 5, STORE_BYTES - 5, '.'),
+          "the store holds the bytes and is else as it was");
+    number(monitor_open(state, STATE_BYTES, 2, 1, 2), 0,
+           "user 1 opens place 2 at label 2");
+    number(monitor_take(state, STATE_BYTES, 2, 2), 28,
+           "28: role 2 writes at label 1");
+    number(monitor_take(state, STATE_BYTES, 2, 1), 0,
+           "takes role 1, which writes nothing");
+    number(write_bytes(state, store, STORE_BYTES, 2, 1, 0, "x"), 29,
+           "and may not write card 1");
+    figure(monitor_can(state, STATE_BYTES, 1, 1, 1, MONITOR_WRITE), 0, 1,
+           "at label 1, write card 1");
+    figure(monitor_can(state, STATE_BYTES, 1, 2, 1, MONITOR_WRITE), 0, 0,
+           "at label 2, not write card 1");
     free(state);
     free(store);
 }
@@ -529,6 +575,7 @@ int main(void)
     files();
     writing_up(example, "the example");
     writing_up(cleared_to_1, "user 1 cleared to 1 instead");
+    correcting_a_low_card();
     offset_and_length();
     opening_and_closing();
     every_number();
