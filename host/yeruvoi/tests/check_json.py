@@ -157,10 +157,11 @@ def assignments(file, cause, place):
         user, role = thing(file, "user", value["user"]), thing(file, "role", value["role"])
         assert file.fields(line(file, value["line"])) == [user, role]
         assert thing(file, "label", value["clearance"]) == clearances[user]
-        assert value["mode"] == ("read" if value["number"] == 15 else "write")
+        modes = {14: ["write"], 15: ["read"], 16: ["read", "write"]}[value["number"]]
+        assert value["mode"] == modes[-1]
         odd = {thing(file, "label", label) for label in value["labels"]}
         assert odd == at_odds(file, value["number"], clearances[user], role)
-        wanted.append((role, value["mode"]))
+        wanted += [(role, mode) for mode in modes]
     first = cause["assignments"][0]
     assert [first["user"]["number"], first["role"]["number"]] == place
     assert [level(file, value) for value in cause["levels"]] == list(dict.fromkeys(wanted))
@@ -173,12 +174,18 @@ def permissions(file, role, mode):
             if fields[0] in juniors and fields[2] == mode}
 
 
-def at_odds(file, number, clearance, role):
+def labels_of(file, cards):
     labels = dict(fields for _, fields in file.with_letter("O"))
-    used = {labels[card] for card in permissions(file, role, 1 if number == 15 else 2).values()}
+    return {labels[card] for card in cards}
+
+
+def at_odds(file, number, clearance, role):
+    read, written = (labels_of(file, permissions(file, role, mode).values()) for mode in (1, 2))
     if number == 15:
-        return used - file.reach("D", clearance)
-    return {label for label in used if clearance not in file.reach("D", label)} if number == 16 else set()
+        return read - file.reach("D", clearance)
+    if number == 14 or not read:
+        return set()
+    return {label for label in written if bound_of(file, read, 1) not in file.reach("D", label)}
 
 
 def level(file, value):
@@ -197,8 +204,8 @@ def level(file, value):
     for one in value["seniority"]:
         assert line(file, one) and one["letter"] == "S"
     number = None if value["level"] is None else thing(file, "label", value["level"])
-    bound = bound_of(file, {labels[card] for card in told.values()}, mode)
-    assert (number, value["defined"]) == (bound, bound is not None), (number, bound)
+    bound = bound_of(file, labels_of(file, told.values()), mode) if told else None
+    assert (number, value["defined"]) == (bound, bound is not None or not told), (number, bound)
     return role, value["mode"]
 
 

@@ -101,17 +101,69 @@ fn a_clearance_below_the_r_level_is_told_with_the_cards_read() {
     );
 }
 
+/// The first line of a 16 at this user and role.
+fn no_label(user: usize, role: usize) -> String {
+    format!(
+        "refused with 16 at user {user}, role {role}: no label dominated by the clearance \
+        lies at or above the r-level and at or below the w-level\n"
+    )
+}
+
 #[test]
-fn a_clearance_over_the_w_level_is_told_with_the_cards_written() {
+fn a_w_level_that_does_not_dominate_the_r_level_is_told_with_both() {
     refused(
         "H    2    2    1    2\nD    2    1\nS    2    1\nU    1    2\nO    1    1\nO    2    2\n\
-        P    1    1    1\nP    2    1    2\nP    2    2    2\nA    1    2\n",
-        "refused with 16 at user 1, role 2: the w-level does not dominate the clearance\n\
-        \x20 line 10      A    1    2              user 1 is assigned to role 2\n\
-        \x20 clearance    2, not dominated by label 1\n\
-        \x20 w-level      1, the greatest lower bound of\n\
-        \x20   line 8       P    2    1    2         label 1: card 1\n\
-        \x20   line 9       P    2    2    2         label 2: card 2\n",
+        P    1    1    1\nP    1    2    1\nP    2    1    2\nP    2    2    2\nA    1    2\n",
+        &(no_label(1, 2)
+            + "\
+            \x20 line 11      A    1    2              user 1 is assigned to role 2\n\
+            \x20 clearance    2\n\
+            \x20 because      the w-level 1 does not dominate the r-level 2: the role writes at label 1\n\
+            \x20 r-level      2, the least upper bound of\n\
+            \x20   line 7       P    1    1    1         label 1: card 1 by junior role 1\n\
+            \x20   line 8       P    1    2    1         label 2: card 2 by junior role 1\n\
+            \x20   line 3       S    2    1              role 2 is senior to role 1\n\
+            \x20 w-level      1, the greatest lower bound of\n\
+            \x20   line 9       P    2    1    2         label 1: card 1\n\
+            \x20   line 10      P    2    2    2         label 2: card 2\n"),
+    );
+    refused(
+        "H    4    1    1    3\nD    2    1\nD    3    2\nD    4    3\nU    1    4\nO    1    1\nO    2    2\nO    3    3\n\
+        P    1    1    2\nP    1    2    2\nP    1    3    1\nP    1    3    2\nA    1    1\n",
+        &(no_label(1, 1)
+            + "\
+            \x20 line 13      A    1    1              user 1 is assigned to role 1\n\
+            \x20 clearance    4\n\
+            \x20 because      the w-level 1 does not dominate the r-level 3: the role writes at label 1, label 2\n\
+            \x20 r-level      3, the least upper bound of\n\
+            \x20   line 11      P    1    3    1         label 3: card 3\n\
+            \x20 w-level      1, the greatest lower bound of\n\
+            \x20   line 9       P    1    1    2         label 1: card 1\n\
+            \x20   line 10      P    1    2    2         label 2: card 2\n\
+            \x20   line 12      P    1    3    2         label 3: card 3\n"),
+    );
+}
+
+/// Labels 1 and 2 under 3, and none under both.
+#[test]
+fn a_w_level_with_no_label_under_it_and_the_clearance_is_told() {
+    refused(
+        "H    3    1    2    1\nD    3    1\nD    3    2\nU    1    1\nU    2    1\nO    1    2\n\
+        P    1    1    2\nA    1    1\nA    2    1\n",
+        &(no_label(1, 1)
+            + "\
+            \x20 line 8       A    1    1              user 1 is assigned to role 1\n\
+            \x20 clearance    1\n\
+            \x20 because      no label is dominated by both the clearance 1 and the w-level 2\n\
+            \x20 r-level      free: the role reads no card\n\
+            \x20 w-level      2, the greatest lower bound of\n\
+            \x20   line 7       P    1    1    2         label 2: card 1\n\
+            1 more assignment is refused, each with its number:\n\
+            \x20 line 9       A    2    1              16: user 2 is assigned to role 1\n\
+            \x20 clearance    1\n\
+            \x20 because      no label is dominated by both the clearance 1 and the w-level 2\n\
+            \x20 r-level      of role 1, as above\n\
+            \x20 w-level      of role 1, as above\n"),
     );
 }
 
@@ -154,7 +206,9 @@ fn every_assignment_at_fault_is_told() {
         \x20   line 4       S    2    1              role 2 is senior to role 1\n\
         \x20   line 5       S    3    2              role 3 is senior to role 2\n\
         \x20 line 17      A    2    3              16: user 2 is assigned to role 3\n\
-        \x20 clearance    3, not dominated by label 1\n\
+        \x20 clearance    3\n\
+        \x20 because      the w-level 1 does not dominate the r-level 2: the role writes at label 1\n\
+        \x20 r-level      of role 3, as above\n\
         \x20 w-level      1, the greatest lower bound of\n\
         \x20   line 13      P    3    1    2         label 1: card 1\n\
         \x20 line 18      A    3    1              15: user 3 is assigned to role 1\n\
@@ -250,7 +304,9 @@ refused with 15 at user 1 (Ada), role 1 (reader): the clearance does not dominat
     line 4       S    2    1              role 2 is senior to role 1 (reader)
     line 5       S    3    2              role 3 (lead) is senior to role 2
   line 17      A    2    3              16: user 2 is assigned to role 3 (lead)
-  clearance    3, not dominated by label 1 (public)
+  clearance    3
+  because      the w-level 1 (public) does not dominate the r-level 2 (draft): the role writes at label 1 (public)
+  r-level      of role 3 (lead), as above
   w-level      1 (public), the greatest lower bound of
     line 13      P    3    1    2         label 1 (public): card 1
   line 18      A    3    1              15: user 3 is assigned to role 1 (reader)

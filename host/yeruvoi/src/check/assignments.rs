@@ -1,4 +1,4 @@
-//! Numbers 14 to 16: every assignment at fault, with clearance and level. Which
+//! Numbers 14 to 16: every assignment at fault, with clearance and levels. Which
 //! ones are at fault the proved load says: the file is loaded again without the
 //! line it refused, until it is accepted.
 
@@ -7,7 +7,7 @@ use super::level::Level;
 use crate::arguments::Settings;
 use crate::json::Json;
 use crate::lines::{Line, Lines};
-use crate::monitor::{Mode, Policy, Verdict};
+use crate::monitor::{Mode, Policy, Verdict, FREE};
 use crate::names::{Kind, Names};
 use crate::page::{counted, rows, Page};
 
@@ -21,11 +21,14 @@ struct Fault<'a> {
     line: Line<'a>,
     number: u64,
     clearance: u64,
-    /// The labels that make the level and that do not stand to the clearance
-    /// as the number wants it.
+    /// The mode that makes the level at fault.
+    mode: Mode,
+    /// The labels that make it and that do not stand to the clearance (15) or to
+    /// the r-level (16) as the number wants it.
     labels: Vec<u64>,
-    /// Its place among the levels.
-    level: usize,
+    /// The places among the levels: of the level at fault, and for 16 of the
+    /// r-level before it.
+    levels: Vec<usize>,
 }
 
 impl<'a> Assignments<'a> {
@@ -43,38 +46,52 @@ impl<'a> Assignments<'a> {
     }
 
     fn add(&mut self, policy: &Policy, lines: &Lines<'a>, line: Line<'a>, number: u64) {
-        let mode = if number == 15 {
-            Mode::Read
-        } else {
-            Mode::Write
-        };
         let [user, role, ..] = line.fields;
-        let known = |level: &Level| level.role == role && level.mode == mode;
-        let level = self.levels.iter().position(known).unwrap_or_else(|| {
-            self.levels.push(Level::of(policy, lines, role, mode));
-            self.levels.len() - 1
-        });
         let clearance = policy.clearance(user);
-        let labels = at_odds(policy, &self.levels[level], clearance, number);
+        let mode = match number {
+            15 => Mode::Read,
+            _ => Mode::Write,
+        };
+        let modes = match number {
+            16 => Mode::BOTH.to_vec(),
+            _ => vec![mode],
+        };
+        let places = modes
+            .iter()
+            .map(|&mode| self.level(policy, lines, role, mode));
+        let levels: Vec<usize> = places.collect();
+        let told: Vec<&Level> = levels.iter().map(|&place| &self.levels[place]).collect();
+        let labels = at_odds(policy, clearance, number, &told);
         self.faults.push(Fault {
             line,
             number,
             clearance,
+            mode,
             labels,
-            level,
+            levels,
         });
+    }
+
+    /// The place of a role's level among the levels, which have it from now on.
+    fn level(&mut self, policy: &Policy, lines: &Lines<'a>, role: u64, mode: Mode) -> usize {
+        let known = |level: &Level| level.role == role && level.mode == mode;
+        self.levels.iter().position(known).unwrap_or_else(|| {
+            self.levels.push(Level::of(policy, lines, role, mode));
+            self.levels.len() - 1
+        })
     }
 }
 
-/// The labels that make the level and that the clearance does not dominate
-/// (15), or that do not dominate the clearance (16).
-fn at_odds(policy: &Policy, level: &Level, clearance: u64, number: u64) -> Vec<u64> {
-    let odd = |&label: &u64| match number {
-        15 => !policy.dominates(clearance, label),
-        16 => !policy.dominates(label, clearance),
-        _ => false,
-    };
-    level.labels().into_iter().filter(odd).collect()
+/// The labels that are read and that the clearance does not dominate (15), or
+/// that are written and do not dominate the r-level, where that is a label (16).
+fn at_odds(policy: &Policy, clearance: u64, number: u64, levels: &[&Level]) -> Vec<u64> {
+    match (number, levels) {
+        (15, [read]) => read.labels_where(|label| !policy.dominates(clearance, label)),
+        (16, [read, write]) if read.level != FREE => {
+            write.labels_where(|label| !policy.dominates(label, read.level))
+        }
+        _ => Vec::new(),
+    }
 }
 
 /// Each line A that a load refuses, with the number it gets.
@@ -109,21 +126,25 @@ impl Cause for Assignments<'_> {
             if index == 1 {
                 page.line(more(self.faults.len() - 1));
             }
-            fault.write(page, &settings.names, index > 0);
-            if told.contains(&fault.level) {
-                page.line(told_above(&self.levels[fault.level], &settings.names));
-            } else {
-                self.levels[fault.level].write(page, settings);
-                told.push(fault.level);
+            fault.write(page, &self.levels, &settings.names, index > 0);
+            for &level in &fault.levels {
+                if told.contains(&level) {
+                    page.line(told_above(&self.levels[level], &settings.names));
+                } else {
+                    self.levels[level].write(page, settings);
+                    told.push(level);
+                }
             }
         }
         page.left_out(0, self.faults.len() - shown);
     }
 
     fn json(&self, names: &Names) -> Json {
-        let assignment = |fault: &Fault| fault.json(&self.levels[fault.level], names);
         Json::Object(vec![
-            ("assignments", Json::list(&self.faults, assignment)),
+            (
+                "assignments",
+                Json::list(&self.faults, |fault| fault.json(names)),
+            ),
             (
                 "levels",
                 Json::list(&self.levels, |level| level.json(names)),
@@ -145,7 +166,7 @@ fn told_above(level: &Level, names: &Names) -> String {
 }
 
 impl Fault<'_> {
-    fn write(&self, page: &mut Page, names: &Names, with_number: bool) {
+    fn write(&self, page: &mut Page, levels: &[Level], names: &Names, with_number: bool) {
         let [user, role, ..] = self.line.fields;
         let number = match with_number {
             true => format!("{}: ", self.number),
@@ -158,33 +179,49 @@ impl Fault<'_> {
             &format!("{number}{user} is assigned to {role}"),
         );
         let clearance = names.number(Kind::Label, self.clearance);
-        page.line(format!(
-            "  clearance    {clearance}{}",
-            self.odd_words(names)
-        ));
+        let odd = match self.number {
+            15 => format!(", does not dominate {}", self.odd_labels(names)),
+            _ => String::new(),
+        };
+        page.line(format!("  clearance    {clearance}{odd}"));
+        if let [read, write] = self.levels[..] {
+            let reason = self.reason(levels[read].level, levels[write].level, names);
+            page.line(format!("  because      {reason}"));
+        }
     }
 
-    /// How the clearance stands to the labels at odds with it.
-    fn odd_words(&self, names: &Names) -> String {
+    /// Why no label that the clearance dominates lies between the levels (16).
+    /// The clearance dominates an r-level that is a label: else it were 15.
+    fn reason(&self, r_level: u64, w_level: u64, names: &Names) -> String {
+        let label = |number| names.number(Kind::Label, number);
+        let w_level = format!("the w-level {}", label(w_level));
+        if r_level == FREE {
+            let clearance = label(self.clearance);
+            return format!(
+                "no label is dominated by both the clearance {clearance} and {w_level}"
+            );
+        }
+        let (r_level, odd) = (label(r_level), self.odd_labels(names));
+        format!("{w_level} does not dominate the r-level {r_level}: the role writes at {odd}")
+    }
+
+    /// `label 1, label 2`
+    fn odd_labels(&self, names: &Names) -> String {
         let labels = self.labels.iter();
         let labels: Vec<String> = labels
             .map(|&label| names.thing(Kind::Label, label))
             .collect();
-        match (labels.len(), self.number) {
-            (0, _) => String::new(),
-            (_, 15) => format!(", does not dominate {}", labels.join(", ")),
-            _ => format!(", not dominated by {}", labels.join(", ")),
-        }
+        labels.join(", ")
     }
 
-    fn json(&self, level: &Level, names: &Names) -> Json {
+    fn json(&self, names: &Names) -> Json {
         let [user, role, ..] = self.line.fields;
         Json::Object(vec![
             ("line", Json::line(&self.line)),
             ("number", Json::Number(self.number)),
             ("user", names.json(Kind::User, user)),
             ("role", names.json(Kind::Role, role)),
-            ("mode", Json::text(level.mode.word())),
+            ("mode", Json::text(self.mode.word())),
             ("clearance", names.json(Kind::Label, self.clearance)),
             (
                 "labels",

@@ -52,12 +52,11 @@ impl<'a> Level<'a> {
         }
     }
 
-    /// The labels of the cards, rising.
-    pub fn labels(&self) -> BTreeSet<u64> {
-        self.permissions
-            .iter()
-            .map(|permission| permission.label)
-            .collect()
+    /// The labels of the cards of which the question is answered with yes, rising.
+    pub fn labels_where(&self, so: impl Fn(u64) -> bool) -> Vec<u64> {
+        let labels = self.permissions.iter().map(|permission| permission.label);
+        let labels: BTreeSet<u64> = labels.filter(|&label| so(label)).collect();
+        labels.into_iter().collect()
     }
 
     /// The lines S by which the role has the owners of these permissions.
@@ -122,7 +121,7 @@ impl Level<'_> {
     fn headline(&self, names: &Names) -> String {
         let word = self.mode.level_word();
         let value = match self.level {
-            FREE => "free".to_string(),
+            FREE => format!("free: the role {}s no card", self.mode.word()),
             UNDEFINED => NO_BOUND.to_string(),
             label => names.number(Kind::Label, label) + ", the " + bound_word(self.mode) + " of",
         };

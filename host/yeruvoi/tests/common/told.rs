@@ -26,10 +26,13 @@ pub struct Fault {
     pub user: usize,
     pub role: usize,
     pub clearance: usize,
-    /// The labels that the clearance is at odds with.
+    /// The labels that the clearance (15) or the r-level (16) is at odds with.
     pub odd: BTreeSet<usize>,
-    /// 99 is undefined; 0 where it stands above.
-    pub level: usize,
+    /// Why no label serves; told for 16.
+    pub reason: Option<String>,
+    /// 0 is free and 99 undefined; none where it is not told, or stands above.
+    pub r_level: Option<usize>,
+    pub w_level: Option<usize>,
 }
 
 impl Told {
@@ -92,32 +95,44 @@ impl Told {
     }
 
     pub fn faults(&self) -> Vec<Fault> {
-        let lines: Vec<&str> = self.text.lines().collect();
-        let starts = (1..lines.len()).filter(|&index| lines[index].contains(" is assigned to "));
-        starts
-            .map(|index| self.fault(&lines[index..index + 3]))
-            .collect()
+        let lines: Vec<&str> = self.text.lines().skip(1).collect();
+        let starts = |line: &&str| line.contains(" is assigned to ");
+        let blocks = lines.chunk_by(|_, next| !starts(next));
+        blocks.map(|lines| self.fault(lines)).collect()
     }
 
-    /// Three lines: the assignment, the clearance, the level.
+    /// The lines about one assignment, its own first.
     fn fault(&self, lines: &[&str]) -> Fault {
         let note = lines[0].get(40..).expect("a note stands beside the line");
         let number = note.split(':').next().and_then(|word| word.parse().ok());
-        let undefined = lines[2].contains("undefined: no label");
-        let level = number_after(lines[2], "-level      ");
+        let told = |head: &str| lines.iter().find_map(|line| line.strip_prefix(head));
+        let clearance = told("  clearance    ").expect("the clearance stands there");
+        let reason = told("  because      ");
+        let odd = [clearance, reason.unwrap_or_default()].join(" ");
         Fault {
             line: number_after(lines[0], "line ").expect("the line has a number"),
             number: number.unwrap_or(self.number()),
             user: number_after(note, "user ").expect("the user stands there"),
             role: number_after(note, "to role ").expect("the role stands there"),
-            clearance: number_after(lines[1], "clearance    ").expect("the clearance stands there"),
-            odd: lines[1]
+            clearance: leading_number(clearance).expect("the clearance is a number"),
+            odd: odd
                 .split("label ")
                 .skip(1)
                 .filter_map(leading_number)
                 .collect(),
-            level: if undefined { 99 } else { level.unwrap_or(0) },
+            reason: reason.map(str::to_string),
+            r_level: told("  r-level      ").and_then(level),
+            w_level: told("  w-level      ").and_then(level),
         }
+    }
+}
+
+/// A level as it is told.
+fn level(text: &str) -> Option<usize> {
+    match text {
+        _ if text.starts_with("free: ") => Some(0),
+        _ if text.starts_with("undefined: ") => Some(99),
+        _ => leading_number(text),
     }
 }
 
