@@ -4,7 +4,7 @@
 mod common;
 mod support;
 
-use common::run;
+use common::{padded, run};
 use monitor_model::{Mode, Policy};
 use second_checker::check::{read, Level, RoleFile};
 use second_checker::example::EXAMPLE;
@@ -190,6 +190,7 @@ struct Seen {
     refused: usize,
     inherited: usize,
     barred: usize,
+    barred_by_w_level: usize,
     /// A quoted line taken out: no longer, or by another way.
     ended: usize,
     other_way: usize,
@@ -296,18 +297,18 @@ fn random_files_mended() {
             seen.granted += usize::from(told.may);
             seen.refused += usize::from(!told.may);
             seen.barred += usize::from(!told.barred.is_empty());
+            let by_w_level = |barred: &Barred| barred.word == "w-level";
+            seen.barred_by_w_level += usize::from(told.barred.iter().any(by_w_level));
             take_out(&file, question, &told, &mut seen);
             assign(&file, question, &told, &mut seen);
             permit(&file, question, &told, &mut seen);
         }
     }
     assert!(seen.granted > 40 && seen.refused > 40, "{seen:?}");
+    assert!(seen.barred > 10 && seen.barred_by_w_level > 10, "{seen:?}");
+    assert!(seen.ended > 40 && seen.other_way > 20, "{seen:?}");
     assert!(
-        seen.barred > 10 && seen.ended > 40 && seen.other_way > 20,
-        "{seen:?}"
-    );
-    assert!(
-        seen.assigned > 20 && seen.assignment_refused > 80,
+        seen.assigned > 20 && seen.assignment_refused > 40,
         "{seen:?}"
     );
     assert!(seen.permitted > 20, "{seen:?}");
@@ -335,8 +336,33 @@ fn two_makers_mended() {
 // ---------------------------------------------------------------------------
 // By hand
 
+/// Document 01's example with "role 2 writing card 1 too": its w-level is 1.
+const REVIEWER: &str = "\
+H    2    2    1    2
+D    2    1
+S    2    1
+U    1    2
+O    1    1
+O    2    2
+P    1    1    1
+P    2    1    2
+P    2    2    2
+A    1    2
+";
+
+/// A role that reads at label 2 and writes at label 1, assigned to nobody.
+const DOWNWARDS: &str = "\
+H    2    1    1    2
+D    2    1
+U    1    2
+O    1    1
+O    2    2
+P    1    1    2
+P    1    2    1
+";
+
 /// A file, the words of a question, and what is told.
-const QUESTIONS: [(&str, [&str; 3], &str); 4] = [
+const QUESTIONS: [(&str, [&str; 3], &str); 6] = [
     (
         EXAMPLE,
         ["1", "read", "1"],
@@ -362,7 +388,28 @@ user 1 may not read card 2
         "\
 user 2 may not write card 1
   roles 1-3 give it: none is assigned to the user, nor a senior of one
-  an assignment to roles 1-3 would be refused with 16: the w-level does not dominate the clearance
+  an assignment to roles 1-3 would be accepted
+",
+    ),
+    (
+        DOWNWARDS,
+        ["1", "write", "1"],
+        "\
+user 1 may not write card 1
+  role 1 gives it: neither it nor a senior of it is assigned to the user
+  an assignment to role 1 would be refused with 16: no label dominated by the clearance lies at or above the r-level and at or below the w-level
+",
+    ),
+    (
+        REVIEWER,
+        ["1", "write", "1"],
+        "\
+user 1 may write card 1, in a session at label 1
+  at label 1, by role 2
+    line 10      A    1    2              user 1 is assigned to role 2
+    line 8       P    2    1    2         role 2 may write card 1
+  not at label 2
+    role 2: the w-level 1 does not dominate label 2
 ",
     ),
     (
@@ -379,7 +426,7 @@ user 1 may not read card 1
 #[test]
 fn small_files() {
     for (file, [user, mode, card], expected) in QUESTIONS {
-        let printed = told(&["why", "-", user, mode, card], file.as_bytes(), 0);
+        let printed = told(&["why", "-", user, mode, card], &padded(file), 0);
         assert_eq!(printed, expected);
     }
 }
@@ -492,6 +539,27 @@ fn expected_json(told: &Told, question: Question, givers: &[usize], legend: &Leg
             }),
         ),
     ])
+}
+
+#[test]
+fn json_of_a_role_that_its_w_level_bars() {
+    let printed = told(
+        &["why", "--json", "-", "1", "write", "1"],
+        &padded(REVIEWER),
+        0,
+    );
+    assert_eq!(
+        printed,
+        concat!(
+            r#"{"accepted": true, "user": {"number": 1}, "mode": "write", "card": {"number": 1}, "may": true, "#,
+            r#""served": [{"labels": [{"number": 1}], "role": {"number": 2}, "lines": ["#,
+            r#"{"number": 10, "text": "A    1    2          ", "letter": "A", "fields": [1, 2]}, "#,
+            r#"{"number": 8, "text": "P    2    1    2     ", "letter": "P", "fields": [2, 1, 2]}]}], "#,
+            r#""barred": [{"kind": "w-level", "level": {"number": 1}, "roles": [{"number": 2}], "#,
+            r#""labels": [{"number": 2}]}], "givers": [{"number": 2}], "assignments": []}"#,
+            "\n"
+        )
+    );
 }
 
 #[test]
