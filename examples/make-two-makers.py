@@ -122,8 +122,9 @@ question_box["house"] = card("questions to the owners", "owners")
 
 # Roles, from the lowest layer up: readers of each label one over the other,
 # then translators of each product line, editors and leads of each stage.
-# A clearance must stand between the r-level and the w-level, so a stage's
-# writers are senior to its readers, never to the writers of another stage.
+# A label that the clearance dominates must lie between the r-level and the
+# w-level, so a stage's writers are senior to its readers, never to the writers
+# of another stage.
 
 
 def role(name, juniors=(), reads=(), writes=()):
