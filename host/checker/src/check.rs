@@ -1,7 +1,8 @@
 //! The check itself, in the order of document 01: "Load checks 7, 1, then line
 //! by line 2 to 5 in that order within the line, then 6 (users before cards),
 //! 11, 12, 13, then assignments in file order, 14 to 16 within each."
-//! Number 7 is about a lent state and cannot arise here.
+//! Number 7 is about a lent state and cannot arise here. What 16 means is from
+//! document 02, Change 1.
 
 use crate::line::{read_line, Letter, Line, LINE_LENGTH, MOST_BYTES};
 use crate::order::{lowest_on_circle, Order};
@@ -62,6 +63,8 @@ pub struct Accepted {
     pub flows: BTreeSet<(usize, usize)>,
     /// The lowest role on a circle of role flow.
     pub circle: Option<usize>,
+    /// Assignments of roles for low sessions alone: user, role.
+    pub low: Vec<(usize, usize)>,
 }
 
 /// The check's outcome.
@@ -254,6 +257,7 @@ fn judge(role_file: &RoleFile) -> Result<Accepted, Refusal> {
             return Err(Refusal { number, place });
         }
     }
+    let assignments = role_file.assignments.iter().copied();
     let flows = meaning.flows();
     let pairs: Vec<(usize, usize)> = flows.iter().copied().collect();
     Ok(Accepted {
@@ -264,6 +268,9 @@ fn judge(role_file: &RoleFile) -> Result<Accepted, Refusal> {
         // flows to itself, so that every circle has two roles or more.
         circle: lowest_on_circle(counts.roles, &pairs),
         flows,
+        low: assignments
+            .filter(|&(user, role)| meaning.is_low(user, role))
+            .collect(),
     })
 }
 
@@ -375,9 +382,7 @@ impl Meaning {
         self.write_level[role].passes(|level| self.dominance.over(level, label))
     }
 
-    /// The number an A line gets, 0 where it is good: "For each A line the
-    /// w-level must not be undefined, the clearance must dominate the r-level,
-    /// and the w-level must dominate the clearance".
+    /// The number an A line gets, 0 where it is good.
     pub fn assignment_number(&self, user: usize, role: usize) -> usize {
         let clearance = self.clearance[user];
         // "14: assigned role with undefined w-level [user, role]"
@@ -388,11 +393,25 @@ impl Meaning {
         if !self.read_level_allows(role, clearance) {
             return 15;
         }
-        // "16: w-level doesn't dominate the clearance [user, role]"
-        if !self.write_level_allows(role, clearance) {
+        // Document 02: "16 means that no label dominated by the clearance lies
+        // at or above the r-level and at or below the w-level, free levels
+        // passing."
+        let serves = |label: usize| {
+            self.dominance.over(clearance, label)
+                && self.read_level_allows(role, label)
+                && self.write_level_allows(role, label)
+        };
+        if !self.dominance.things().any(serves) {
             return 16;
         }
         0
+    }
+
+    /// Whether a role that the user may hold is for low sessions alone: its
+    /// w-level doesn't dominate the clearance, so that only labels below that
+    /// serve.
+    pub fn is_low(&self, user: usize, role: usize) -> bool {
+        !self.write_level_allows(role, self.clearance[user])
     }
 
     /// "Role r flows to another role q where a card that r may write is a

@@ -1,5 +1,5 @@
-//! An independent second checker for role files, written from document 01
-//! alone. It shares nothing with the product it is compared with.
+//! An independent second checker for role files, written from documents 01 and
+//! 02 alone. It shares nothing with the product it is compared with.
 
 pub mod check;
 pub mod differential;

@@ -2,6 +2,7 @@
 //! bounds in an order. Used for labels, for roles and for role flow.
 
 use std::collections::BTreeSet;
+use std::ops::RangeInclusive;
 
 /// The things reached from `start` by one step or more, found by search.
 pub fn reached(steps: &[Vec<usize>], start: usize) -> BTreeSet<usize> {
@@ -57,6 +58,10 @@ impl Order {
         Order { size, over }
     }
 
+    pub fn things(&self) -> RangeInclusive<usize> {
+        1..=self.size
+    }
+
     /// Whether `upper` stands over `lower` or is the same thing.
     pub fn over(&self, upper: usize, lower: usize) -> bool {
         self.over[upper][lower]
@@ -78,7 +83,8 @@ impl Order {
         things: &BTreeSet<usize>,
         beyond: impl Fn(usize, usize) -> bool,
     ) -> Option<usize> {
-        let bounds: Vec<usize> = (1..=self.size)
+        let bounds: Vec<usize> = self
+            .things()
             .filter(|&bound| things.iter().all(|&thing| beyond(bound, thing)))
             .collect();
         bounds
@@ -90,7 +96,7 @@ impl Order {
     /// "Every two labels must have a least upper bound": the pair without one
     /// "that comes first by its lower, then by its higher label".
     pub fn first_pair_without_bound(&self) -> Option<(usize, usize)> {
-        for lower in 1..=self.size {
+        for lower in self.things() {
             for higher in lower + 1..=self.size {
                 if self
                     .least_upper_bound(&BTreeSet::from([lower, higher]))

@@ -1,5 +1,6 @@
-//! The cases of document 01 about files, and more on the edges. The expected
-//! values are worked out by hand from the document.
+//! The cases of document 01 about files, what document 02 says of number 16, and
+//! more on the edges. The expected values are worked out by hand from the
+//! documents.
 
 use second_checker::example::{example, role_file, EXAMPLE, TWO_MAKERS};
 use second_checker::{check, report, Level, Outcome};
@@ -88,10 +89,9 @@ fn user_1_cleared_to_1() {
 #[test]
 fn role_2_writing_card_1_too() {
     let writing = example().replace("P 2 2 2", "P 2 1 2\nP 2 2 2");
-    refused(&writing, 16, [1, 2]);
-    // The w-level is 1, as it shows with a user cleared to 1.
-    let cleared = writing.replace("U 1 2", "U 1 1");
-    assert_eq!(levels(&cleared, 2), (Level::Label(1), Level::Label(1)));
+    let report = "V 0 0 0\nR 1 1 0\nR 2 1 1\nF 2 1\nC 0";
+    printed(&writing, report);
+    printed(&writing.replace("U 1 2", "U 1 1"), report);
 }
 
 #[test]
@@ -124,20 +124,27 @@ fn reading_at_two_labels_under_a_third() {
     printed(THREE_LABELS, "V 0 0 0\nR 1 3 0\nC 0");
 }
 
+/// Labels 2 and 3 above 1 and below 4; cards 1, 2, 3, 4 at labels 1, 2, 3, 4.
+const DIAMOND: &str = "H 4 1 1 4
+    D 2 1
+    D 3 1
+    D 4 2
+    D 4 3
+    U 1 2
+    O 1 1
+    O 2 2
+    O 3 3
+    O 4 4
+";
+
 #[test]
 fn writing_at_two_labels_over_a_fourth() {
-    let diamond = "H 4 1 1 2
-        D 2 1
-        D 3 1
-        D 4 2
-        D 4 3
-        U 1 1
-        O 1 2
-        O 2 3
-        P 1 1 2
-        P 1 2 2
-        A 1 1";
-    printed(diamond, "V 0 0 0\nR 1 0 1\nC 0");
+    let writing = format!("{DIAMOND}P 1 2 2\nP 1 3 2\nA 1 1");
+    let report = "V 0 0 0\nR 1 0 1\nC 0";
+    printed(&writing.replace("U 1 2", "U 1 1"), report);
+    // A user cleared higher takes the role at label 1.
+    printed(&writing, report);
+    printed(&writing.replace("U 1 2", "U 1 4"), report);
 }
 
 #[test]
@@ -509,12 +516,10 @@ fn assignments_in_file_order() {
     refused(&format!("{roles}A 1 1\nA 1 3"), 15, [1, 1]);
     refused(&format!("{roles}A 1 3\nA 2 2"), 14, [1, 3]);
     refused(&format!("{roles}A 1 2\nA 2 1\nA 2 2"), 16, [2, 2]);
-    refused(
-        &format!("{roles}A 1 2\nA 2 1\nA 3 1\nA 3 2\nA 3 3"),
-        16,
-        [3, 2],
-    );
-    refused(&format!("{roles}A 1 2\nA 2 1\nA 3 1\nA 3 3"), 14, [3, 3]);
+    refused(&format!("{roles}A 2 2\nA 3 3"), 16, [2, 2]);
+    // At label 1 user 3 writes card 1.
+    accepted(&format!("{roles}A 1 2\nA 2 1\nA 3 1\nA 3 2"));
+    refused(&format!("{roles}A 1 2\nA 2 1\nA 3 2\nA 3 3"), 14, [3, 3]);
 }
 
 #[test]
@@ -527,8 +532,95 @@ fn numbers_14_to_16_within_an_assignment() {
     refused(&both, 15, [2, 1]);
     refused(&both.replace("A 2 1", "A 3 1"), 16, [3, 1]);
     refused(&both.replace("A 2 1", "A 1 1"), 15, [1, 1]);
-    // Neither above nor below: user 2 and a role that writes card 1.
-    refused(&format!("{WORKSHOP}P 1 1 2\nA 2 1"), 16, [2, 1]);
+}
+
+// ---------------------------------------------------------------------------
+// Number 16: "no label dominated by the clearance lies at or above the r-level
+// and at or below the w-level, free levels passing"
+
+#[test]
+fn reading_above_and_writing_below() {
+    let two_labels = "H 2 1 1 2
+        D 2 1
+        U 1 2
+        O 1 1
+        O 2 2
+        P 1 1 2
+        P 1 2 1
+        A 1 1";
+    refused(two_labels, 16, [1, 1]);
+    // The read alone serves at label 2, the write alone at label 1.
+    printed(&two_labels.replace("P 1 1 2", ""), "V 0 0 0\nR 1 2 0\nC 0");
+    printed(&two_labels.replace("P 1 2 1", ""), "V 0 0 0\nR 1 0 1\nC 0");
+}
+
+#[test]
+fn reading_and_writing_side_by_side() {
+    // Role 1 reads card 1 and writes card 2; user 3 is cleared over both.
+    refused(&format!("{WORKSHOP}P 1 1 1\nP 1 2 2\nA 3 1"), 16, [3, 1]);
+    refused(&format!("{DIAMOND}P 1 2 1\nP 1 3 2\nA 1 1"), 16, [1, 1]);
+}
+
+#[test]
+fn only_writing_beside_the_clearance() {
+    // Labels 1 and 2 have none below both.
+    let beside = "H 3 1 1 1
+        D 3 1
+        D 3 2
+        U 1 1
+        O 1 2
+        P 1 1 2
+        A 1 1";
+    refused(beside, 16, [1, 1]);
+    // Label 2 serves a user cleared to 2 or to 3.
+    for cleared in ["U 1 2", "U 1 3"] {
+        let report = "V 0 0 0\nR 1 0 2\nC 0";
+        printed(&beside.replace("U 1 1", cleared), report);
+    }
+    // In the diamond label 1 is below both, and serves a read there too.
+    printed(&format!("{DIAMOND}P 1 3 2\nA 1 1"), "V 0 0 0\nR 1 0 3\nC 0");
+    printed(
+        &format!("{DIAMOND}P 1 1 1\nP 1 3 2\nA 1 1"),
+        "V 0 0 0\nR 1 1 3\nC 0",
+    );
+}
+
+#[test]
+fn a_label_below_the_clearance_and_above_the_lowest() {
+    // 4 over 3 over 2 over 1; the role reads at 2 and writes at 3, and the user
+    // is cleared to 4: labels 2 and 3 serve.
+    let chain = "H 4 1 1 2
+        D 2 1
+        D 3 2
+        D 4 3
+        U 1 4
+        O 1 2
+        O 2 3
+        P 1 1 1
+        P 1 2 2
+        A 1 1";
+    printed(chain, "V 0 0 0\nR 1 2 3\nC 0");
+    // Label 2 alone, then none.
+    printed(&chain.replace("O 2 3", "O 2 2"), "V 0 0 0\nR 1 2 2\nC 0");
+    refused(&chain.replace("O 2 3", "O 2 1"), 16, [1, 1]);
+    refused(&chain.replace("U 1 4", "U 1 1"), 15, [1, 1]);
+}
+
+#[test]
+fn a_juniors_write_bars_a_seniors_read() {
+    // Role 1 writes card 1, its senior role 2 reads card 2.
+    let layers = "H 2 2 1 2
+        D 2 1
+        S 2 1
+        U 1 2
+        O 1 1
+        O 2 2
+        P 1 1 2
+        P 2 2 1
+        A 1 2";
+    refused(layers, 16, [1, 2]);
+    let junior = layers.replace("A 1 2", "A 1 1");
+    printed(&junior, "V 0 0 0\nR 1 0 1\nR 2 2 1\nC 0");
 }
 
 #[test]
