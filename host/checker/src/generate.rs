@@ -139,9 +139,17 @@ fn small_size(random: &mut Random) -> Size {
 mod tests {
     use super::orders::label_order;
     use super::*;
-    use crate::check::{check, REFUSALS};
-    use crate::line::MOST_BYTES;
+    use crate::check::{check, read, Level, Meaning, Outcome, REFUSALS, WRITE};
+    use crate::line::{has_assignments, MOST_BYTES};
     use crate::order::{lowest_on_circle, Order};
+
+    /// The assignments of an accepted file whose role is for low sessions alone.
+    fn low_assignments(bytes: &[u8]) -> Vec<(usize, usize)> {
+        match check(bytes) {
+            Outcome::Accepted(accepted) => accepted.low,
+            Outcome::Refused(_) => Vec::new(),
+        }
+    }
 
     #[test]
     fn accepted_files_are_accepted() {
@@ -170,6 +178,60 @@ mod tests {
             assert_eq!(bytes.len(), MOST_BYTES);
             assert_eq!(check(&bytes).number(), 0);
         }
+    }
+
+    /// Of each size a tenth of the files with assignments, some by the writes of
+    /// juniors alone.
+    #[test]
+    fn roles_for_low_sessions_in_every_size() {
+        for size in [Size::Tiny, Size::Small, Size::Middle, Size::Large] {
+            let (mut assigning, mut low, mut by_juniors) = (0, 0, 0);
+            for seed in 0..200 {
+                let file = accepted(&mut Random::new(seed), size);
+                let found = low_assignments(&write(&file));
+                let writes = |role| {
+                    file.permissions
+                        .iter()
+                        .any(|line| (line.0, line.2) == (role, WRITE))
+                };
+                assigning += usize::from(!file.assignments.is_empty());
+                low += usize::from(!found.is_empty());
+                by_juniors += usize::from(found.iter().any(|&(_, role)| !writes(role)));
+            }
+            let seen = format!("{size:?}: {low} of {assigning}, {by_juniors} by juniors");
+            assert!(low * 10 > assigning && by_juniors > 2, "{seen}");
+        }
+    }
+
+    #[test]
+    fn roles_for_low_sessions_in_a_run() {
+        let (mut assigning, mut low) = (0, 0);
+        for index in 0..500 {
+            let bytes = mixed(3, index);
+            let accepted = check(&bytes).number() == 0;
+            assigning += usize::from(accepted && has_assignments(&bytes));
+            low += usize::from(!low_assignments(&bytes).is_empty());
+        }
+        assert!(low * 10 > assigning, "{low} of {assigning}");
+    }
+
+    /// The r-level above the w-level, neither above the other, and a free
+    /// r-level.
+    #[test]
+    fn number_16_in_every_way() {
+        let mut ways = [0; 3];
+        for seed in 0..90 {
+            let bytes = bent_small(&mut Random::new(seed), 16);
+            let meaning = Meaning::of(&read(&bytes).expect("the form is good"));
+            let [_, role] = check(&bytes).place();
+            let way = match (meaning.read_level[role], meaning.write_level[role]) {
+                (Level::Label(r), Level::Label(w)) => usize::from(!meaning.dominance.over(r, w)),
+                (Level::Free, Level::Label(_)) => 2,
+                levels => panic!("seed {seed}: {levels:?}"),
+            };
+            ways[way] += 1;
+        }
+        assert!(ways.iter().all(|&files| files >= 9), "{ways:?}");
     }
 
     #[test]

@@ -31,6 +31,8 @@ pub struct Tally {
     files: usize,
     /// Of the accepted files.
     with_assignments: usize,
+    /// With a role for low sessions alone.
+    with_low: usize,
     with_flow: usize,
     with_circle: usize,
     with_undefined: usize,
@@ -47,6 +49,7 @@ impl Tally {
         if let Outcome::Accepted(accepted) = outcome {
             let undefined = |levels: &RoleLevels| levels.write_level == Level::Undefined;
             self.with_assignments += usize::from(has_assignments(file));
+            self.with_low += usize::from(!accepted.low.is_empty());
             self.with_flow += usize::from(!accepted.flows.is_empty());
             self.with_circle += usize::from(accepted.circle.is_some());
             self.with_undefined += usize::from(accepted.roles.iter().any(undefined));
@@ -62,16 +65,21 @@ impl Totals for Tally {
             *class += files;
         }
         self.with_assignments += other.with_assignments;
+        self.with_low += other.with_low;
         self.with_flow += other.with_flow;
         self.with_circle += other.with_circle;
         self.with_undefined += other.with_undefined;
     }
 
     fn unseen(&self) -> Vec<String> {
-        wanted()
+        let mut unseen: Vec<String> = wanted()
             .filter(|number| !self.numbers.contains_key(number))
             .map(|number| format!("number {number}"))
-            .collect()
+            .collect();
+        if self.with_low == 0 {
+            unseen.push("a role for low sessions alone".to_string());
+        }
+        unseen
     }
 
     /// The counts, a row for each number and for each size.
@@ -87,8 +95,13 @@ impl Totals for Tally {
             table.push_str(&format!("\n{name:<15} {files:>8}"));
         }
         table.push_str(&format!(
-            "\naccepted: {} with assignments, {} with role flow, {} with a circle, {} with an undefined w-level",
-            self.with_assignments, self.with_flow, self.with_circle, self.with_undefined
+            "\naccepted: {} with assignments, {} with a role for low sessions alone, \
+             {} with role flow, {} with a circle, {} with an undefined w-level",
+            self.with_assignments,
+            self.with_low,
+            self.with_flow,
+            self.with_circle,
+            self.with_undefined
         ));
         table
     }

@@ -33,6 +33,8 @@ pub fn accepted(random: &mut Random, size: Size) -> RoleFile {
             random.between(1, counts.labels)
         }
     });
+    let seniors = random.pick(&[0, 50, 100]);
+    clear_higher(random, &mut file, seniors);
 
     let room = most_lines.saturating_sub(lines_of(&file));
     let permissions = match size {
@@ -64,6 +66,19 @@ pub(super) fn add_labels(
     file.card_labels = (1..=file.counts.cards)
         .map(|card| (card, label(random)))
         .collect();
+}
+
+/// Clears so many percent of the users higher, so that they have roles for low
+/// sessions alone.
+fn clear_higher(random: &mut Random, file: &mut RoleFile, chance: usize) {
+    let dominance = Order::closure(file.counts.labels, &file.dominance);
+    for (_, clearance) in &mut file.clearances {
+        if random.percent(chance) {
+            let mut above: Vec<usize> = dominance.things().collect();
+            above.retain(|&label| dominance.over(label, *clearance));
+            *clearance = random.pick(&above);
+        }
+    }
 }
 
 fn counts(random: &mut Random, size: Size) -> Counts {

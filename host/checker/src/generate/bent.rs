@@ -4,6 +4,7 @@ use super::form::{bend_lines, split};
 use super::{accepted, any_size, arrange, lines_of, small_size, write, Size, LIMITS};
 use crate::check::{check, Meaning, RoleFile, READ, WRITE};
 use crate::line::{LINE_LENGTH, MOST_BYTES, MOST_LINES};
+use crate::order::Order;
 use crate::random::Random;
 
 /// An accepted file with one rule broken, so that it gets this number.
@@ -217,7 +218,10 @@ fn bend_assignments(random: &mut Random, file: &mut RoleFile, number: usize) {
     if check(&write(file)).number() != 0 {
         return;
     }
-    bend_levels(random, file, number);
+    match number {
+        16 if random.percent(90) => part_levels(random, file),
+        _ => bend_levels(random, file, number),
+    }
     let meaning = Meaning::of(file);
     let assigned_with = |wanted: usize| {
         file.assignments
@@ -275,6 +279,40 @@ fn bend_levels(random: &mut Random, file: &mut RoleFile, number: usize) {
         }
         _ => {}
     }
+}
+
+/// Gives a role, by lines of its own or of its juniors, levels that no label
+/// lies between, or lets it write one card and read none: then perhaps no label
+/// lies below the w-level and a clearance.
+fn part_levels(random: &mut Random, file: &mut RoleFile) {
+    let dominance = Order::closure(file.counts.labels, &file.dominance);
+    let seniority = Order::closure(file.counts.roles, &file.seniority);
+    let role = random.between(1, file.counts.roles);
+    let mut owners: Vec<usize> = seniority.things().collect();
+    owners.retain(|&owner| seniority.over(role, owner));
+    let (written, at) = random.pick(&file.card_labels);
+    let mut read = file.card_labels.clone();
+    // The rarer a way succeeds, the more turns it has.
+    let way = random.below(10);
+    match way {
+        // Above what is written.
+        0 => read.retain(|&(_, label)| label != at && dominance.over(label, at)),
+        // Neither above nor below it.
+        1..=3 => {
+            read.retain(|&(_, label)| !dominance.over(label, at) && !dominance.over(at, label))
+        }
+        _ => read.clear(),
+    }
+    if way > 0 {
+        file.permissions.retain(|line| !owners.contains(&line.0));
+    }
+    if !read.is_empty() {
+        let card = random.pick(&read).0;
+        file.permissions.push((random.pick(&owners), card, READ));
+    }
+    file.permissions
+        .push((random.pick(&owners), written, WRITE));
+    arrange(file);
 }
 
 /// The assignments that would get this number; 0 are the good ones.
