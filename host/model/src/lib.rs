@@ -343,16 +343,11 @@ impl Model {
         match Policy::of(file) {
             Err(refusal) => refusal,
             Ok(policy) => {
-                self.begin(policy);
+                self.policy = Some(Rc::new(policy));
+                self.places = vec![None; PLACES];
                 Verdict::default()
             }
         }
-    }
-
-    /// The state after a load.
-    pub fn begin(&mut self, policy: Policy) {
-        self.policy = Some(Rc::new(policy));
-        self.places = vec![None; PLACES];
     }
 
     pub fn open(&mut self, state_length: usize, place: u64, user: u64, label: u64) -> u64 {

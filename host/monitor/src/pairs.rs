@@ -43,9 +43,7 @@ impl Run {
 }
 
 pub struct Pair {
-    /// The file; before it, in some pairs, the same one with assignments more
-    /// that should be refused. The first one that loads is used.
-    pub files: Vec<Vec<u8>>,
+    pub file: Vec<u8>,
     /// How many cards it has.
     pub cards: usize,
     /// The bytes of the stores that are of cards under L.
@@ -57,16 +55,11 @@ impl Pair {
     /// Pair `index` of this seed.
     pub fn new(seed: u64, index: u64) -> Pair {
         let random = &mut Random::for_file(seed, index);
-        let good = rich::accepted_file(random);
-        let bent = if random.percent(15) {
-            rich::with_low_writers(random, &good)
-        } else {
-            None
-        };
-        let label = random.between(1, good.counts.labels);
-        let labels = Labels::of(&good);
-        let calls = two_lists(random, &labels, label, bent.as_ref().unwrap_or(&good));
-        let length = store_length(random, CARD_BYTES * good.counts.cards);
+        let file = rich::accepted_file(random);
+        let label = random.between(1, file.counts.labels);
+        let labels = Labels::of(&file);
+        let calls = two_lists(random, &labels, label, &file);
+        let length = store_length(random, CARD_BYTES * file.counts.cards);
         let under = labels.bytes_under(label, length);
         let mut stores = two_stores(random, length, &under).into_iter();
         let runs = calls.map(|calls| Run {
@@ -74,10 +67,9 @@ impl Pair {
             calls,
             store: stores.next().expect("a store for each run"),
         });
-        let files = bent.iter().chain([&good]).map(write).collect();
         Pair {
-            files,
-            cards: good.counts.cards,
+            file: write(&file),
+            cards: file.counts.cards,
             under,
             runs,
         }

@@ -27,12 +27,11 @@ pub fn compare<M: Monitor>(pair: &Pair, monitors: [M; 2], tally: &mut Tally) -> 
     tally.stores_differ += u64::from(one.store != other.store);
     tally.short_stores += u64::from(one.store.len() < CARD_BYTES * pair.cards);
     let [mut first, mut second] = monitors;
-    let loaded = [
-        load(pair, &mut first, tally)?,
-        load(pair, &mut second, tally)?,
-    ];
-    if loaded[0] != loaded[1] {
-        return Err("one load is refused".to_string());
+    for monitor in [&mut first, &mut second] {
+        let file = pair.file.clone();
+        if monitor.number(&Call::Load { file }, &mut []) != 0 {
+            return Err("a good file is refused".to_string());
+        }
     }
     let (shown, end) = show(pair, one, &mut first, tally);
     let (other_shown, other_end) = show(pair, other, &mut second, tally);
@@ -45,18 +44,6 @@ pub fn compare<M: Monitor>(pair: &Pair, monitors: [M; 2], tally: &mut Tally) -> 
         return Err("the cards under L differ at the end".to_string());
     }
     Ok(())
-}
-
-/// Loads the first of the files that is accepted; tells which.
-fn load(pair: &Pair, monitor: &mut impl Monitor, tally: &mut Tally) -> Result<usize, String> {
-    for (index, file) in pair.files.iter().enumerate() {
-        let file = file.clone();
-        if monitor.number(&Call::Load { file }, &mut []) == 0 {
-            return Ok(index);
-        }
-        tally.loads_refused += 1;
-    }
-    Err("a good file is refused".to_string())
 }
 
 /// Makes the calls of a run. What each shared one shows, and the cards under L

@@ -1,11 +1,8 @@
-//! Deliberately leaky copies of the model, which the pairs must tell from it.
+//! Deliberately leaky copies of the model, which the pairs must tell from it,
+//! and the lists too.
 //!
-//! Two that might be expected here leak nothing, so no pair can show them:
-//! - Taking without the w-level: in an accepted file the w-level of an assigned
-//!   role, and so the label of every card that it or a junior writes, dominates
-//!   the clearance, which dominates the session's label. It leaks together with
-//!   a load that passes number 16: `WriteLevel`.
-//! - Taking without membership: the levels alone keep labels apart.
+//! One that might be expected here leaks nothing, so no pair can show it: taking
+//! without membership, as the levels alone keep labels apart.
 
 use super::compare::compare;
 use super::monitor::Monitor;
@@ -13,12 +10,11 @@ use super::tally::Tally;
 use super::Pair;
 use crate::call::Call;
 use monitor_model::{Model, Part, Policy, Session, CARD_BYTES, STATE_BYTES};
-use second_checker::check::read;
 use std::collections::{BTreeMap, BTreeSet};
 
 #[derive(Clone, Copy, Debug, PartialEq, Eq)]
 pub enum Leak {
-    /// Neither the load nor taking tests a w-level.
+    /// Taking leaves the w-level untested.
     WriteLevel,
     /// Taking compares the clearance where the session's label is meant.
     Clearance,
@@ -50,7 +46,7 @@ impl Leak {
 }
 
 /// A copy of the model with one leak.
-struct Leaky {
+pub struct Leaky {
     leak: Leak,
     model: Model,
     /// Roles that the next session at a place begins with.
@@ -61,7 +57,6 @@ impl Monitor for Leaky {
     fn number(&mut self, call: &Call, store: &mut [u8]) -> u64 {
         let number = call.number_on_model(&self.model, STATE_BYTES, store.len());
         match (self.leak, call, number) {
-            (Leak::WriteLevel, Call::Load { file }, _) => self.load(file),
             (Leak::WriteLevel, &Call::Take { place, role }, 28) => {
                 self.take(place, role, |policy, role, session| {
                     policy.meaning.read_level_allows(role, session.label)
@@ -89,23 +84,12 @@ impl Monitor for Leaky {
 }
 
 impl Leaky {
-    fn new(leak: Leak) -> Leaky {
+    pub fn new(leak: Leak) -> Leaky {
         Leaky {
             leak,
             model: Model::default(),
             waiting: BTreeMap::new(),
         }
-    }
-
-    /// A load that passes assignments with number 16.
-    fn load(&mut self, file: &[u8]) -> u64 {
-        let number = self.model.load(file, STATE_BYTES).number;
-        if number != 16 {
-            return number;
-        }
-        let role_file = read(file).expect("a file with number 16 has its form");
-        self.model.begin(Policy::unchecked(&role_file));
-        0
     }
 
     /// Taking a role that its levels forbid, where another test lets it pass.

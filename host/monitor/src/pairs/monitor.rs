@@ -1,4 +1,4 @@
-//! What the pairs are run on.
+//! What the pairs are run on, and the lists for leaky copies of the model.
 
 use crate::call::Call;
 use crate::lent::Lent;
@@ -7,8 +7,7 @@ use second_checker::random::Random;
 
 /// A monitor with a state of its own.
 pub trait Monitor {
-    /// Makes a load, an opening, a closing, a taking, a dropping, a read or a
-    /// write on this store. Answers its number.
+    /// Makes a call on this store. Answers its number.
     fn number(&mut self, call: &Call, store: &mut [u8]) -> u64;
 }
 

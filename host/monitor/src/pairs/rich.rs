@@ -29,20 +29,6 @@ pub fn accepted_file(random: &mut Random) -> RoleFile {
     file
 }
 
-/// The file with assignments more, of roles that write below the user's
-/// clearance, where there are such roles. It gets number 16.
-pub fn with_low_writers(random: &mut Random, file: &RoleFile) -> Option<RoleFile> {
-    let mut low_writers = assignments_with(file, 16);
-    low_writers.retain(|_| random.percent(30));
-    if low_writers.is_empty() {
-        return None;
-    }
-    let mut bent = file.clone();
-    bent.assignments.extend(low_writers);
-    bent.assignments.sort_unstable();
-    Some(bent)
-}
-
 /// A label is a degree and a set of makers, who are rivals: neither's label
 /// dominates the other's. Its D lines lead to one degree less or to one maker
 /// less. The labels' numbers are shuffled.

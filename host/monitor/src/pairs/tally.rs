@@ -12,8 +12,6 @@ pub struct Tally {
     pub stores_differ: u64,
     /// Pairs whose stores are too short for the cards.
     pub short_stores: u64,
-    /// Loads that were refused for a role that writes below a clearance.
-    pub loads_refused: u64,
     /// Calls in both runs, by whether they are shared.
     calls: BTreeMap<bool, u64>,
     granted: BTreeMap<(bool, Kind), u64>,
@@ -41,12 +39,8 @@ impl Tally {
     pub fn table(&self) -> String {
         let mut table = format!(
             "{} pairs of runs: {} with calls that differed, {} with stores that differed, \
-             {} with short stores; {} files with number 16 refused",
-            self.pairs,
-            self.calls_differ,
-            self.stores_differ,
-            self.short_stores,
-            self.loads_refused
+             {} with short stores",
+            self.pairs, self.calls_differ, self.stores_differ, self.short_stores
         );
         for (name, shared) in [("shared", true), ("unshared", false)] {
             let calls = self.calls(shared);
