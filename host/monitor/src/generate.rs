@@ -385,15 +385,22 @@ fn label(random: &mut Random, policy: &Policy, user: u64, wish: u64) -> u64 {
         return wild_number(random, policy.counts.labels);
     }
     if wish == 0 && (1..=policy.counts.users as u64).contains(&user) {
-        let clearance = policy.meaning.clearance[user as usize];
-        // There every role assigned can be taken.
-        if random.percent(40) {
-            return clearance as u64;
-        }
-        let dominated: Vec<usize> = policy.labels_to_open(user as usize).collect();
-        return random.pick(&dominated) as u64;
+        return label_to_open(random, policy, user as usize) as u64;
     }
     number(random, policy.counts.labels)
+}
+
+/// A label that the user's clearance dominates: the clearance itself, any, or
+/// one at which a role can be taken.
+fn label_to_open(random: &mut Random, policy: &Policy, user: usize) -> usize {
+    let dominated: Vec<usize> = policy.labels_to_open(user).collect();
+    let mut serving = dominated.clone();
+    serving.retain(|&label| policy.roles_to_take(user, label).next().is_some());
+    match random.below(10) {
+        0..=2 => policy.meaning.clearance[user],
+        3..=5 if !serving.is_empty() => random.pick(&serving),
+        _ => random.pick(&dominated),
+    }
 }
 
 /// A role for which taking it at this place gets the number wished for.

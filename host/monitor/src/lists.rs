@@ -5,9 +5,11 @@ use crate::generate::{accepted_file, reading, Caller, Lending, LentState};
 use crate::lent::Lent;
 use crate::library;
 use crate::outcome::Seen;
+use crate::pairs::monitor::Monitor;
 use monitor_model::{Model, CARD_BYTES, PLACES, STATE_BYTES};
 use second_checker::check::Counts;
 use second_checker::differential::Totals;
+use second_checker::generate::LIMITS;
 use second_checker::random::Random;
 
 /// How many calls a list has, its first load included.
@@ -22,19 +24,45 @@ const WANTED: [u64; 13] = [0, 7, 21, 22, 23, 24, 25, 26, 27, 28, 29, 30, 31];
 pub struct Tally {
     seen: Seen,
     lists: u64,
+    /// Takings of roles for low sessions alone, done.
+    pub low_taken: u64,
+    /// Takings that a w-level alone forbids.
+    pub write_level_forbids: u64,
     /// Calls made to look at a state from outside, not counted above.
     surveyed: u64,
+}
+
+impl Tally {
+    /// Counts a call that got this number on what the model holds.
+    fn count(&mut self, call: &Call, answer: Answer, model: &Model) {
+        self.seen.count(call.kind(), answer);
+        let (&Call::Take { place, role }, 0 | 28) = (call, answer.number()) else {
+            return;
+        };
+        let policy = model.policy().expect("a loaded file");
+        let session = model.session(place as usize).expect("an open place");
+        let role = role as usize;
+        if answer.number() == 28 {
+            let reads = policy.meaning.read_level_allows(role, session.label);
+            self.write_level_forbids += u64::from(reads);
+        } else {
+            self.low_taken += u64::from(policy.meaning.is_low(session.user, role));
+        }
+    }
 }
 
 impl Totals for Tally {
     fn add(&mut self, other: Tally) {
         self.seen.add(other.seen);
         self.lists += other.lists;
+        self.low_taken += other.low_taken;
+        self.write_level_forbids += other.write_level_forbids;
         self.surveyed += other.surveyed;
     }
 
     /// Of each number that must be seen, of each number of each call but a load's
-    /// numbers about the file, and of all that reports and review calls tell.
+    /// numbers about the file, of all that reports and review calls tell, and of
+    /// what a w-level does to takings.
     fn unseen(&self) -> Vec<String> {
         let mut unseen: Vec<String> = WANTED
             .into_iter()
@@ -49,17 +77,26 @@ impl Totals for Tally {
             }
         }
         unseen.extend(self.seen.rarely_told(&Kind::ALL, 1));
+        if self.low_taken == 0 {
+            unseen.push("a role for low sessions alone taken".to_string());
+        }
+        if self.write_level_forbids == 0 {
+            unseen.push("a taking that a w-level alone forbids".to_string());
+        }
         unseen
     }
 
     /// The counts, a row for each number and a column for each call.
     fn table(&self) -> String {
         format!(
-            "library: {}\n{} lists, {} calls, {} more to survey states\n{}\n{}{}",
+            "library: {}\n{} lists, {} calls, {} more to survey states\n\
+             {} roles for low sessions alone taken, {} takings that a w-level alone forbids\n{}\n{}{}",
             library::UNDER_TEST,
             self.lists,
             self.seen.numbers.values().sum::<u64>(),
             self.surveyed,
+            self.low_taken,
+            self.write_level_forbids,
             self.seen.columns(&Kind::ALL[..10]),
             self.seen.columns(Kind::reviews()),
             self.seen.lines(),
@@ -105,6 +142,32 @@ pub fn run(
     }
     tally.lists += 1;
     Ok(())
+}
+
+/// The first call of list `index`, later loads left out, to which a monitor in
+/// the library's place gives another number than the model.
+pub fn told_apart(seed: u64, index: u64, monitor: &mut impl Monitor) -> Option<Call> {
+    let random = &mut Random::for_file(seed, index);
+    let mut model = Model::default();
+    let file = accepted_file(random);
+    let load = Call::Load { file };
+    if monitor.number(&load, &mut []) != load.on_model(&mut model, STATE_BYTES, &mut []).number() {
+        return Some(load);
+    }
+    let caller = Caller::new(random);
+    let length = CARD_BYTES * LIMITS[3];
+    let (mut store, mut copy) = (vec![0; length], vec![0; length]);
+    for _ in 2..=CALLS {
+        let (call, lending) = caller.next(random, &model, length);
+        if lending.state != LentState::Whole || call.kind() == Kind::Load {
+            continue;
+        }
+        let expected = call.on_model(&mut model, STATE_BYTES, &mut store[..lending.store]);
+        if monitor.number(&call, &mut copy[..lending.store]) != expected.number() {
+            return Some(call);
+        }
+    }
+    None
 }
 
 impl List {
@@ -158,13 +221,12 @@ impl List {
         let expected = self.expect(&call, lending);
         let answer = self.ask(&call, lending, random)?;
         trace(&format!("{call}, lent {lending:?}: {answer:?}"));
-        tally.seen.count(call.kind(), answer);
-
         if answer != expected {
             return Err(format!(
                 "{call}, lent {lending:?}: expected {expected:?}, got {answer:?}"
             ));
         }
+        tally.count(&call, answer, &self.model);
         self.compare_buffers(&call, answer.number(), &state_before)
             .map_err(|what| format!("{call}, lent {lending:?}: {answer:?}: {what}"))?;
         self.apply(&call, lending);

@@ -6,15 +6,15 @@ use monitor_tests::lent::Lent;
 use monitor_tests::library::{self, Verdict};
 use monitor_tests::lists::first_difference;
 use monitor_tests::loaded::Loaded;
-use second_checker::check::REFUSALS;
-use second_checker::differential::show;
+use second_checker::check::{check, REFUSALS};
+use second_checker::differential::{show, Totals};
 use second_checker::example::EXAMPLE;
 use second_checker::generate::{
     accepted, bent, loose, mixed, one_wrong_byte, stacked, torn, write, Size,
 };
 use second_checker::line::LINE_LENGTH;
 use second_checker::random::Random;
-use std::collections::BTreeMap;
+use second_checker::tally::Tally;
 
 /// A state with the example loaded and every place open.
 fn busy_state() -> Vec<u8> {
@@ -76,26 +76,24 @@ fn state_before(random: &mut Random, busy: &[u8]) -> Vec<u8> {
     state
 }
 
-/// Files of every kind; each number about a file must have been seen.
+/// Files of every kind; all that a run of files must see must have been seen.
 #[test]
 fn files_of_every_kind() {
     let busy = busy_state();
-    let mut seen: BTreeMap<u64, u64> = BTreeMap::new();
-    let mut count = |verdict: Verdict| *seen.entry(verdict.number).or_default() += 1;
-    for index in 0..500 {
-        let random = &mut Random::for_file(7, index);
-        let file = mixed(7, index);
+    let mut tally = Tally::default();
+    let mut number_of = |file: &[u8], random: &mut Random| {
         let before = state_before(random, &busy);
-        count(load(&file, &before, random));
+        tally.count(file, &check(file));
+        load(file, &before, random).number
+    };
+    for index in 0..500 {
+        number_of(&mixed(7, index), &mut Random::for_file(7, index));
     }
     for index in 0..25 {
         let random = &mut Random::for_file(8, index);
         for &number in &REFUSALS[1..] {
             let file = bent(random, number);
-            let before = state_before(random, &busy);
-            let verdict = load(&file, &before, random);
-            assert_eq!(verdict.number, number as u64);
-            count(verdict);
+            assert_eq!(number_of(&file, random), number as u64);
         }
         for file in [
             torn(random),
@@ -107,17 +105,15 @@ fn files_of_every_kind() {
             accepted_file(random),
             accepted_file(random),
         ] {
-            let before = state_before(random, &busy);
-            count(load(&file, &before, random));
+            number_of(&file, random);
         }
     }
-    show(&format!("loads ({}): {seen:?}", library::UNDER_TEST));
-    for number in [0].into_iter().chain(REFUSALS) {
-        assert!(
-            seen.contains_key(&(number as u64)),
-            "number {number} never seen"
-        );
-    }
+    show(&format!(
+        "loads ({}): {}",
+        library::UNDER_TEST,
+        tally.table()
+    ));
+    assert_eq!(tally.unseen(), Vec::<String>::new(), "never seen");
 }
 
 /// A file cut at every byte, and its first bytes after a good load.

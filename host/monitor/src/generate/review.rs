@@ -1,6 +1,6 @@
 //! Review calls, most of them about what the file says.
 
-use super::{held, label, mode, number, some, user, wild_number};
+use super::{held, label, label_to_open, mode, number, some, user, wild_number};
 use crate::call::Kind;
 use crate::review::Review;
 use monitor_model::review::halves;
@@ -169,8 +169,8 @@ fn set_of_roles(random: &mut Random, model: &Model, policy: &Policy, place: u64)
         }
         1 => match some(random, &policy.assigned) {
             Some((user, _)) => {
-                let clearance = policy.meaning.clearance[user];
-                halves(&policy.roles_to_take(user, clearance).collect())
+                let label = label_to_open(random, policy, user);
+                halves(&policy.roles_to_take(user, label).collect())
             }
             None => (0, 0),
         },
