@@ -93,6 +93,7 @@ pub const ALL: &[Wrong] = &[
     ),
     wrong(Kind::Takable, "assigned roles alone", takable_assigned),
     wrong(Kind::Takable, "levels not asked", takable_levels),
+    wrong(Kind::Takable, "w-level not asked", takable_write_level),
     wrong(Kind::Gives, "roles above 64 lost", gives_high_lost),
     wrong(Kind::Gives, "modes exchanged", gives_modes),
     wrong(Kind::Gives, "bits past the roles count", gives_past),
@@ -280,6 +281,12 @@ fn takable_assigned(asked: &Asked, answer: Answer) -> Answer {
 fn takable_levels(asked: &Asked, answer: Answer) -> Answer {
     takable_by(asked, answer, |policy, user, _, role| {
         policy.is_member(user, role)
+    })
+}
+
+fn takable_write_level(asked: &Asked, answer: Answer) -> Answer {
+    takable_by(asked, answer, |policy, user, label, role| {
+        policy.is_member(user, role) && policy.meaning.read_level_allows(role, label)
     })
 }
 

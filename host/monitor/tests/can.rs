@@ -6,7 +6,7 @@ use monitor_tests::generate::{accepted_file, number, wild_number};
 use monitor_tests::library::{self, Figure};
 use monitor_tests::loaded::Loaded;
 use second_checker::differential::show;
-use second_checker::example::EXAMPLE;
+use second_checker::example::{example, role_file, EXAMPLE};
 use second_checker::random::Random;
 
 const FILES: u64 = 60;
@@ -206,17 +206,32 @@ fn can_agrees_with_the_model() {
     assert!(seen.number_25 > 2_000 && seen.number_26 > 2_000, "{seen:?}");
 }
 
+/// What user 1 can at label 1 and at label 2 of a file: read card 1, write it, read
+/// card 2, write it.
+fn can_at_each_label(file: &[u8]) -> [[u64; 4]; 2] {
+    let mut loaded = Loaded::new(file);
+    [1, 2].map(|label| {
+        [(1, 1), (1, 2), (2, 1), (2, 2)].map(|(card, mode)| {
+            let answer = library::can(&mut loaded.state, 1, label, card, mode);
+            assert_eq!(answer.number, 0, "label {label} card {card} mode {mode}");
+            answer.figure
+        })
+    })
+}
+
 /// The document's example, by hand: role 2 has r-level 1 and w-level 2.
 #[test]
 fn the_example() {
-    let mut loaded = Loaded::new(EXAMPLE.as_bytes());
-    for label in [1, 2] {
-        for (card, mode, figure) in [(1, 1, 1), (1, 2, 0), (2, 1, 0), (2, 2, 1)] {
-            let answer = library::can(&mut loaded.state, 1, label, card, mode);
-            let expected = Figure { number: 0, figure };
-            assert_eq!(answer, expected, "label {label} card {card} mode {mode}");
-        }
-    }
+    assert_eq!(can_at_each_label(EXAMPLE.as_bytes()), [[1, 0, 0, 1]; 2]);
+}
+
+/// Role 2 writing card 1 too, by hand: its w-level is 1, so that at label 2 the
+/// user has role 1 alone.
+#[test]
+fn a_role_for_low_sessions() {
+    let text = example().replace("P 2 2 2", "P 2 1 2\nP 2 2 2");
+    let can = can_at_each_label(&role_file(&text));
+    assert_eq!(can, [[1, 1, 0, 1], [1, 0, 0, 0]]);
 }
 
 // ---------------------------------------------------------------------------

@@ -1,5 +1,5 @@
-//! Document 01's cases about sessions, worked out by hand, on the library and
-//! on the model alike.
+//! Document 01's cases about sessions and document 02's senior reviewer, worked
+//! out by hand, on the library and on the model alike.
 
 use monitor_model::{Model, STATE_BYTES};
 use monitor_tests::call::{Answer, Call};
@@ -162,6 +162,54 @@ fn the_label_and_not_the_clearance() {
     both.open(1, 1, 2, 0);
     both.take(1, 1, 0);
     both.read(1, 2, (0, 64), 0);
+}
+
+/// "A reviewer with a high clearance opens a low session to correct a published
+/// card": role 2 writes card 1 too, so that its w-level is 1.
+#[test]
+fn a_senior_reviewer_corrects_a_low_card() {
+    let text = example().replace("P 2 2 2", "P 2 1 2\nP 2 2 2");
+    let mut both = Both::loaded(&text, 2);
+    both.open(1, 1, 1, 0);
+    both.take(1, 2, 0);
+    both.write(1, 1, 0, b"valve", 0);
+    assert_eq!(both.store[..6], *b"valve.");
+    both.read(1, 1, (0, 5), 0);
+    both.write(1, 2, 0, b"valve", 0);
+    both.read(1, 2, (0, 5), 29);
+    // At her clearance she may only read card 1, by role 1.
+    both.open(2, 1, 2, 0);
+    both.take(2, 2, 28);
+    both.take(2, 1, 0);
+    both.read(2, 1, (0, 5), 0);
+    both.write(2, 1, 0, b"valve", 29);
+}
+
+/// Role 1 reads card 2 and its senior, role 2, writes card 1: no label serves.
+#[test]
+fn a_role_that_no_session_could_take() {
+    let text = example()
+        .replace("P 1 1 1", "P 1 2 1")
+        .replace("P 2 2 2", "P 2 1 2");
+    let mut both = Both::loaded(&text.replace("A 1 2", "A 1 1"), 2);
+    both.load(&text, [16, 1, 2]);
+    // Labels 1 and 2 under 3: a user cleared to 1, a role that writes at 2.
+    let beside = "H 3 1 1 1
+        D 3 1
+        D 3 2
+        U 1 1
+        O 1 2
+        P 1 1 2
+        A 1 1";
+    both.load(beside, [16, 1, 1]);
+    both.load(&beside.replace("U 1 1", "U 1 3"), [0, 0, 0]);
+    both.open(1, 1, 3, 0);
+    both.take(1, 1, 28);
+    both.open(2, 1, 1, 0);
+    both.take(2, 1, 28);
+    both.open(3, 1, 2, 0);
+    both.take(3, 1, 0);
+    both.write(3, 1, 0, b"valve", 0);
 }
 
 /// "27: neither the role nor a senior of it is assigned to the user"
