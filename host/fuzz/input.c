@@ -15,14 +15,15 @@ KNOWN(document)
 KNOWN(two_makers)
 KNOWN(reading_at_1_and_2)
 KNOWN(writing_at_2_and_3)
+KNOWN(writing_1_too)
 KNOWN(only_counts)
 
 static const struct {
     const uint8_t *start, *end;
 } known[] = {
     ENTRY(document),           ENTRY(reading_at_1_and_2),
-    ENTRY(writing_at_2_and_3), ENTRY(only_counts),
-    ENTRY(two_makers),
+    ENTRY(writing_at_2_and_3), ENTRY(writing_1_too),
+    ENTRY(only_counts),        ENTRY(two_makers),
 };
 
 enum { KNOWN_FILES = sizeof known / sizeof known[0], LARGE = 255 };
