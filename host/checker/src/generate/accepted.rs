@@ -26,15 +26,7 @@ pub fn accepted(random: &mut Random, size: Size) -> RoleFile {
         .map(|_| random.between(1, counts.labels))
         .collect();
     let stray = random.pick(&[0, 0, 2, 10, 40]);
-    add_labels(random, &mut file, |random| {
-        if random.percent(60) {
-            random.pick(&homes)
-        } else {
-            random.between(1, counts.labels)
-        }
-    });
-    let seniors = random.pick(&[0, 50, 100]);
-    clear_higher(random, &mut file, seniors);
+    add_labels_near(random, &mut file, &homes);
 
     let room = most_lines.saturating_sub(lines_of(&file));
     let permissions = match size {
@@ -68,12 +60,21 @@ pub(super) fn add_labels(
         .collect();
 }
 
-/// Clears so many percent of the users higher, so that they have roles for low
-/// sessions alone.
-fn clear_higher(random: &mut Random, file: &mut RoleFile, chance: usize) {
-    let dominance = Order::closure(file.counts.labels, &file.dominance);
+/// U and O lines: most at the homes. In some files users are cleared higher, so
+/// that they have roles for low sessions alone.
+fn add_labels_near(random: &mut Random, file: &mut RoleFile, homes: &[usize]) {
+    let labels = file.counts.labels;
+    add_labels(random, file, |random| {
+        if random.percent(60) {
+            random.pick(homes)
+        } else {
+            random.between(1, labels)
+        }
+    });
+    let higher = random.pick(&[0, 50, 100]);
+    let dominance = Order::closure(labels, &file.dominance);
     for (_, clearance) in &mut file.clearances {
-        if random.percent(chance) {
+        if random.percent(higher) {
             let mut above: Vec<usize> = dominance.things().collect();
             above.retain(|&label| dominance.over(label, *clearance));
             *clearance = random.pick(&above);

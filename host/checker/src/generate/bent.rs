@@ -218,10 +218,7 @@ fn bend_assignments(random: &mut Random, file: &mut RoleFile, number: usize) {
     if check(&write(file)).number() != 0 {
         return;
     }
-    match number {
-        16 if random.percent(90) => part_levels(random, file),
-        _ => bend_levels(random, file, number),
-    }
+    bend_levels(random, file, number);
     let meaning = Meaning::of(file);
     let assigned_with = |wanted: usize| {
         file.assignments
@@ -256,6 +253,9 @@ fn bend_assignments(random: &mut Random, file: &mut RoleFile, number: usize) {
 /// Changes what an assignment is judged by, so that one may get this number.
 fn bend_levels(random: &mut Random, file: &mut RoleFile, number: usize) {
     let counts = file.counts;
+    if number == 16 && random.percent(90) {
+        return part_levels(random, file);
+    }
     match random.below(4) {
         // Another clearance for a user.
         0 => {
