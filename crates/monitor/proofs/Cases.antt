@@ -1,4 +1,4 @@
--- The definitions find of each case of `Cases` what the document does: one test, computed over the whole table, and one lemma. Assumes nothing.
+-- The definitions find of each case of `Cases` what it expects: one test, computed over the whole table, and one lemma. Assumes nothing.
 use mathlib.Core.Path.{_≡_, refl}
 use mathlib.Core.List.{List, _∷_, map, List·Memᴰ, List·Memᴰ·head, List·Memᴰ·tail}
 use Rattle.search.specs.Search.{some, every, first}

@@ -69,25 +69,27 @@ module _ (σ : Settings) (lawful : Lawful σ) (α : Relation) (u r : ℕ) where
       )
 
   module _ (user : Among (σ .users) u) (role : Among (σ .roles) r) where
-    module _ (inside : Inside (σ .labels) (σ .dominates)) (assigned : α u r ≡ true) where
+    module _ (assigned : α u r ≡ true) where
       entitled : entitledBy σ α u r ≡ true
       unfolding entitledBy
       entitled = some-both (α u) (λ q. σ .senior q r) (σ .roles) .1 (r, role, assigned, lawful .seniority .reflexive r role)
 
-      within-iff : WithinLevels σ u r ↔ CouldTake σ α u r
-      within-iff = (λ (y, s). take-at user role entitled y s, λ c. taken-at c .1)
+      -- some label serves an assignment exactly where the user could take its role in some session
+      pub serves-take-iff : WithinLevels σ u r ↔ CouldTake σ α u r
+      serves-take-iff = (λ (y, s). take-at user role entitled y s, λ c. taken-at c .1)
 
-      -- an assignment passes 14 to 16 exactly where the user could take its role in some session
-      pub assignable-iff : (assignVerdict σ u r .number ≡ 0) ↔ CouldTake σ α u r
-      assignable-iff = Iff·trans (decides-zero (assign-decides σ (lawful .dominance) inside u r)) within-iff
+      module _ (inside : Inside (σ .labels) (σ .dominates)) where
+        -- so an assignment passes 14 to 16 exactly where the user could
+        pub assignable-iff : (assignVerdict σ u r .number ≡ 0) ↔ CouldTake σ α u r
+        assignable-iff = Iff·trans (decides-zero (assign-decides σ (lawful .dominance) inside u r)) serves-take-iff
 
-      -- and one of the three refuses it exactly where the user could in none
-      pub refused-iff : ((n : ℕ) × AssignRefused σ u r n) ↔ (CouldTake σ α u r → ⊥)
-      refused-iff =
-          let d = assign-decides σ (lawful .dominance) inside u r in (
-            λ (n, b) c. d .bad (refusal n u r) (n, b, refl) .1 (rw (d .good (within-iff .1 c))),
-            λ none. ⊎-elim (λ w. absurd (none (within-iff .0 w))) (λ (n, b, e). (n, b)) (d .told),
-          )
+        -- and one of the three refuses it exactly where the user could in no session
+        pub refused-iff : ((n : ℕ) × AssignRefused σ u r n) ↔ (CouldTake σ α u r → ⊥)
+        refused-iff =
+            let d = assign-decides σ (lawful .dominance) inside u r in (
+              λ (n, b) c. d .bad (refusal n u r) (n, b, refl) .1 (rw (d .good (serves-take-iff .1 c))),
+              λ none. ⊎-elim (λ w. absurd (none (serves-take-iff .0 w))) (λ (n, b, e). (n, b)) (d .told),
+            )
 
     -- where every assignment passes, a role can be taken exactly where 27 does not bar it
     pub available-iff : AllWithinLevels σ α → (entitledBy σ α u r ≡ true) ↔ CouldTake σ α u r

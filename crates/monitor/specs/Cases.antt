@@ -208,7 +208,7 @@ cases =
           ∷ [];
       expected = record {
         verdict = fine;
-        rows = [];
+        rows = (1, 0, 2) ∷ [];
         circle = none;
         flows = [];
         calls = (opens 1 1 2, 0) ∷ (takes 1 1, 0) ∷ (opens 2 1 3, 0) ∷ (takes 2 1, 28) ∷ (opens 3 1 1, 0) ∷ (takes 3 1, 28) ∷ [];

@@ -1,5 +1,5 @@
 -- What a user could do at a label: whether some role that the user may take there gives a read or a write of a card. By the state's bytes, as `monitor_can` answers, and by the
--- settings. `can-answers` and `can-iff` under proofs/ tie the two, and the session calls. Assumes nothing.
+-- settings. `can-answers` and `can-iff` under proofs/ tie the two, and the session calls. And by the rules, whether a user can take a role in any session at all. Assumes nothing.
 use Prim.Native.Nat.{ℕ}
 use mathlib.Core.Path.{_≡_}
 use mathlib.Core.List.{List, []}
@@ -70,7 +70,8 @@ pub record CouldUse (m₀ : Memory) (p u l o m r : ℕ) : Type 0 where
 
 -- ---- by the rules: whether a user can take a role at all
 
--- after some calls a session of user u is open, at some place and label, and taking role r there is answered 0
+-- after some calls a session of user u is open, at some place and label, and taking role r there is answered 0. (No call changes the assignments, and the number of a taking does not
+-- depend on the store, hence size 0.)
 pub record CouldTake (σ : Settings) (α : Relation) (u r : ℕ) : Type 0 where
   pub calls : List Call
   pub place : ℕ

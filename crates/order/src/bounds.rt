@@ -188,7 +188,7 @@ pub struct Pair {
     pub higher: usize,
 }
 
-// The first pair among the first n things that has no least upper bound, in the order that was turned round.
+// The first pair among the first n things that has no least upper bound in an order, which is lent turned round.
 pub fn first_pair(up: Table, n: usize) -> Pair
     ensures { λ r. ⌜ FirstWithoutBound (min n 32) (converse (mark up)) (r .lower) (r .higher) ⌝ }
 {

@@ -1,4 +1,4 @@
--- A label that serves a user in a role serves the user in each of its juniors, and where the levels allow the clearance itself it serves. Assumes nothing.
+-- A label that serves a user in a role serves the user in each of its juniors, and a clearance that lies between the levels is itself a label that serves. Assumes nothing.
 use Prim.Native.Nat.{ℕ}
 use mathlib.Core.Path.{_≡_, refl}
 use mathlib.Core.Logic.{inl, inr, ⊎-elim}

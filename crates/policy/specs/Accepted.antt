@@ -42,14 +42,14 @@ WritesOver σ l r = Passing (σ .labels) (converse (σ .dominates)) (mayAt σ 2 
 abbrev pub NoWriteLevel : Settings → ℕ → Type 0
 NoWriteLevel σ r = UndefinedLevel (σ .labels) (converse (σ .dominates)) (mayAt σ 2 r)
 
--- label y is "dominated by the clearance" of user u and "lies at or above the r-level and at or below the w-level" of role r, "free levels passing"
+-- label y is "dominated by the clearance" of user u and "lies at or above the r-level and at or below the w-level" of role r, "free levels passing" (document 02, change 1)
 pub record Serves (σ : Settings) (u r y : ℕ) : Type 0 where
   pub label : Among (σ .labels) y
   pub cleared : σ .dominates (σ .clearance u) y ≡ true
   pub reads : ReadsUnder σ y r
   pub writes : WritesOver σ y r
 
--- document 02, change 1, for an A line: some label serves
+-- for an A line: some label serves
 abbrev pub WithinLevels : Settings → ℕ → ℕ → Type 0
 WithinLevels σ u r = (y : ℕ) × Serves σ u r y
 

@@ -39,8 +39,8 @@ that make it:
   11  the lines D of a circle
   12  the rival bounds of the two labels and their lines D, or that there is none
   13  the lines S of a circle
-  14 to 16  every assignment at fault: the clearance, the level (16: both), and
-      the cards, lines P and lines S that make it
+  14 to 16  every assignment at fault: the clearance, the level, for 16 both, and
+      the cards, lines P and lines S that make them
 
   --names LEGEND    names beside numbers
   --json            the same facts for programs, every list written out

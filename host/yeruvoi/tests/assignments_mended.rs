@@ -175,7 +175,7 @@ fn check_reason(file: &[u8], told: &Told, role_file: &RoleFile, seen: &mut Seen)
         }
         r_level => {
             let levels = format!("the w-level {w_level} does not dominate the r-level {r_level}");
-            assert!(reason.starts_with(&(levels + ": the role writes at label ")));
+            assert!(reason.starts_with(&(levels + ", which is not dominated by label ")));
             assert!(!dominance.over(w_level, r_level));
             seen.with_r_level += 1;
         }

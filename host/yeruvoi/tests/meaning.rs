@@ -118,7 +118,7 @@ fn a_w_level_that_does_not_dominate_the_r_level_is_told_with_both() {
             + "\
             \x20 line 11      A    1    2              user 1 is assigned to role 2\n\
             \x20 clearance    2\n\
-            \x20 because      the w-level 1 does not dominate the r-level 2: the role writes at label 1\n\
+            \x20 because      the w-level 1 does not dominate the r-level 2, which is not dominated by label 1, where the role writes\n\
             \x20 r-level      2, the least upper bound of\n\
             \x20   line 7       P    1    1    1         label 1: card 1 by junior role 1\n\
             \x20   line 8       P    1    2    1         label 2: card 2 by junior role 1\n\
@@ -134,7 +134,7 @@ fn a_w_level_that_does_not_dominate_the_r_level_is_told_with_both() {
             + "\
             \x20 line 13      A    1    1              user 1 is assigned to role 1\n\
             \x20 clearance    4\n\
-            \x20 because      the w-level 1 does not dominate the r-level 3: the role writes at label 1, label 2\n\
+            \x20 because      the w-level 1 does not dominate the r-level 3, which is not dominated by label 1, label 2, where the role writes\n\
             \x20 r-level      3, the least upper bound of\n\
             \x20   line 11      P    1    3    1         label 3: card 3\n\
             \x20 w-level      1, the greatest lower bound of\n\
@@ -207,7 +207,7 @@ fn every_assignment_at_fault_is_told() {
         \x20   line 5       S    3    2              role 3 is senior to role 2\n\
         \x20 line 17      A    2    3              16: user 2 is assigned to role 3\n\
         \x20 clearance    3\n\
-        \x20 because      the w-level 1 does not dominate the r-level 2: the role writes at label 1\n\
+        \x20 because      the w-level 1 does not dominate the r-level 2, which is not dominated by label 1, where the role writes\n\
         \x20 r-level      of role 3, as above\n\
         \x20 w-level      1, the greatest lower bound of\n\
         \x20   line 13      P    3    1    2         label 1: card 1\n\
@@ -305,7 +305,7 @@ refused with 15 at user 1 (Ada), role 1 (reader): the clearance does not dominat
     line 5       S    3    2              role 3 (lead) is senior to role 2
   line 17      A    2    3              16: user 2 is assigned to role 3 (lead)
   clearance    3
-  because      the w-level 1 (public) does not dominate the r-level 2 (draft): the role writes at label 1 (public)
+  because      the w-level 1 (public) does not dominate the r-level 2 (draft), which is not dominated by label 1 (public), where the role writes
   r-level      of role 3 (lead), as above
   w-level      1 (public), the greatest lower bound of
     line 13      P    3    1    2         label 1 (public): card 1

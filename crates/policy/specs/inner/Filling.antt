@@ -101,11 +101,11 @@ withoutLoops t r q = related t 0 r q && not (eqb q r)
 
 -- ---- 14 to 16 by the tables of a state and by two tables of marks: down has the labels under each label, up those over it
 
--- y is in the row of label a; what is no label has an empty row
+-- y is in the row of label a; what is none of the 32 has an empty row
 abbrev pub inRow : List (List Bool) → ℕ → ℕ → Bool
 inRow t a y = among 32 a && mark t a y
 
--- y is in the row of a level, which is every label's where the level is 0, free
+-- y is in the row of a level; where the level is 0, free, every label is
 abbrev pub levelRow : List (List Bool) → ℕ → ℕ → Bool
 levelRow t level y = eqb level 0 || inRow t level y
 

@@ -92,7 +92,7 @@ pub fn greatest_lower(table: &Table, n: usize, all: &Set, set: &Set) -> usize {
     greatest(table, &bounds)
 }
 
-/// The first pair among the first n labels that has no least upper bound, in the order that was turned round.
+/// The first pair among the first n labels that has no least upper bound in an order, which is lent turned round.
 pub fn first_pair(up: &Table, n: usize) -> Option<(usize, usize)> {
     for i in 0..n {
         let mut over = first_labels(n);

@@ -190,19 +190,23 @@ impl Fault<'_> {
         }
     }
 
-    /// Why no label that the clearance dominates lies between the levels (16).
-    /// The clearance dominates an r-level that is a label: else it were 15.
+    /// Why no label that the clearance dominates lies between the levels (16):
+    /// labels written do not dominate the r-level, or, where that is free, none
+    /// is under both the clearance and the w-level.
     fn reason(&self, r_level: u64, w_level: u64, names: &Names) -> String {
         let label = |number| names.number(Kind::Label, number);
         let w_level = format!("the w-level {}", label(w_level));
-        if r_level == FREE {
+        if self.labels.is_empty() {
             let clearance = label(self.clearance);
             return format!(
                 "no label is dominated by both the clearance {clearance} and {w_level}"
             );
         }
         let (r_level, odd) = (label(r_level), self.odd_labels(names));
-        format!("{w_level} does not dominate the r-level {r_level}: the role writes at {odd}")
+        format!(
+            "{w_level} does not dominate the r-level {r_level}, \
+             which is not dominated by {odd}, where the role writes"
+        )
     }
 
     /// `label 1, label 2`

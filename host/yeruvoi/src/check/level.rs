@@ -52,7 +52,7 @@ impl<'a> Level<'a> {
         }
     }
 
-    /// The labels of the cards of which the question is answered with yes, rising.
+    /// The labels of the cards for which `so` holds, rising.
     pub fn labels_where(&self, so: impl Fn(u64) -> bool) -> Vec<u64> {
         let labels = self.permissions.iter().map(|permission| permission.label);
         let labels: BTreeSet<u64> = labels.filter(|&label| so(label)).collect();
