@@ -30,6 +30,11 @@ pub fitting-by-iff : (σ : Settings) → PartialOrder (σ .labels) (σ .dominate
 unfolding fittingBy
 fitting-by-iff σ order l r = and-both (reads-under-iff σ order l r) (writes-over-iff σ order l r)
 
+-- a user is entitled to a role exactly where assigned to it or to a senior of it
+pub entitled-by-iff : (σ : Settings) (α : Relation) (u r : ℕ) → (entitledBy σ α u r ≡ true) ↔ ((q : ℕ) × Among (σ .roles) q × (α u q ≡ true) × (σ .senior q r ≡ true))
+unfolding entitledBy
+entitled-by-iff σ α u r = some-both (α u) (λ q. σ .senior q r) (σ .roles)
+
 module _ (σ : Settings) (α : Relation) (cs : List Call) where
   abbrev now : Sessions
   now = standing σ (begun α) cs .sessions
@@ -87,10 +92,6 @@ module _ (σ : Settings) (α : Relation) (cs : List Call) where
         session-granted σ now known p s e _ (rw (among-iff (σ .roles) r .1 (g .role))),
   )
 
-  entitled-by-iff : (u r : ℕ) → (entitledBy σ (assignedBy σ α cs) u r ≡ true) ↔ ((q : ℕ) × Among (σ .roles) q × (assignedBy σ α cs u q ≡ true) × (σ .senior q r ≡ true))
-  unfolding entitledBy
-  entitled-by-iff u r = some-both (assignedBy σ α cs u) (λ q. σ .senior q r) (σ .roles)
-
   take-iff : PartialOrder (σ .labels) (σ .dominates) → (p r : ℕ) → (takeRule σ (assignedBy σ α cs) now p r ≡ 0) ↔ MayTake σ α cs p r
   unfolding takeRule unless
   take-iff order p r = (
@@ -99,10 +100,10 @@ module _ (σ : Settings) (α : Relation) (cs : List Call) where
         let s = a .session in
         let (w, b, c) = taking σ (assignedBy σ α cs) r s (a .done) in
         let (i, j) = fitting-by-iff σ order (s .label) r .0 c in
-        record { session = there p s (a .found); role = w; member = entitled-by-iff (s .user) r .0 b; reads = i; writes = j },
+        record { session = there p s (a .found); role = w; member = entitled-by-iff σ (assignedBy σ α cs) (s .user) r .0 b; reads = i; writes = j },
     λ g.
         let (s, e, (u, l)) = session-of p (g .session) in
-        let b = entitled-by-iff (g .session .user) r .1 (g .member) in
+        let b = entitled-by-iff σ (assignedBy σ α cs) (g .session .user) r .1 (g .member) in
         let c = fitting-by-iff σ order (g .session .label) r .1 (g .reads, g .writes) in
         session-granted σ now known p s e _ (rw (among-iff (σ .roles) r .1 (g .role), u, l, b, c)),
   )

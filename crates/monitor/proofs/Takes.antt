@@ -8,7 +8,6 @@ use mathlib.Core.List.{[], _∷_}
 use mathlib.Core.Option.{Option·some-injective}
 use native.Mathlib.Omega.{arith}
 use Rattle.search.specs.Search.{Among}
-use Rattle.search.proofs.Found.{some-both}
 use Rattle.order.specs.Closure.{Relation}
 use Rattle.rolefile.specs.Form.{refusal}
 use Rattle.rolefile.proofs.Decides.{decides-zero}
@@ -24,12 +23,12 @@ use Rattle.monitor.specs.Granted.{OpenFor}
 use Rattle.monitor.specs.Rights.{CouldTake}
 use Rattle.monitor.proofs.Orderly.{opening, opening-done, session-done, taking}
 use Rattle.monitor.proofs.History.{assigned-kept, session-with, Opened, open-for-iff}
-use Rattle.monitor.proofs.Grants.{fitting-by-iff, rule-iff}
+use Rattle.monitor.proofs.Grants.{fitting-by-iff, entitled-by-iff, rule-iff}
 
 module _ (σ : Settings) (lawful : Lawful σ) (α : Relation) (u r : ℕ) where
   -- at a label that serves: an opening, and the taking
   take-at : Among (σ .users) u → Among (σ .roles) r → entitledBy σ α u r ≡ true → (y : ℕ) → Serves σ u r y → CouldTake σ α u r
-  unfolding rule standing entitledBy
+  unfolding rule standing
   take-at user role member y s = record {
     calls = opens 1 u y ∷ [];
     place = 1;
@@ -38,7 +37,7 @@ module _ (σ : Settings) (lawful : Lawful σ) (α : Relation) (u r : ℕ) where
     taken = rule-iff σ α (lawful .dominance) 0 (opens 1 u y ∷ []) (takes 1 r) .1 (record {
       session = record { user = u; label = y; since = session };
       role = role;
-      member = some-both (α u) (λ q. σ .senior q r) (σ .roles) .0 member;
+      member = entitled-by-iff σ α u r .0 member;
       reads = s .reads;
       writes = s .writes;
     });
@@ -71,8 +70,7 @@ module _ (σ : Settings) (lawful : Lawful σ) (α : Relation) (u r : ℕ) where
   module _ (user : Among (σ .users) u) (role : Among (σ .roles) r) where
     module _ (assigned : α u r ≡ true) where
       entitled : entitledBy σ α u r ≡ true
-      unfolding entitledBy
-      entitled = some-both (α u) (λ q. σ .senior q r) (σ .roles) .1 (r, role, assigned, lawful .seniority .reflexive r role)
+      entitled = entitled-by-iff σ α u r .1 (r, role, assigned, lawful .seniority .reflexive r role)
 
       -- some label serves an assignment exactly where the user could take its role in some session
       pub serves-take-iff : WithinLevels σ u r ↔ CouldTake σ α u r
@@ -93,10 +91,9 @@ module _ (σ : Settings) (lawful : Lawful σ) (α : Relation) (u r : ℕ) where
 
     -- where every assignment passes, a role can be taken exactly where 27 does not bar it
     pub available-iff : AllWithinLevels σ α → (entitledBy σ α u r ≡ true) ↔ CouldTake σ α u r
-    unfolding entitledBy
     available-iff within = (
       λ e.
-          let (q, w, a, s) = some-both (α u) (λ q. σ .senior q r) (σ .roles) .0 e in
+          let (q, w, a, s) = entitled-by-iff σ α u r .0 e in
           let (y, serves) = within u q a in
           take-at user role e y (serves-junior σ lawful q r w role s u y serves),
       λ c. taken-at c .0,

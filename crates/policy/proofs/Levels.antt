@@ -15,7 +15,7 @@ use Rattle.policy.specs.Policy.{Level, Free, Label, Undefined}
 use Rattle.policy.specs.Settings.{Inside, Settings}
 use Rattle.policy.specs.Policy.{mayAt, levelAt, level, rLevel, wLevel, passes, isDefined}
 use Rattle.policy.specs.Verdict.{serves}
-use Rattle.policy.specs.Accepted.{Some, UndefinedLevel, Passing, ReadsUnder, WritesOver, Serves, WithinLevels}
+use Rattle.policy.specs.Accepted.{Some, UndefinedLevel, Passing, ReadsUnder, WritesOver, WithinLevels}
 
 pub converse-order : {n : ℕ} {ge : Relation} → PartialOrder n ge → PartialOrder n (converse ge)
 converse-order o = record {

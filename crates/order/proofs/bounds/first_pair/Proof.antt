@@ -1,15 +1,12 @@
 -- A search for the first thing with a partner.
-use Prim.Native.Nat.{ℕ, _≤_, _-_, min}
+use Prim.Native.Nat.{_≤_, _-_}
 use mathlib.Core.Path.{_≡_}
-use mathlib.Core.Bool.{Bool}
-use mathlib.Core.List.{List}
 use native.Mathlib.Omega.{arith}
 use borrow.Author.Needs.{needs}
 use Rattle.search.proofs.Found.{first-yet}
-use Rattle.order.specs.Bound.{converse, FirstWithoutBound}
+use Rattle.order.specs.Bound.{converse}
 use Rattle.order.specs.Table.{mark}
-use Rattle.order.specs.Closure.{Agree}
-use Rattle.order.proofs.Bound.{NoneWithout, none-without-more, without-found, none-without, first-without-agree}
+use Rattle.order.proofs.Bound.{NoneWithout, none-without-more, without-found, none-without}
 use Rattle.order.proofs.bounds.first_pair.Statement.{statement}
 use Rattle.order.proofs.bounds.first_pair.Tie as tie
 

@@ -1,6 +1,5 @@
 -- What is none of the 32 has no marks.
 use Prim.Native.Nat.{_-_}
-use mathlib.Core.Path.{_≡_}
 use mathlib.Core.Bool.{false}
 use native.Mathlib.Omega.{arith}
 use borrow.Author.Needs.{needs}
