@@ -6,10 +6,25 @@ pub const EXAMPLE: &str = include_str!("../../../examples/document.role");
 /// The file of the two makers, which is longer.
 pub const TWO_MAKERS: &str = include_str!("../../../examples/two-makers.role");
 
-/// Document 01's example file with single blanks, for tests that change its lines.
-pub fn example() -> String {
+/// "Role 2 writing card 1 too": the example with a role for low sessions alone.
+pub const REVIEWER: &str = include_str!("../../cases/writing-1-too.role");
+
+/// A role that reads at label 2 and writes at label 1: no label serves.
+pub const DOWNWARDS: &str = include_str!("../../cases/reading-2-writing-1.role");
+
+/// A user cleared to 1 and a role that writes at 2, which have no label below
+/// both.
+pub const BESIDE: &str = include_str!("../../cases/writing-beside-the-clearance.role");
+
+/// A file with single blanks, for tests that change its lines.
+pub fn single_blanks(file: &str) -> String {
     let words = |line: &str| line.split_whitespace().collect::<Vec<_>>().join(" ");
-    EXAMPLE.lines().map(|line| words(line) + "\n").collect()
+    file.lines().map(|line| words(line) + "\n").collect()
+}
+
+/// Document 01's example file with single blanks.
+pub fn example() -> String {
+    single_blanks(EXAMPLE)
 }
 
 /// The bytes of a file whose lines are given with single blanks.

@@ -2,7 +2,8 @@
 //! more on the edges. The expected values are worked out by hand from the
 //! documents.
 
-use second_checker::example::{example, role_file, EXAMPLE, TWO_MAKERS};
+use second_checker::example::{example, role_file, single_blanks};
+use second_checker::example::{BESIDE, DOWNWARDS, EXAMPLE, REVIEWER, TWO_MAKERS};
 use second_checker::{check, report, Level, Outcome};
 
 fn text(bytes: &[u8]) -> String {
@@ -88,7 +89,7 @@ fn user_1_cleared_to_1() {
 
 #[test]
 fn role_2_writing_card_1_too() {
-    let writing = example().replace("P 2 2 2", "P 2 1 2\nP 2 2 2");
+    let writing = single_blanks(REVIEWER);
     let report = "V 0 0 0\nR 1 1 0\nR 2 1 1\nF 2 1\nC 0";
     printed(&writing, report);
     printed(&writing.replace("U 1 2", "U 1 1"), report);
@@ -540,18 +541,11 @@ fn numbers_14_to_16_within_an_assignment() {
 
 #[test]
 fn reading_above_and_writing_below() {
-    let two_labels = "H 2 1 1 2
-        D 2 1
-        U 1 2
-        O 1 1
-        O 2 2
-        P 1 1 2
-        P 1 2 1
-        A 1 1";
-    refused(two_labels, 16, [1, 1]);
+    let both = single_blanks(DOWNWARDS);
+    refused(&both, 16, [1, 1]);
     // The read alone serves at label 2, the write alone at label 1.
-    printed(&two_labels.replace("P 1 1 2", ""), "V 0 0 0\nR 1 2 0\nC 0");
-    printed(&two_labels.replace("P 1 2 1", ""), "V 0 0 0\nR 1 0 1\nC 0");
+    printed(&both.replace("P 1 1 2", ""), "V 0 0 0\nR 1 2 0\nC 0");
+    printed(&both.replace("P 1 2 1", ""), "V 0 0 0\nR 1 0 1\nC 0");
 }
 
 #[test]
@@ -563,15 +557,8 @@ fn reading_and_writing_side_by_side() {
 
 #[test]
 fn only_writing_beside_the_clearance() {
-    // Labels 1 and 2 have none below both.
-    let beside = "H 3 1 1 1
-        D 3 1
-        D 3 2
-        U 1 1
-        O 1 2
-        P 1 1 2
-        A 1 1";
-    refused(beside, 16, [1, 1]);
+    let beside = single_blanks(BESIDE);
+    refused(&beside, 16, [1, 1]);
     // Label 2 serves a user cleared to 2 or to 3.
     for cleared in ["U 1 2", "U 1 3"] {
         let report = "V 0 0 0\nR 1 0 2\nC 0";

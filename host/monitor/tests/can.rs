@@ -6,7 +6,7 @@ use monitor_tests::generate::{accepted_file, number, wild_number};
 use monitor_tests::library::{self, Figure};
 use monitor_tests::loaded::Loaded;
 use second_checker::differential::show;
-use second_checker::example::{example, role_file, EXAMPLE};
+use second_checker::example::{EXAMPLE, REVIEWER};
 use second_checker::random::Random;
 
 const FILES: u64 = 60;
@@ -229,8 +229,7 @@ fn the_example() {
 /// user has role 1 alone.
 #[test]
 fn a_role_for_low_sessions() {
-    let text = example().replace("P 2 2 2", "P 2 1 2\nP 2 2 2");
-    let can = can_at_each_label(&role_file(&text));
+    let can = can_at_each_label(REVIEWER.as_bytes());
     assert_eq!(can, [[1, 1, 0, 1], [1, 0, 0, 0]]);
 }
 

@@ -5,7 +5,7 @@ use monitor_model::{Model, STATE_BYTES};
 use monitor_tests::call::{Answer, Call};
 use monitor_tests::generate::reading;
 use monitor_tests::library::{Figure, Verdict};
-use second_checker::example::{example, role_file};
+use second_checker::example::{example, role_file, single_blanks, BESIDE, REVIEWER};
 use second_checker::random::Random;
 
 /// Both sides with the same file loaded.
@@ -168,8 +168,7 @@ fn the_label_and_not_the_clearance() {
 /// card": role 2 writes card 1 too, so that its w-level is 1.
 #[test]
 fn a_senior_reviewer_corrects_a_low_card() {
-    let text = example().replace("P 2 2 2", "P 2 1 2\nP 2 2 2");
-    let mut both = Both::loaded(&text, 2);
+    let mut both = Both::loaded(&single_blanks(REVIEWER), 2);
     both.open(1, 1, 1, 0);
     both.take(1, 2, 0);
     both.write(1, 1, 0, b"valve", 0);
@@ -194,14 +193,8 @@ fn a_role_that_no_session_could_take() {
     let mut both = Both::loaded(&text.replace("A 1 2", "A 1 1"), 2);
     both.load(&text, [16, 1, 2]);
     // Labels 1 and 2 under 3: a user cleared to 1, a role that writes at 2.
-    let beside = "H 3 1 1 1
-        D 3 1
-        D 3 2
-        U 1 1
-        O 1 2
-        P 1 1 2
-        A 1 1";
-    both.load(beside, [16, 1, 1]);
+    let beside = single_blanks(BESIDE);
+    both.load(&beside, [16, 1, 1]);
     both.load(&beside.replace("U 1 1", "U 1 3"), [0, 0, 0]);
     both.open(1, 1, 3, 0);
     both.take(1, 1, 28);

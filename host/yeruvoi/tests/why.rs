@@ -7,7 +7,7 @@ mod support;
 use common::{padded, run};
 use monitor_model::{Mode, Policy};
 use second_checker::check::{read, Level, RoleFile};
-use second_checker::example::EXAMPLE;
+use second_checker::example::{EXAMPLE, REVIEWER};
 use second_checker::generate::write;
 use second_checker::line::{LINE_LENGTH, MOST_LINES};
 use second_checker::random::Random;
@@ -335,20 +335,6 @@ fn two_makers_mended() {
 
 // ---------------------------------------------------------------------------
 // By hand
-
-/// Document 01's example with "role 2 writing card 1 too": its w-level is 1.
-const REVIEWER: &str = "\
-H    2    2    1    2
-D    2    1
-S    2    1
-U    1    2
-O    1    1
-O    2    2
-P    1    1    1
-P    2    1    2
-P    2    2    2
-A    1    2
-";
 
 /// A role that reads at label 2 and writes at label 1, assigned to nobody.
 const DOWNWARDS: &str = "\
