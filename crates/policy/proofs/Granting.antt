@@ -1,6 +1,6 @@
 -- Dominance, permissions and levels as the tables hold them are those of the file: what the P lines grant by the seniors' rows is what a role may do,
 -- and the bounds of the labels gathered are its levels. Assumes nothing.
-use Prim.Native.Nat.{ℕ, _+_, _-_, _≤_, _<_}
+use Prim.Native.Nat.{ℕ, _+_, _-_, _*_, _≤_, _<_}
 use mathlib.Core.Path.{_≡_, refl, sym, ap, _∙_}
 use mathlib.Core.Logic.{⊎-elim}
 use mathlib.Core.List.{List}
@@ -14,7 +14,6 @@ use Rattle.search.specs.Search.{Among, among, some}
 use Rattle.search.proofs.Truth.{among-iff, untrue, same}
 use Rattle.search.proofs.Found.{some-both, some-none, some-agree, None}
 use Rattle.roleset.specs.Row.{member, rowOf, Kept}
-use Rattle.roleset.proofs.Rows.{kept-wider}
 use Rattle.order.specs.Closure.{Relation, Agree}
 use Rattle.order.specs.Bound.{converse}
 use Rattle.order.specs.Table.{mark, related}
@@ -28,17 +27,16 @@ use Rattle.rolefile.proofs.Sections.{Section, says-three}
 use Rattle.policy.specs.declared.build.Parts.{Parts}
 use Rattle.policy.specs.Settings.{dominates, senior, settings}
 use Rattle.policy.specs.Policy.{may, mayAt, level, rLevel, wLevel, levelNumber}
-use Rattle.policy.specs.Tables.{rLevelsAt, wLevelsAt, seniorsAt, readersAt, writersAt, byteOf, markAt}
-use Rattle.policy.specs.inner.Filling.{DominanceRows}
-use Rattle.policy.specs.inner.Filling.{lineGrants, grantedByLines, brings, gathered, Bytes, GrantedRows}
-use Rattle.policy.specs.Image.{Labelled, Seniors, Permitting, Allows}
+use Rattle.policy.specs.Tables.{rLevelsAt, seniorsAt, readersAt, writersAt, tableOf, byteOf, markAt}
+use Rattle.policy.specs.inner.Filling.{lineGrants, grantedByLines, brings, gathered, byMode, levelsAt, gatheredAt, LevelBytes, GrantedRows, DominanceRows}
+use Rattle.policy.specs.Image.{Labelled, Seniors, Permitting, Levelled, Allows}
 use Rattle.policy.specs.inner.Stages.{Ready, Zeros, Closed, Turned, Granting}
 use Rattle.policy.proofs.Readying.{good-of, counts-of, p-lines, one-within, limits-p}
 use Rattle.policy.proofs.Inside.{Between, closure-between, above-between}
 use Rattle.policy.proofs.Dominance.{closed-agree, turned-agree}
 use Rattle.policy.proofs.Builds.{seniors-stay, permitting-stays, labelled-stays}
 use Rattle.policy.proofs.Gathering.{level-empty, level-agree}
-use Rattle.policy.proofs.Relating.{unites-zeros}
+use Rattle.policy.proofs.Relating.{unites-zeros, by-mode}
 
 -- ---- permissions
 
@@ -120,50 +118,48 @@ module _ (f : List ℕ) (between : Between (roles f) (above f)) (r : ℕ) (past 
   free-past : (n d : ℕ) (ge : Relation) → 0 ≡ levelNumber (level n ge (mayAt (settings f) d r))
   free-past n d ge = level-empty n ge (mayAt (settings f) d r) (some-none (mayAt (settings f) d r) n .1 (λ l w. no-label d l))
 
--- a table of levels: the roles' are stored, and the others stay 0
-module _ (f : List ℕ) (counts : GoodCounts (header f)) (between : Between (roles f) (above f)) (d at : ℕ) (ge le : Relation) (g xs ys : List ℕ) where
-  levels-are : Agree (labels f) (labels f) ge le
-      → Agree 32 128 (related g 0) (λ l r. mayAt (settings f) d r l)
-      → Bytes at (roles f) (λ r. levelNumber (level (labels f) ge (λ l. member g (rowOf 0 l) r))) xs ys
-      → Zeros at (at + 128) xs
-      → (r : ℕ) → Among 128 r → byteOf ys at r ≡ levelNumber (level (labels f) le (mayAt (settings f) d r))
-  levels-are order set put zeros r w = elim (decLt (roles f) r) [
-    | yes l ↦
-        put .rest (at + (r - 1)) (λ m. omega arith)
-        ∙ zeros (at + (r - 1)) (omega arith) (omega arith)
-        ∙ free-past f between r l (labels f) d le
+-- where a mode's levels stand
+levels-stand : (d : ℕ) → Among 2 d → levelsAt d ≡ rLevelsAt + 128 * (d - 1)
+levels-stand = by-mode (λ d. levelsAt d ≡ rLevelsAt + 128 * (d - 1)) refl refl
+
+-- the levels of a mode: the roles' are stored, and the others stay 0
+module _ (f : List ℕ) (counts : GoodCounts (header f)) (between : Between (roles f) (above f)) (ge : ℕ → Relation) (g xs ys : List ℕ)
+    (put : LevelBytes (roles f) (λ d r. levelNumber (level (labels f) (ge d) (λ l. related g (gatheredAt d) l r))) xs ys) (zeros : Zeros rLevelsAt seniorsAt xs)
+    (d : ℕ) (m : Among 2 d) (le : Relation) where
+  past : (r : ℕ) → Among 128 r → roles f < r → byteOf ys (levelsAt d) r ≡ 0
+  past r w l =
+      let at = levels-stand d m in
+      put .rest (levelsAt d + (r - 1)) (λ e n k. omega (arith, levels-stand e n)) ∙ zeros (levelsAt d + (r - 1)) (omega arith) (omega arith)
+
+  levels-are : Agree (labels f) (labels f) (ge d) le
+      → Agree 32 128 (related g (gatheredAt d)) (λ l r. mayAt (settings f) d r l)
+      → (r : ℕ) → Among 128 r → byteOf ys (levelsAt d) r ≡ levelNumber (level (labels f) le (mayAt (settings f) d r))
+  levels-are order set r w = elim (decLt (roles f) r) [
+    | yes l ↦ past r w l ∙ free-past f between r l (labels f) d le
     | no l ↦
-        put .bytes r (omega arith)
-        ∙ ap levelNumber (level-agree (labels f) ge le (λ l. member g (rowOf 0 l) r) (mayAt (settings f) d r) order (λ l v. set l r (omega (arith, counts .labels)) w))
+        put .levels d m r (omega arith)
+        ∙ ap levelNumber (level-agree (labels f) (ge d) le (λ l. related g (gatheredAt d) l r) (mayAt (settings f) d r) order (λ l v. set l r (omega (arith, counts .labels)) w))
   ]
 
--- ---- the whole stage, from x₀: the table of dominance, the lines' permissions, the levels of reading and those of writing
+-- ---- the whole stage, from x₀: the table of dominance, the lines' permissions, and both levels
 
-module _ (f : List ℕ) (q : Parts) (h : Line) (t up : List (List Bool)) (x₀ x₁ x₂ x₃ x₄ reading writing : List ℕ) (ready : Ready f q h)
+module _ (f : List ℕ) (q : Parts) (h : Line) (t up : List (List Bool)) (x₀ x₁ x₂ x₃ g : List ℕ) (ready : Ready f q h)
     (labelled : Labelled (settings f) x₀) (seniors : Seniors (settings f) x₀) (closed : Closed f t) (turned : Turned t up) (no-level : Zeros 1808 2064 x₀) (no-role : Zeros 12304 28688 x₀)
     (put : DominanceRows 32 t x₀ x₁)
     (grants : GrantedRows (grantedByLines x₁ (part f (q .p .start)) (q .p .count)) x₁ x₂)
-    (reads : Agree 32 128 (related reading 0) (gathered x₂ readersAt (h .d)))
-    (read-levels : Bytes rLevelsAt (h .b) (λ r. levelNumber (level (h .a) (converse (mark up)) (λ l. member reading (rowOf 0 l) r))) x₂ x₃)
-    (writes : Agree 32 128 (related writing 0) (gathered x₃ writersAt (h .d)))
-    (write-levels : Bytes wLevelsAt (h .b) (λ r. levelNumber (level (h .a) (converse (mark t)) (λ l. member writing (rowOf 0 l) r))) x₃ x₄) where
+    (gathers : (d : ℕ) → Among 2 d → Agree 32 128 (related g (gatheredAt d)) (gathered x₂ (tableOf d) (h .d)))
+    (levels : LevelBytes (h .b) (λ d r. levelNumber (level (h .a) (converse (mark (byMode up t d))) (λ l. related g (gatheredAt d) l r))) x₂ x₃) where
   counts : GoodCounts (header f)
   counts = counts-of f (ready .lines)
-
-  between : Between (roles f) (above f)
-  between = above-between f (good-of f (ready .lines))
 
   -- what each store leaves alone
   kept : Kept 16 1040 x₀ x₁
   kept = put .rest
 
-  kept₃ : Kept 1808 1936 x₂ x₃
-  kept₃ = kept-wider x₂ x₃ (rw (ready .head) (omega (arith, counts .roles))) (read-levels .rest)
+  kept₃ : Kept 1808 2064 x₂ x₃
+  kept₃ i out = levels .rest i (λ d m n. rw (ready .head) (omega (arith, levels-stand d m, counts .roles, out (omega (arith, levels-stand d m)))))
 
-  kept₄ : Kept 1936 2064 x₃ x₄
-  kept₄ = kept-wider x₃ x₄ (rw (ready .head) (omega (arith, counts .roles))) (write-levels .rest)
-
-  -- what stands in each state
+  -- what stands before the levels are put in
   permitting₂ : Permitting (settings f) x₂
   permitting₂ =
       permitted f x₁ (good-of f (ready .lines)) (counts .roles)
@@ -171,46 +167,38 @@ module _ (f : List ℕ) (q : Parts) (h : Line) (t up : List (List Bool)) (x₀ x
       (p-lines f q (ready .lines) (ready .laid) .0) x₂ grants
       (λ i l m. kept i (λ n. omega arith) ∙ no-role i l m)
 
-  permitting₃ : Permitting (settings f) x₃
-  permitting₃ = permitting-stays (settings f) x₂ x₃ (λ i l m. kept₃ i (λ n. omega arith)) permitting₂
-
   labelled₂ : Labelled (settings f) x₂
   labelled₂ = labelled-stays (settings f) x₀ x₂ (λ i l m. grants .rest i (λ n. omega arith) ∙ kept i (λ n. omega arith)) labelled
-
-  labelled₃ : Labelled (settings f) x₃
-  labelled₃ = labelled-stays (settings f) x₂ x₃ (λ i l m. kept₃ i (λ n. omega arith)) labelled₂
 
   zeros₂ : Zeros 1808 2064 x₂
   zeros₂ i l m = grants .rest i (λ n. omega arith) ∙ kept i (λ n. omega arith) ∙ no-level i l m
 
-  read₃ : (r : ℕ) → Among 128 r → byteOf x₃ rLevelsAt r ≡ levelNumber (rLevel (settings f) r)
-  unfolding rLevel
-  read₃ =
-      levels-are f counts between 1 rLevelsAt (converse (mark up)) (dominates f) reading x₂ x₃
-      (turned-agree f t up (counts .labels .1) closed turned)
-      (λ l r v w. rw (ready .head) at reads l r v w ∙ may-at-is f x₂ (counts .cards) labelled₂ 1 readersAt (permitting₂ .readers) l r w)
-      (rw (ready .head) at read-levels)
-      (λ i l m. zeros₂ i (omega arith) (omega arith))
+  gathered₂ : (d : ℕ) → Among 2 d → Allows (settings f) d (tableOf d) x₂ → Agree 32 128 (related g (gatheredAt d)) (λ l r. mayAt (settings f) d r l)
+  gathered₂ d m allows l r v w = rw (ready .head) at gathers d m l r v w ∙ may-at-is f x₂ (counts .cards) labelled₂ d (tableOf d) allows l r w
 
-  written₄ : (r : ℕ) → Among 128 r → byteOf x₄ wLevelsAt r ≡ levelNumber (wLevel (settings f) r)
-  unfolding wLevel
-  written₄ =
-      levels-are f counts between 2 wLevelsAt (converse (mark t)) (converse (dominates f)) writing x₃ x₄
-      (λ a b v w. closed-agree f t (counts .labels .1) closed b a w v)
-      (λ l r v w. rw (ready .head) at writes l r v w ∙ may-at-is f x₃ (counts .cards) labelled₃ 2 writersAt (permitting₃ .writers) l r w)
-      (rw (ready .head) at write-levels)
-      (λ i l m. kept₃ i (λ n. omega arith) ∙ zeros₂ i (omega arith) (omega arith))
+  leveled : (d : ℕ) → Among 2 d → (le : Relation) → Agree (labels f) (labels f) (converse (mark (byMode up t d))) le → Allows (settings f) d (tableOf d) x₂
+      → (r : ℕ) → Among 128 r → byteOf x₃ (levelsAt d) r ≡ levelNumber (level (labels f) le (mayAt (settings f) d r))
+  leveled d m le order allows =
+      levels-are f counts (above-between f (good-of f (ready .lines))) (λ d. converse (mark (byMode up t d))) g x₂ x₃ (rw (ready .head) at levels) zeros₂ d m le
+      order (gathered₂ d m allows)
 
-  kept-since₁ : (i : ℕ) → (1808 ≤ i → 2064 ≤ i) → (12304 ≤ i → 28688 ≤ i) → getD x₄ i 0 ≡ getD x₁ i 0
-  kept-since₁ i l m = kept₄ i (λ n. omega (arith, l (omega arith))) ∙ kept₃ i (λ n. omega (arith, l n)) ∙ grants .rest i m
+  levelled₃ : Levelled (settings f) x₃
+  unfolding rLevel wLevel
+  levelled₃ = record {
+    reads = leveled 1 (omega arith) (dominates f) (turned-agree f t up (counts .labels .1) closed turned) (permitting₂ .readers);
+    writes = leveled 2 (omega arith) (converse (dominates f)) (λ a b v w. closed-agree f t (counts .labels .1) closed b a w v) (permitting₂ .writers);
+  }
 
-  pub granting : Granting f x₀ x₄
+  kept-since₁ : (i : ℕ) → (1808 ≤ i → 2064 ≤ i) → (12304 ≤ i → 28688 ≤ i) → getD x₃ i 0 ≡ getD x₁ i 0
+  kept-since₁ i l m = kept₃ i l ∙ grants .rest i m
+
+  pub granting : Granting f x₀ x₃
   granting = record {
     dominating = λ a b v w.
         kept-since₁ (markAt a b) (λ m. omega arith) (λ m. omega arith)
         ∙ put .rows a b v w
         ∙ ap (λ m. cond m 1 0) (closed a b v w);
-    permitting = permitting-stays (settings f) x₃ x₄ (λ i l m. kept₄ i (λ n. omega arith)) permitting₃;
-    levelled = record { reads = λ r w. kept₄ (rLevelsAt + (r - 1)) (λ m. omega arith) ∙ read₃ r w; writes = written₄ };
+    permitting = permitting-stays (settings f) x₂ x₃ (λ i l m. kept₃ i (λ n. omega arith)) permitting₂;
+    levelled = levelled₃;
     rest = λ i out l m. kept-since₁ i l m ∙ kept i out;
   }

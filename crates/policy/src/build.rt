@@ -142,10 +142,8 @@ fn grant_all(f: &[u8], s: &mut [u8], q: Parts, h: Line, down: &Table, up: &Table
     let roles = h.b as usize;
     let cards = h.d as usize;
     let all = order::bounds::first_things(n);
-    let read_at = gather::gather(s, layout::READERS_AT, cards);
-    gather::put_levels(s, layout::R_LEVELS_AT, read_at, up, n, &all, roles);
-    let written_at = gather::gather(s, layout::WRITERS_AT, cards);
-    gather::put_levels(s, layout::W_LEVELS_AT, written_at, down, n, &all, roles);
+    let g = gather::gather(s, cards);
+    gather::put_levels(s, &g, down, up, n, &all, roles);
 }
 
 // 14 to 16, by the tables in the state and those of dominance.

@@ -4,55 +4,67 @@ use order::marks::Set;
 use order::marks::Table;
 use roleset::ROW_BYTES;
 ghost use mathlib.Core.Path.{_≡_};
-ghost use Prim.Native.Nat.{_+_, _*_, _≤_, _<_};
+ghost use Prim.Native.Nat.{ℕ, _+_, _*_, _≤_, _<_};
 ghost use lib.ListN.{length};
-ghost use Rattle.search.specs.Search.{some};
-ghost use Rattle.roleset.specs.Row.{member, rowOf};
+ghost use Rattle.search.specs.Search.{some, Among};
 ghost use Rattle.order.specs.Closure.{Agree};
 ghost use Rattle.order.specs.Bound.{converse};
 ghost use Rattle.order.specs.Table.{marks, mark, Upto, FirstThings, related};
 ghost use Rattle.policy.specs.Policy.{level, levelNumber};
-ghost use Rattle.policy.specs.Tables.{rLevelsAt};
-ghost use Rattle.policy.specs.inner.Filling.{brings, gathered, Unites, Bytes};
+ghost use Rattle.policy.specs.Tables.{seniorsAt, writersAt, tableOf};
+ghost use Rattle.policy.specs.inner.Filling.{brings, gathered, byMode, gatheredAt, Unites, LevelBytes};
 
 // The bytes of a set of roles for each label.
-const GATHERED_BYTES: usize = ROW_BYTES * layout::LABELS;
+const MODE_BYTES: usize = ROW_BYTES * layout::LABELS;
 
-// Joins the row of card o + 1, of the table at `at`, into the row of its label.
-fn gather_one(g: &mut [u8; GATHERED_BYTES], s: &[u8], at: usize, o: usize)
-    requires { ⌜ (at + 16 * 512 ≤ length (now s)) × (rLevelsAt ≤ length (now s)) × (o < 512) ⌝ }
-    ensures { λ _. ⌜ Unites 0 32 (λ l r. brings (now (s .entry)) at l r (o + 1)) (now (g .entry)) (now (g .exit)) ⌝ }
+// For each label, the roles that may read a card of that label, and after all of these the roles that may
+// write one.
+pub type Gathered = [u8; 2 * MODE_BYTES];
+
+// Where each begins.
+const READ_AT: usize = 0;
+
+const WRITTEN_AT: usize = MODE_BYTES;
+
+// Joins the readers and the writers of card o + 1 into the rows of its label.
+fn gather_one(g: &mut Gathered, s: &[u8], o: usize)
+    requires { ⌜ (writersAt + 16 * 512 ≤ length (now s)) × (o < 512) ⌝ }
+    ensures { λ _. ⌜ ((d : ℕ) → Among 2 d → Unites (gatheredAt d) 32 (λ l r. brings (now (s .entry)) (tableOf d) l r (o + 1)) (now (g .entry)) (now (g .exit))) ⌝ }
 {
     let label = s[layout::CARD_LABELS_AT + o] as usize;
     if !search::among(layout::LABELS as u64, label as u64) {
         return;
     }
-    let row = roleset::row(s, at + ROW_BYTES * o);
-    roleset::unite(g, ROW_BYTES * (label - 1), row);
+    let row = ROW_BYTES * (label - 1);
+    let readers = roleset::row(s, layout::READERS_AT + ROW_BYTES * o);
+    roleset::unite(g, READ_AT + row, readers);
+    let writers = roleset::row(s, layout::WRITERS_AT + ROW_BYTES * o);
+    roleset::unite(g, WRITTEN_AT + row, writers);
 }
 
-// For each label, the roles that the table at `at` has for one of the first n cards of that label.
-pub fn gather(s: &[u8], at: usize, n: usize) -> [u8; GATHERED_BYTES]
-    requires { ⌜ (at + 16 * 512 ≤ length (now s)) × (rLevelsAt ≤ length (now s)) × (n ≤ 512) ⌝ }
-    ensures { λ g. ⌜ Agree 32 128 (related g 0) (gathered (now (s .entry)) at n) ⌝ }
+// For each label, the roles that may read, and those that may write, one of the first n cards of that label.
+pub fn gather(s: &[u8], n: usize) -> Gathered
+    requires { ⌜ (writersAt + 16 * 512 ≤ length (now s)) × (n ≤ 512) ⌝ }
+    ensures { λ g. ⌜ ((d : ℕ) → Among 2 d → Agree 32 128 (related g (gatheredAt d)) (gathered (now (s .entry)) (tableOf d) n)) ⌝ }
 {
-    let mut g = [0u8; GATHERED_BYTES];
+    let mut g = [0u8; 2 * MODE_BYTES];
     let mut o = 0;
     while o < n {
-        gather_one(&mut g, s, at, o);
+        gather_one(&mut g, s, o);
         o += 1;
     }
     g
 }
 
-// The labels whose row of `g` has the role.
-fn labels_of(g: &[u8; GATHERED_BYTES], role: usize) -> Set
-    ensures { λ r. ⌜ Upto 32 (λ l. related (now (g .entry)) 0 l role) r ⌝ }
+// The labels whose row has the role, of the rows of `g` from `at` on.
+fn labels_of(g: &Gathered, at: usize, role: usize) -> Set
+    requires { ⌜ at ≤ 512 ⌝ }
+    ensures { λ r. ⌜ Upto 32 (λ l. related (now (g .entry)) at l role) r ⌝ }
 {
     let mut r = [false; layout::LABELS];
     let mut i = 0;
     while i < layout::LABELS {
-        r[i] = roleset::has(g, ROW_BYTES * i, role);
+        r[i] = roleset::has(g, at + ROW_BYTES * i, role);
         i += 1;
     }
     r
@@ -88,23 +100,25 @@ fn level_of(t: &Table, n: usize, all: &Set, s: &Set) -> u8
     bound as u8
 }
 
-// Puts the levels of the first `roles` roles at `at`. `all` is the set of the n labels.
+// Puts both levels of each of the first `roles` roles. `all` is the set of the n labels.
 pub fn put_levels(
     s: &mut [u8],
-    at: usize,
-    g: [u8; GATHERED_BYTES],
-    t: &Table,
+    g: &Gathered,
+    down: &Table,
+    up: &Table,
     n: usize,
     all: &Set,
     roles: usize,
 )
-    requires { ⌜ (at + roles ≤ length (now s)) × (n ≤ 32) × FirstThings n (now all) × (roles ≤ 128) ⌝ }
-    ensures { λ _. ⌜ Bytes at roles (λ r. levelNumber (level n (converse (mark (now (t .entry)))) (λ l. member g (rowOf 0 l) r))) (now (s .entry)) (now (s .exit)) ⌝ }
+    requires { ⌜ (seniorsAt ≤ length (now s)) × (n ≤ 32) × FirstThings n (now all) × (roles ≤ 128) ⌝ }
+    ensures { λ _. ⌜ LevelBytes roles (λ d r. levelNumber (level n (converse (mark (byMode (now (up .entry)) (now (down .entry)) d))) (λ l. related (now (g .entry)) (gatheredAt d) l r))) (now (s .entry)) (now (s .exit)) ⌝ }
 {
     let mut i = 0;
     while i < roles {
-        let set = labels_of(&g, i + 1);
-        s[at + i] = level_of(t, n, all, &set);
+        let reads = labels_of(g, READ_AT, i + 1);
+        s[layout::R_LEVELS_AT + i] = level_of(up, n, all, &reads);
+        let writes = labels_of(g, WRITTEN_AT, i + 1);
+        s[layout::W_LEVELS_AT + i] = level_of(down, n, all, &writes);
         i += 1;
     }
 }

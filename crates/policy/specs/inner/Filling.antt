@@ -1,5 +1,5 @@
 -- What the lines of a part put into the tables of a state, and the marks that they make; 14 to 16 by the tables. Assumes nothing.
-use Prim.Native.Nat.{ℕ, zero, suc, _+_, _*_, _%_}
+use Prim.Native.Nat.{ℕ, zero, suc, _+_, _*_, _%_, _≤_}
 use mathlib.Core.Path.{_≡_}
 use mathlib.Core.List.{List}
 use mathlib.Core.Bool.{Bool, not, _&&_, _||_, cond}
@@ -43,6 +43,17 @@ lineGrants xs role card mode d o r = eqb card o && (eqb mode d && (among 128 rol
 unfoldable pub grantedByLines : List ℕ → List ℕ → ℕ → ℕ → ℕ → ℕ → Bool
 grantedByLines xs p m d o r = some m (λ i. lineGrants xs (one p i) (two p i) (three p i) d o r)
 
+-- what is of reading, mode 1, and what is of writing, mode 2
+abbrev pub byMode : {A : Type 0} → A → A → ℕ → A
+byMode reads writes d = cond (eqb d 1) reads writes
+
+-- where each mode's levels start, and where its rows do among the roles gathered by label
+abbrev pub levelsAt : ℕ → ℕ
+levelsAt d = byMode rLevelsAt wLevelsAt d
+
+abbrev pub gatheredAt : ℕ → ℕ
+gatheredAt d = byMode 0 512 d
+
 -- card o has label l, and r in its row of the table at `at`
 abbrev pub brings : List ℕ → ℕ → ℕ → ℕ → ℕ → Bool
 brings xs at l r o = eqb (byteOf xs cardLabelsAt o) l && member xs (rowOf at o) r
@@ -66,6 +77,11 @@ pub record Related (at size : ℕ) (said : Relation) (xs ys : List ℕ) : Type 0
 pub record Bytes (at size : ℕ) (v : ℕ → ℕ) (xs ys : List ℕ) : Type 0 where
   pub bytes : (x : ℕ) → Among size x → byteOf ys at x ≡ v x
   pub rest : Kept at (at + size) xs ys
+
+-- both tables of levels: those of the first `roles` roles are v's, by mode and role, and every other byte is as it was
+pub record LevelBytes (roles : ℕ) (v : ℕ → ℕ → ℕ) (xs ys : List ℕ) : Type 0 where
+  pub levels : (d : ℕ) → Among 2 d → (r : ℕ) → Among roles r → byteOf ys (levelsAt d) r ≡ v d r
+  pub rest : (i : ℕ) → ((d : ℕ) → Among 2 d → levelsAt d ≤ i → levelsAt d + roles ≤ i) → getD ys i 0 ≡ getD xs i 0
 
 -- the bytes of a table when the first i lines of the part p have been noted, and nothing else changed
 abbrev pub NotedBytes : ℕ → ℕ → List ℕ → ℕ → List ℕ → List ℕ → Type 0

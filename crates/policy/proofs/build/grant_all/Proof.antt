@@ -1,4 +1,4 @@
--- What each call leaves, in order: the table of dominance, the permissions, and the levels of reading and of writing.
+-- What each call leaves, in order: the table of dominance, the permissions, and both levels.
 use Prim.Native.Nat.{_≤_}
 use native.Mathlib.Omega.{arith}
 use borrow.Author.Needs.{needs}
@@ -18,11 +18,11 @@ grant-lines-requires c κs =
 gather-requires : tie.Need-gather-requires
 gather-requires c κs =
     let start = c .before .before .before .before .before .before .before .before .before .before .before .before .before .before .before in
-    (search needs, search needs, head-counts _ _ _ (start .pre .0) .cards)
+    (search needs, head-counts _ _ _ (start .pre .0) .cards)
 
 put-levels-requires : tie.Need-put-levels-requires
 put-levels-requires c κs =
-    let firsts = c .before .before .before .before in
+    let firsts = c .before .before .before .before .before in
     let grants = firsts .before .before .before in
     let table = grants .before .before .before .before in
     let start = table .before .before .before .before .before .before .before in
@@ -32,54 +32,23 @@ put-levels-requires c κs =
     let counts = head-counts _ _ _ (start .pre .0) in
     (omega arith, counts .labels .1, firsts .first-things .ensures, counts .roles)
 
--- after the levels of reading the state is as long as before
-still-long : (c : tie.After-put-levels) → 65536 ≤ length (c .put-levels .last .0)
-still-long c =
-    let grants = c .before .before .before .before .before .before .before .before in
-    let table = grants .before .before .before .before in
-    let length₃ = c .put-levels .last .1 in
-    let length₂ = grants .grant-lines .last .1 in
-    let length₁ = table .put-table .last .1 in
-    let long = table .before .before .before .before .before .before .before .pre .1 in
-    omega arith
-
-gather-requires-2 : tie.Need-gather-requires-2
-gather-requires-2 c κs =
-    let levels = c .before .before .before in
-    let start = levels .before .before .before .before .before .before .before .before .before .before .before .before .before .before .before .before .before .before .before in
-    let long = still-long levels in
-    (omega arith, omega arith, head-counts _ _ _ (start .pre .0) .cards)
-
-put-levels-requires-2 : tie.Need-put-levels-requires-2
-put-levels-requires-2 c κs =
-    let levels = c .before .before .before .before .before .before in
-    let firsts = levels .before .before .before .before .before in
-    let start = firsts .before .before .before .before .before .before .before .before .before .before .before .before .before .before in
-    let long = still-long levels in
-    let counts = head-counts _ _ _ (start .pre .0) in
-    (omega arith, counts .labels .1, firsts .first-things .ensures, counts .roles)
-
 returns : tie.Need-returns
 returns c =
-    let write-levels = c .before .before in
-    let writes = write-levels .before .before .before in
-    let read-levels = writes .before .before .before .before in
-    let reads = read-levels .before .before .before in
-    let grants = reads .before .before .before .before .before in
+    let levels = c .before .before in
+    let gathers = levels .before .before .before .before in
+    let grants = gathers .before .before .before .before .before in
     let table = grants .before .before .before .before in
     let part = table .before .before .before in
     let start = part .before .before .before .before in
     let a = start .args in
     let (ready, long, labelled, seniors, closed, turned, no-level, no-role) = start .pre in
     granting (now (a .f)) (a .q) (a .h) (now (a .down)) (now (a .up)) (now (a .s)) (table .put-table .last .0) (grants .grant-lines .last .0)
-    (read-levels .put-levels .last .0) (write-levels .put-levels2 .last .0) (reads .gather .result) (writes .gather2 .result)
+    (levels .put-levels .last .0) (gathers .gather .result)
     ready labelled seniors closed turned no-level no-role
     (table .put-table .ensures)
     (rw (part .part .ensures) at (grants .grant-lines .ensures))
-    (reads .gather .ensures)
-    (read-levels .put-levels .ensures)
-    (writes .gather2 .ensures)
-    (write-levels .put-levels2 .ensures)
+    (gathers .gather .ensures)
+    (levels .put-levels .ensures)
 
 pub grant-all-spec : {M : Type 1} → statement M
 grant-all-spec =
@@ -91,7 +60,5 @@ grant-all-spec =
     (λ c κs. search needs)
     gather-requires
     put-levels-requires
-    gather-requires-2
-    put-levels-requires-2
     (λ c. search needs)
     returns)

@@ -1,39 +1,60 @@
--- Each turn stores the level of one role more.
-use Prim.Native.Nat.{_+_, _≤_, _-_}
-use mathlib.Core.Path.{refl, ap, _∙_}
+-- Each turn stores both levels of one role more.
+use Prim.Native.Nat.{ℕ, _+_, _≤_, _-_}
+use mathlib.Core.Path.{_≡_, refl, ap, _∙_}
+use mathlib.Core.Bool.{Bool}
+use mathlib.Core.List.{List}
 use native.Mathlib.Omega.{arith}
 use borrow.Author.Needs.{needs}
 use denote.Ref.{now}
-use Rattle.roleset.specs.Row.{member, rowOf}
-use Rattle.roleset.proofs.Rows.{Written, write-none, write-more}
+use lib.ListN.{length, length-set}
 use Rattle.order.specs.Bound.{converse}
-use Rattle.order.specs.Table.{mark}
+use Rattle.order.specs.Table.{marks, mark, Upto, related}
 use Rattle.policy.specs.Policy.{level, levelNumber}
-use Rattle.policy.proofs.Noted.{all-stored}
-use Rattle.policy.proofs.Gathering.{level-agree}
+use Rattle.policy.specs.Tables.{rLevelsAt}
+use Rattle.policy.specs.inner.Filling.{byMode, gatheredAt, LevelBytes}
+use Rattle.policy.proofs.Gathering.{level-agree, levels-none, levels-more}
 use Rattle.policy.proofs.gather.put_levels.Statement.{statement}
 use Rattle.policy.proofs.gather.put_levels.Tie as tie
 
 abbrev Inv-loop : tie.InvT-loop
-Inv-loop s₀ at t n all roles g i₀ s i =
-    (i ≤ roles) × Written at i (λ k. levelNumber (level n (converse (mark t)) (λ l. member g (rowOf 0 l) (k + 1)))) s₀ s
+Inv-loop s₀ g down up n all roles i₀ s i =
+    (i ≤ roles) × (length s ≡ length s₀)
+    × LevelBytes i (λ d r. levelNumber (level n (converse (mark (byMode up down d))) (λ l. related g (gatheredAt d) l r))) s₀ s
 
 abbrev μ-loop : tie.MeasureT-loop
-μ-loop s₀ at t n all roles g i₀ s i = roles - i
+μ-loop s₀ g down up n all roles i₀ s i = roles - i
+
+-- the level of the set that was read off is that of the rows
+bounded : (g : List ℕ) (t : List (List Bool)) (set : List Bool) (n at i : ℕ) {b : ℕ} → b ≡ levelNumber (level n (converse (mark t)) (marks set)) → n ≤ 32
+    → Upto 32 (λ l. related g at l (i + 1)) set → b ≡ levelNumber (level n (converse (mark t)) (λ l. related g at l (i + 1)))
+bounded g t set n at i e few read = e ∙ ap levelNumber (level-agree n (converse (mark t)) _ _ _ (λ a b v w. refl) (λ l v. read l (omega arith)))
+
+-- the first store leaves the state as long as it was
+second-fits : tie.Need-slice-write-s-2 Inv-loop μ-loop
+second-fits c =
+    let reading = c .before .before .before in
+    let w = reading .before .before .before .before .loop in
+    omega (arith, length-set (w .s) (rLevelsAt + w .i) (reading .level-of .result))
 
 loop-again : tie.Need-loop-again Inv-loop μ-loop
 loop-again c =
-    let w = c .before .before .before .before .before .loop in
-    let t = c .before .before .before .before .before .before .before .args .t in (
+    let written = c .before .before in
+    let reading = written .before in
+    let read = reading .before .before in
+    let w = read .before .before .loop in
+    let a = read .before .before .before .before .args in (
       search needs,
-      write-more (w .inv .1) (search needs)
-          (c .level-of .ensures
-          ∙ ap levelNumber (level-agree _ (converse (mark (now t))) _ _ _ (λ a b v w. refl) (λ l v. c .before .before .labels-of .ensures l (omega arith)))),
+      search needs,
+      levels-more (w .inv .2) (omega arith) (omega arith)
+          (bounded (now (a .g)) (now (a .up)) (read .labels-of .result) (a .n) 0 (w .i) (reading .level-of .ensures) (omega arith) (read .labels-of .ensures))
+          (bounded (now (a .g)) (now (a .down)) (written .labels-of2 .result) (a .n) 512 (w .i) (c .level-of2 .ensures) (omega arith) (written .labels-of2 .ensures)),
     )
 
 returns : tie.Need-returns Inv-loop μ-loop
 returns c =
-    all-stored _ (c .before .loop .inv .1) (omega arith)
+    let w = c .before .loop in
+    let all : w .i ≡ c .before .before .before .args .roles = omega arith in
+    rw all at (w .inv .2)
 
 pub put-levels-spec : {M : Type 1} → statement M
 put-levels-spec =
@@ -41,12 +62,17 @@ put-levels-spec =
     (tie.spec
     Inv-loop
     μ-loop
-    (λ c. (search needs, write-none))
+    (λ c. (search needs, search needs, levels-none))
     (λ c. search needs)
     (λ c κs. search needs)
     (λ c κs. search needs)
     (λ c. search needs)
     (λ c. search needs)
+    (λ c. search needs)
+    (λ c κs. search needs)
+    (λ c κs. search needs)
+    (λ c. search needs)
+    second-fits
     (λ c. search needs)
     (λ c. search needs)
     loop-again
