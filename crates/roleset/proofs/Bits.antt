@@ -1,19 +1,22 @@
--- The bits of a number: of one made by `|`, `&`, `^` and `>>`, of 2 ^ k and of 0; and a number below 2 ^ k is settled by its first k bits.
+-- The bits of a number: of one made by `|`, `&`, `^`, `>>` and `<<`, of 2 ^ k, of 2 ^ k - 1 and of 0; and a number below 2 ^ k is settled by its first k bits.
 -- The lowest bit that is set stands above the trailing zeros.
 -- Assumes nothing.
-use Prim.Native.Nat.{ℕ, zero, suc, _+_, _-_, _*_, _/_, _%_, _^_, _<_}
+use Prim.Native.Nat.{ℕ, zero, suc, _+_, _-_, _*_, _/_, _%_, _^_, _≤_, _<_}
 use mathlib.Core.Path.{_≡_, refl, sym, ap, ap₂, _∙_}
 use mathlib.Core.Logic.{_↔_}
 use mathlib.Core.Bool.{Bool, true, false, not, _&&_, _||_, cond, or-true, or-false}
-use native.Mathlib.Nat.{one-mul, zero-div, div-one, mul-mod-left, mul-div-cancel, div-div-eq-div-mul, pow-suc, pow-succ'}
+use native.Mathlib.Nat.{one-mul, zero-mul, zero-div, zero-mod, div-one, div-eq-of-lt, lt-of-lt-of-le, mul-mod-left, mul-div-cancel, div-div-eq-div-mul, pow-suc, pow-succ'}
 use native.Mathlib.Omega.{arith}
 use native.Mathlib.Decide.{decLt}
 use lib.Count.{under, trailingZeros}
-use lib.Dec.{eqb, eqb·zero-suc, eqb·suc-zero, eqb·suc-suc}
-use lib.Pow.{pow-pos, pow-add, shl-exact, shr-shr, field, mod-mod-pow}
+use lib.Dec.{leb, eqb, eqb·zero-suc, eqb·suc-zero, eqb·suc-suc, leb·suc-zero, leb·suc-suc}
+use lib.Pow.{pow-pos, pow-add, pow-mono, shl-exact, shr-shr, field, mod-mod-pow}
+use mir.Val.{boolByte}
 use lib.Bits.{bitAnd, bitOr, bitXor, and-shr, and-mod, and-lt, and-le-l, and-le-r, or-shr, or-mod, or-add-and, xor-shr, xor-mod}
-use borrow.Author.Tests.{eqb-true, eq-eqb, ne-eqb}
-use Rattle.search.proofs.Truth.{either}
+use borrow.Author.Tests.{eqb-true, eq-eqb, ne-eqb, le-leb}
+use Rattle.search.specs.Search.{every, implies}
+use Rattle.search.proofs.Truth.{and-iff, same, either}
+use Rattle.search.proofs.Found.{None, every-in}
 use Rattle.roleset.specs.Row.{bit}
 use Rattle.roleset.specs.Set.{bitsOf}
 use Rattle.roleset.specs.inner.Halves.{littleEndian}
@@ -50,7 +53,7 @@ module _ (f : ℕ → ℕ → ℕ) (g : Bool → Bool → Bool)
 pub bit-or : (x y j : ℕ) → bit (bitOr x y) j ≡ (bit x j || bit y j)
 bit-or = each-bit bitOr _||_ or-shr or-mod refl refl refl refl
 
-bit-and : (x y j : ℕ) → bit (bitAnd x y) j ≡ (bit x j && bit y j)
+pub bit-and : (x y j : ℕ) → bit (bitAnd x y) j ≡ (bit x j && bit y j)
 bit-and = each-bit bitAnd _&&_ and-shr and-mod refl refl refl refl
 
 bit-xor : (x y j : ℕ) → bit (bitXor x y) j ≡ cond (bit y j) (not (bit x j)) (bit x j)
@@ -72,6 +75,15 @@ bit-pow (suc k) zero = bit-first (2 ^ suc k) ∙ rw (pow-suc 2 k, mul-mod-left (
 bit-pow (suc k) (suc j) =
     bit-next (2 ^ suc k) j ∙ rw (pow-suc 2 k, mul-div-cancel (2 ^ k) {n = 2} (omega arith)) (bit-pow k j) ∙ sym (eqb·suc-suc j k)
 
+pub bit-ones : (k j : ℕ) → bit (2 ^ k - 1) j ≡ leb (suc j) k
+bit-ones zero j = bit-zero j ∙ sym (leb·suc-zero j)
+bit-ones (suc k) zero =
+    let odd : (2 ^ suc k - 1) % 2 ≡ 1 = omega (arith, pow-pos k, pow-suc 2 k) in
+    bit-first (2 ^ suc k - 1) ∙ eq-eqb ((2 ^ suc k - 1) % 2) 1 odd ∙ sym (le-leb 1 (suc k) (omega arith))
+bit-ones (suc k) (suc j) =
+    let half : (2 ^ suc k - 1) / 2 ≡ 2 ^ k - 1 = omega (arith, pow-pos k, pow-suc 2 k) in
+    bit-next (2 ^ suc k - 1) j ∙ rw half (bit-ones k j) ∙ sym (leb·suc-suc (suc j) k)
+
 pub same-bits : (k x y : ℕ) → x < 2 ^ k → y < 2 ^ k → ((j : ℕ) → j < k → bit x j ≡ bit y j) → x ≡ y
 same-bits zero x y l m h = omega arith
 same-bits (suc k) x y l m h =
@@ -89,28 +101,56 @@ bit-mod k x j l =
     let cut : x % 2 ^ k % 2 ^ (1 + j) ≡ x % 2 ^ (1 + j) = rw e at (mod-mod-pow x (k - (1 + j)) (1 + j)) in
     ap (λ (d : ℕ). eqb d 1) (sym (field (x % 2 ^ k) 1 j) ∙ ap (λ (d : ℕ). d / 2 ^ j) cut ∙ field x 1 j)
 
--- `1 << k` at a byte
+-- `1 << k` at a number of w bits, and at a byte
+pub one-shifted : (w k : ℕ) → k < w → 1 * 2 ^ k % 2 ^ w ≡ 2 ^ k
+one-shifted w k l = shl-exact {a = 1} 1 k w (omega arith) (omega arith) ∙ one-mul (2 ^ k)
+
 pub shifted : (k : ℕ) → k < 8 → 1 * 2 ^ k % 256 ≡ 2 ^ k
-shifted k l = shl-exact {a = 1} 1 k 8 (omega arith) (omega arith) ∙ one-mul (2 ^ k)
+shifted = one-shifted 8
 
-bit-shifted : (k : ℕ) → k < 8 → (j : ℕ) → bit (1 * 2 ^ k % 256) j ≡ eqb j k
-bit-shifted k l j = ap (λ (x : ℕ). bit x j) (shifted k l) ∙ bit-pow k j
+bit-shifted : (w k : ℕ) → k < w → (d : Bool) (j : ℕ) → bit (boolByte d * 2 ^ k % 2 ^ w) j ≡ (d && eqb j k)
+bit-shifted w k l true j = ap (λ (x : ℕ). bit x j) (one-shifted w k l) ∙ bit-pow k j
+bit-shifted w k l false j = rw (zero-mul (2 ^ k), zero-mod (2 ^ w)) (bit-zero j)
 
--- setting bit k, and flipping it where it is set
+-- bit k is set too where d is
+pub bit-put : (w x k : ℕ) → k < w → (d : Bool) (j : ℕ) → bit (bitOr x (boolByte d * 2 ^ k % 2 ^ w)) j ≡ (bit x j || (d && eqb j k))
+bit-put w x k l d j = bit-or x (boolByte d * 2 ^ k % 2 ^ w) j ∙ ap (λ (b : Bool). bit x j || b) (bit-shifted w k l d j)
+
+-- setting bit k of a byte, and flipping it where it is set
 module _ (x k : ℕ) (l : k < 8) where
   pub bit-on : (j : ℕ) → bit (bitOr x (1 * 2 ^ k % 256)) j ≡ cond (eqb j k) true (bit x j)
-  bit-on j = bit-or x (1 * 2 ^ k % 256) j ∙ rw (bit-shifted k l j) (on (bit x j) (eqb j k))
+  bit-on j = bit-put 8 x k l true j ∙ on (bit x j) (eqb j k)
     where
       on : (a b : Bool) → (a || b) ≡ cond b true a
       on a true = or-true a
       on a false = or-false a
 
   pub bit-off : bit x k ≡ true → (j : ℕ) → bit (bitXor x (1 * 2 ^ k % 256)) j ≡ cond (eqb j k) false (bit x j)
-  bit-off h j = bit-xor x (1 * 2 ^ k % 256) j ∙ rw (bit-shifted k l j) (off (eqb j k) refl)
+  bit-off h j = bit-xor x (1 * 2 ^ k % 256) j ∙ rw (bit-shifted 8 k l true j) (off (eqb j k) refl)
     where
       off : (b : Bool) → eqb j k ≡ b → cond b (not (bit x j)) (bit x j) ≡ cond b false (bit x j)
       off true e = ap not (ap (bit x) (eqb-true j k e) ∙ h)
       off false e = refl
+
+-- a number of k bits is 0 where it has none, the bits counted from 1
+pub none-set : (k x : ℕ) → x < 2 ^ k → (x ≡ 0) ↔ None (λ a. bit x (a - 1)) k
+none-set k x l = (
+  λ e a w. ap (λ (z : ℕ). bit z (a - 1)) e ∙ bit-zero (a - 1),
+  λ none. same-bits k x 0 l (pow-pos k) (λ j i. let place : suc j - 1 ≡ j = omega arith in rw place at (none (suc j) (omega arith)) ∙ sym (bit-zero j)),
+)
+
+-- and all its bits are another's where `&` with that leaves it as it is
+pub all-within : (k x y : ℕ) → x < 2 ^ k → y < 2 ^ k → eqb (bitAnd x y) x ≡ every k (λ a. implies (bit x (a - 1)) (bit y (a - 1)))
+all-within k x y l m =
+    let within = every-in k (λ a. bit x (a - 1)) (λ a. bit y (a - 1)) in
+    same (eqb (bitAnd x y) x) (every k (λ a. implies (bit x (a - 1)) (bit y (a - 1))))
+    (λ e. within .1 (λ a w h.
+    and-iff (bit x (a - 1)) (bit y (a - 1)) .0 (sym (bit-and x y (a - 1)) ∙ ap (λ (z : ℕ). bit z (a - 1)) (eqb-true (bitAnd x y) x e) ∙ h) .1))
+    (λ e. eq-eqb (bitAnd x y) x (same-bits k (bitAnd x y) x (and-lt k x y l m) l (λ j i.
+    let place : suc j - 1 ≡ j = omega arith in
+    bit-and x y j ∙ same (bit x j && bit y j) (bit x j)
+    (λ h. and-iff (bit x j) (bit y j) .0 h .0)
+    (λ h. and-iff (bit x j) (bit y j) .1 (h, rw place at (within .0 e (suc j) (omega arith)) h)))))
 
 -- two numbers of k bits share none where their `&` is 0, and two numbers are 0 where their `|` is
 pub and-none : (k x y : ℕ) → x < 2 ^ k → y < 2 ^ k → (bitAnd x y ≡ 0) ↔ ((j : ℕ) → j < k → (bit x j && bit y j) ≡ false)
@@ -188,6 +228,30 @@ trailing-within n k x l some = elim (decLt (trailingZeros n x) k) [
   | yes m ↦ m
   | no m ↦ absurd (some (same-bits k x 0 l (pow-pos k) (λ j i. trailing-clear n x j (omega arith) ∙ sym (bit-zero j))))
 ]
+
+-- what a number and the one before it have in common: all but the lowest bit that is set
+pub lowest-dropped : (n x : ℕ) → x < 2 ^ n → (x ≡ 0 → ⊥) → (j : ℕ) → (bit x j && bit (x - 1) j) ≡ (bit x j && not (eqb j (trailingZeros n x)))
+unfolding trailingZeros
+lowest-dropped zero x l some = absurd (some (omega arith))
+lowest-dropped (suc n) x l some = go (lowest-dropped n (x / 2)) (x % 2) refl
+  where
+    twice : (b : Bool) → (b && b) ≡ (b && true)
+    twice true = refl
+    twice false = refl
+
+    go : (x / 2 < 2 ^ n → (x / 2 ≡ 0 → ⊥) → (i : ℕ) → (bit (x / 2) i && bit (x / 2 - 1) i) ≡ (bit (x / 2) i && not (eqb i (trailingZeros n (x / 2)))))
+        → (d : ℕ) → x % 2 ≡ d → (j : ℕ) → (bit x j && bit (x - 1) j) ≡ (bit x j && not (eqb j (under d (trailingZeros n (x / 2)))))
+    go rest zero e zero = rw (bit-first x, e)
+    go rest zero e (suc j) =
+        let halved : (x - 1) / 2 ≡ x / 2 - 1 = omega arith in
+        rw (bit-next x j, bit-next (x - 1) j, halved, eqb·suc-suc j (trailingZeros n (x / 2)))
+        (rest (omega (arith, pow-suc 2 n)) (λ z. some (omega arith)) j)
+    go rest (suc d) e zero =
+        let even : (x - 1) % 2 ≡ 0 = omega arith in
+        rw (bit-first (x - 1), even)
+    go rest (suc d) e (suc j) =
+        let halved : (x - 1) / 2 ≡ x / 2 = omega arith in
+        rw (bit-next x j, bit-next (x - 1) j, halved, eqb·suc-zero j) (twice (bit (x / 2) j))
 
 -- ---- a number made of its bits
 

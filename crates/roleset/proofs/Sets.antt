@@ -3,16 +3,16 @@ use Prim.Native.Nat.{ℕ, suc, _+_, _-_, _*_, _/_, _%_, _^_, _<_}
 use mathlib.Core.Path.{_≡_, sym, ap, _∙_}
 use mathlib.Core.Logic.{_↔_}
 use mathlib.Core.List.{List}
-use mathlib.Core.Bool.{Bool, false, not, _&&_, and-false, Bool·not-not}
+use mathlib.Core.Bool.{Bool, false, not, _&&_, and-false}
 use native.Mathlib.Nat.{zero-add}
 use native.Mathlib.Omega.{arith}
 use native.Mathlib.Decide.{decLe}
 use lib.Bits.{bitAnd, bitOr}
 use lib.Dec.{eqb, leb}
-use borrow.Author.Tests.{eqb-true, eq-eqb, not-true, le-leb, lt-leb}
+use borrow.Author.Tests.{le-leb, lt-leb}
 use Rattle.search.specs.Search.{some, among, Among}
-use Rattle.search.proofs.Truth.{and-when, among-iff, same, either}
-use Rattle.search.proofs.Found.{None, some-none}
+use Rattle.search.proofs.Truth.{and-when, among-iff, either}
+use Rattle.search.proofs.Found.{None, some-unless}
 use Rattle.roleset.specs.Row.{AllBytes, bit, roleByte, roleBit, member}
 use Rattle.roleset.specs.Set.{inSet, bitsOf, lowOf, highOf}
 use Rattle.roleset.specs.inner.Halves.{halfAt}
@@ -111,9 +111,4 @@ module _ (s : ℕ → Bool) (low high : ℕ) (low-fits : low < 2 ^ 64) (high-fit
       )
 
   pub sets-meet : not (eqb both 0) ≡ some 128 Shared
-  sets-meet =
-      ap not
-      (same (eqb both 0) (not (some 128 Shared))
-      (λ e. ap not (some-none _ 128 .1 (apart .0 (eqb-true both 0 e))))
-      (λ e. eq-eqb both 0 (apart .1 (some-none _ 128 .0 (not-true (some 128 Shared) e)))))
-      ∙ Bool·not-not (some 128 Shared)
+  sets-meet = some-unless apart

@@ -1,15 +1,15 @@
 -- What the searches of `Search` find, as properties; that they see only what p says of the things 1 to n; and one turn of a loop that makes such a search.
 -- Assumes nothing.
 use Prim.Native.Nat.{ℕ, zero, suc, _+_, _-_, _≤_, _<_}
-use mathlib.Core.Path.{_≡_, refl, sym, _∙_}
+use mathlib.Core.Path.{_≡_, refl, sym, ap, _∙_}
 use mathlib.Core.Logic.{_↔_, _⊎_, inl, inr, ⊎-elim}
-use mathlib.Core.Bool.{Bool, true, false, _&&_, _||_, cond, false≢true}
+use mathlib.Core.Bool.{Bool, true, false, not, _&&_, _||_, cond, false≢true, Bool·not-not}
 use native.Mathlib.Omega.{arith}
 use native.Mathlib.Nat.{eq-or-lt-of-le}
 use native.Mathlib.Numerals.{add-one}
 use native.Mathlib.Decide.{decLt}
-use lib.Dec.{leb}
-use borrow.Author.Tests.{leb-true, le-leb, lt-leb}
+use lib.Dec.{leb, eqb}
+use borrow.Author.Tests.{leb-true, leb-false, le-leb, lt-leb, eqb-true, eq-eqb, not-true}
 use Rattle.search.specs.Search.{some, every, orElse, first, implies, Among, Lowest, LowestOf}
 use Rattle.search.proofs.Truth.{or-iff, and-iff, implies-iff, untrue, both, same}
 
@@ -283,3 +283,27 @@ some-both p q n = (
   λ h. let (a, w, e) = some-iff (λ a. p a && q a) n .0 h in let (x, y) = and-iff (p a) (q a) .0 e in (a, w, x, y),
   λ (a, w, x, y). some-iff (λ a. p a && q a) n .1 (a, w, and-iff (p a) (q a) .1 (x, y)),
 )
+
+-- a number that is 0 just where a search is in vain tells by a test what the search finds
+pub some-unless : {x n : ℕ} {p : ℕ → Bool} → (x ≡ 0) ↔ None p n → not (eqb x 0) ≡ some n p
+some-unless {x} {n} {p} none =
+    ap not
+    (same (eqb x 0) (not (some n p))
+    (λ e. ap not (some-none p n .1 (none .0 (eqb-true x 0 e))))
+    (λ e. eq-eqb x 0 (none .1 (some-none p n .0 (not-true (some n p) e)))))
+    ∙ Bool·not-not (some n p)
+
+-- one thing more in a set whose things all have q
+pub every-with : (n : ℕ) (s t q : ℕ → Bool) (a : ℕ) → Among n a → ((x : ℕ) → Among n x → t x ≡ (s x || eqb x a))
+    → every n (λ x. implies (t x) (q x)) ≡ (every n (λ x. implies (s x) (q x)) && q a)
+every-with n s t q a w more =
+    let before = every-in n s q in
+    let after = every-in n t q in
+    same (every n (λ x. implies (t x) (q x))) (every n (λ x. implies (s x) (q x)) && q a)
+    (λ e. and-iff (every n (λ x. implies (s x) (q x))) (q a) .1 (
+      before .1 (λ x v h. after .0 e x v (more x v ∙ or-iff (s x) (eqb x a) .1 (inl h))),
+      after .0 e a w (more a w ∙ or-iff (s a) (eqb a a) .1 (inr (eq-eqb a a refl))),
+    ))
+    (λ e.
+    let (all, last) = and-iff (every n (λ x. implies (s x) (q x))) (q a) .0 e in
+    after .1 (λ x v h. ⊎-elim (before .0 all x v) (λ i. rw (eqb-true x a i) last) (or-iff (s x) (eqb x a) .0 (sym (more x v) ∙ h))))
