@@ -1,5 +1,6 @@
 pub mod Closure
 pub mod Bound
 pub mod Lattice
+pub mod Left
 pub mod Stored
 pub mod Placing

@@ -1,18 +1,20 @@
--- Marks that a loop stores from the front, one a turn: in a set, and row by row in a table. Assumes nothing.
-use Prim.Native.Nat.{ℕ, _+_, _-_, _≤_, _<_}
+-- What a loop stores from the front, one a turn: marks in a set, rows in a table, and things in a set that is a number. Assumes nothing.
+use Prim.Native.Nat.{ℕ, _+_, _-_, _≤_, _<_, min}
 use mathlib.Core.Path.{_≡_, refl, _∙_}
-use mathlib.Core.Bool.{Bool, true, false, _||_}
-use mathlib.Core.List.{List, []}
+use mathlib.Core.Bool.{Bool, true, false, _&&_, _||_, and-true, and-false, or-false}
+use mathlib.Core.List.{List}
 use native.Mathlib.Nat.{add-sub-cancel}
 use native.Mathlib.Omega.{arith}
 use native.Mathlib.Decide.{ℕ-discrete}
-use lib.Dec.{eqb}
-use borrow.Author.Tests.{eq-eqb, ne-eqb}
+use lib.Dec.{leb, eqb}
+use borrow.Author.Tests.{eq-eqb, ne-eqb, le-leb, lt-leb}
 use lib.ListN.{length, getD, set}
 use lib.Seq.{getD-set-same, getD-set-other}
+use Rattle.search.specs.Search.{Among}
+use Rattle.search.proofs.Truth.{leb-same}
 use Rattle.search.proofs.Found.{among-next}
 use Rattle.order.specs.Closure.{Relation}
-use Rattle.order.specs.Table.{marks, mark, Upto}
+use Rattle.order.specs.Table.{marks, Upto}
 use Rattle.order.proofs.Closure.{RowSet}
 
 -- what stands at thing a when v is stored at i
@@ -34,10 +36,27 @@ mark-more s i h a l = elim (ℕ-discrete a (i + 1)) [
   | no q ↦ rw (ne-eqb (i + 1) a (λ e. q (omega arith))) (stored-other false s i true a l q)
 ]
 
--- a row stored in a table
-pub set-row : (h : Relation) (t : List (List Bool)) (i : ℕ) (row : List Bool) → i < length t
-    → Upto 32 (h (i + 1)) row → RowSet 32 (i + 1) h (mark t) (mark (set t i row))
-set-row h t i row l all = record {
-  own = λ b w. rw (stored-own [] t i row l) (all b w);
-  others = λ a b v ne w. rw (stored-other [] t i row a (v .0) ne);
-}
+-- a row stored in a table, whose rows are read by `view`
+module _ {A : Type 0} (view : A → ℕ → Bool) (none : A) where
+  abbrev viewed : List A → Relation
+  viewed t a b = view (getD t (a - 1) none) b
+
+  pub set-row : (h : Relation) (t : List A) (i : ℕ) (row : A) → i < length t
+      → ((b : ℕ) → Among 32 b → view row b ≡ h (i + 1) b) → RowSet 32 (i + 1) h (viewed t) (viewed (set t i row))
+  set-row h t i row l all = record {
+    own = λ b w. rw (stored-own none t i row l) (all b w);
+    others = λ a b v ne w. rw (stored-other none t i row a (v .0) ne);
+  }
+
+-- one thing more of f is put into a set that has those of f up to i
+pub put-more : (f : ℕ → Bool) (i b : ℕ) → ((leb b i && f b) || (f (i + 1) && eqb (i + 1) b)) ≡ (leb b (i + 1) && f b)
+put-more f i b = elim (ℕ-discrete b (i + 1)) [
+  | yes q ↦ rw (q, eq-eqb (i + 1) (i + 1) refl, lt-leb (i + 1) i (omega arith), le-leb (i + 1) (i + 1) (omega arith)) (and-true (f (i + 1)))
+  | no q ↦
+      rw (ne-eqb (i + 1) b (λ e. q (omega arith)), and-false (f (i + 1)), leb-same b i b (i + 1) (λ l. omega arith) (λ l. omega arith))
+      (or-false (leb b (i + 1) && f b))
+]
+
+-- all of the 32 that come up to n have had their turn
+pub all-put : (n b : ℕ) → Among 32 b → leb b (min n 32) ≡ leb b n
+all-put n b w = leb-same b (min n 32) b n (λ l. omega arith) (λ l. omega arith)

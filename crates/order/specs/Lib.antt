@@ -1,3 +1,4 @@
 pub mod Closure
 pub mod Bound
 pub mod Table
+pub mod inner

@@ -2,7 +2,6 @@
 --     marks s a          s has a mark at a: a set of the things 1 to 32
 --     mark t a b         t has a mark in row a and column b: a relation among them
 --     Upto i f s         of the things 1 to i, s has just those of f
---     FirstThings n s    s is the set of the first n things
 --     Rows size n h e f  f is h in its rows 1 to n, and e in the rows after, up to `size`
 --     related xs at a b  the table of role sets at `at` relates a to b
 -- Assumes nothing.
@@ -10,7 +9,6 @@ use Prim.Native.Nat.{ℕ, _+_, _*_, _-_, _≤_, _<_}
 use mathlib.Core.Path.{_≡_}
 use mathlib.Core.Bool.{Bool, false}
 use mathlib.Core.List.{List, []}
-use lib.Dec.{leb}
 use lib.ListN.{length, getD}
 use Rattle.search.specs.Search.{Among}
 use Rattle.roleset.specs.Row.{member, rowOf, Kept}
@@ -25,10 +23,6 @@ mark t a b = marks (getD t (a - 1) []) b
 -- s has the marks of f up to thing i
 abbrev pub Upto : ℕ → (ℕ → Bool) → List Bool → Type 0
 Upto i f s = (a : ℕ) → Among i a → marks s a ≡ f a
-
--- s is the set of the first n things
-abbrev pub FirstThings : ℕ → List Bool → Type 0
-FirstThings n = Upto 32 (λ a. leb a n)
 
 pub record Rows (size n : ℕ) (h e f : Relation) : Type 0 where
   pub done : Agree n size f h

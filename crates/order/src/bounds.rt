@@ -1,180 +1,192 @@
-// Bounds of sets of things in an order that is held as 32 rows by 32 marks.
+// Bounds of sets of things in an order. A set of the things 1 to 32 is a number, and an order one for each row.
 //
 // The row of a thing has the things under it. So lower bounds are what rows have in common, and
-// upper bounds are lower bounds in the order turned round: who asks for many turns the order once.
+// upper bounds are what columns have in common, the rows of the order turned round.
 use super::marks;
 use super::marks::Set;
 use super::marks::THINGS;
 use super::marks::Table;
 ghost use mathlib.Core.Path.{_≡_};
-ghost use mathlib.Core.Bool.{_&&_};
-ghost use Prim.Native.Nat.{_+_, _≤_, _<_, min};
-ghost use Rattle.search.specs.Search.{some, every, implies};
+ghost use mathlib.Core.Bool.{_&&_, _||_};
+ghost use Prim.Native.Nat.{ℕ, _+_, _≤_, _<_, min};
+ghost use lib.Dec.{leb, eqb};
+ghost use Rattle.search.specs.Search.{among, Among, some, every, first, implies};
 ghost use Rattle.order.specs.Closure.{Agree};
 ghost use Rattle.order.specs.Bound.{upper, leastOf, converse, partnerWithoutBound, FirstWithoutBound};
-ghost use Rattle.order.specs.Table.{marks, mark, Upto, FirstThings};
+ghost use Rattle.order.specs.Table.{marks, mark};
+ghost use Rattle.order.specs.inner.Members.{holds, held};
+
+// A set of things: thing a is bit a - 1.
+pub type Members = u32;
+
+// A relation: for each thing the set of those that it is related to.
+pub type Rows = [Members; THINGS];
+
+// The set with thing i + 1 too where `on`.
+fn put(s: Members, i: usize, on: bool) -> Members
+    requires { ⌜ i < 32 ⌝ }
+    ensures { λ r. ⌜ ((b : ℕ) → Among 32 b → holds r b ≡ (holds s b || (on && eqb (i + 1) b))) ⌝ }
+{
+    s | ((on as u32) << i)
+}
+
+// The set with thing a too where `on`, if it is one of the 32.
+pub fn with(s: Members, a: usize, on: bool) -> Members
+    ensures { λ r. ⌜ ((b : ℕ) → Among 32 b → holds r b ≡ (holds s b || (on && eqb a b))) ⌝ }
+{
+    if !search::among(THINGS as u64, a as u64) {
+        return s;
+    }
+    put(s, a - 1, on)
+}
 
 // The set of the first n things.
-pub fn first_things(n: usize) -> Set
-    ensures { λ r. ⌜ FirstThings n r ⌝ }
+pub fn first_things(n: usize) -> Members
+    ensures { λ r. ⌜ ((a : ℕ) → Among 32 a → holds r a ≡ leb a n) ⌝ }
 {
-    let mut r = [false; THINGS];
-    let mut i = 0;
-    while i < THINGS {
-        r[i] = i < n;
-        i += 1;
+    if THINGS <= n {
+        return 4294967295;
+    }
+    (1 << n) - 1
+}
+
+// The set of the marks, as a number.
+fn packed(row: Set) -> Members
+    ensures { λ r. ⌜ ((b : ℕ) → Among 32 b → holds r b ≡ marks row b) ⌝ }
+{
+    let mut r = 0;
+    let mut j = 0;
+    while j < THINGS {
+        r = put(r, j, row[j]);
+        j += 1;
     }
     r
 }
 
-// What two sets have in common.
-fn common(s: Set, t: Set) -> Set
-    ensures { λ r. ⌜ Upto 32 (λ a. marks s a && marks t a) r ⌝ }
-{
-    let mut r = [false; THINGS];
-    let mut i = 0;
-    while i < THINGS {
-        r[i] = s[i] & t[i];
-        i += 1;
-    }
-    r
-}
-
-// Whether some thing is in all three sets.
-pub fn meet(s: Set, t: Set, u: Set) -> bool
-    ensures { λ r. ⌜ r ≡ some 32 (λ a. marks s a && (marks t a && marks u a)) ⌝ }
-{
-    let mut found = false;
-    let mut i = 0;
-    while i < THINGS {
-        found = found | (s[i] & (t[i] & u[i]));
-        i += 1;
-    }
-    found
-}
-
-// Whether all of s is in t.
-fn within(s: Set, t: Set) -> bool
-    ensures { λ r. ⌜ r ≡ every 32 (λ a. implies (marks s a) (marks t a)) ⌝ }
-{
-    let mut all = true;
-    let mut i = 0;
-    while i < THINGS {
-        all = all & (!s[i] | t[i]);
-        i += 1;
-    }
-    all
-}
-
-// Whether a thing is the greatest of s: it is `inside`, and all of s is under it.
-fn leads(s: Set, under: Set, inside: bool) -> bool
-    ensures { λ r. ⌜ r ≡ (inside && every 32 (λ a. implies (marks s a) (marks under a))) ⌝ }
-{
-    if inside {
-        return within(s, under);
-    }
-    false
-}
-
-// The greatest of the set, or 0. Where several are over all of it, the lowest number of them.
-fn greatest(t: &Table, s: &Set) -> usize
-    ensures { λ r. ⌜ r ≡ leastOf 32 (converse (mark (now (t .entry)))) (marks (now (s .entry))) ⌝ }
-{
-    let set = *s;
-    let mut i = 0;
-    while i < THINGS {
-        let under = t[i];
-        if leads(set, under, s[i]) {
-            return i + 1;
-        }
-        i += 1;
-    }
-    0
-}
-
-// The set cut down to what is under a thing, where `on`.
-fn narrowed(s: Set, under: Set, on: bool) -> Set
-    ensures { λ r. ⌜ Upto 32 (λ a. marks s a && implies on (marks under a)) r ⌝ }
-{
-    if on {
-        return common(s, under);
-    }
-    s
-}
-
-// The things of `all` that are under each of s, of which the first n count.
-fn lower_bounds(t: &Table, n: usize, all: &Set, s: Set) -> Set
-    ensures { λ r. ⌜ Upto 32 (λ c. marks (now (all .entry)) c && upper (min n 32) (converse (mark (now (t .entry)))) (marks s) c) r ⌝ }
+// The first n rows of a table, each as a number; those after are empty.
+pub fn rows(t: &Table, n: usize) -> Rows
+    ensures { λ r. ⌜ Agree 32 32 (held r) (λ a b. leb a n && mark (now (t .entry)) a b) ⌝ }
 {
     let m = marks::lesser(n, THINGS);
-    let mut r = *all;
+    let mut r = [0u32; THINGS];
     let mut i = 0;
     while i < m {
-        let under = t[i];
-        let next = narrowed(r, under, s[i]);
+        let row = t[i];
+        r[i] = packed(row);
+        i += 1;
+    }
+    r
+}
+
+// The rows with thing i + 1 too in each whose thing has a mark.
+fn spread(t: Rows, row: Set, i: usize) -> Rows
+    requires { ⌜ i < 32 ⌝ }
+    ensures { λ r. ⌜ Agree 32 32 (held r) (λ a b. held t a b || (marks row a && eqb (i + 1) b)) ⌝ }
+{
+    let mut r = [0u32; THINGS];
+    let mut j = 0;
+    while j < THINGS {
+        r[j] = put(t[j], i, row[j]);
+        j += 1;
+    }
+    r
+}
+
+// The columns of a table, each as a number, of which the first n rows count: the rows of the relation turned round.
+pub fn columns(t: &Table, n: usize) -> Rows
+    ensures { λ r. ⌜ Agree 32 32 (held r) (λ a b. leb b n && mark (now (t .entry)) b a) ⌝ }
+{
+    let counted = marks::lesser(n, THINGS);
+    let mut r = [0u32; THINGS];
+    let mut i = 0;
+    while i < counted {
+        let row = t[i];
+        let next = spread(r, row, i);
         r = next;
         i += 1;
     }
     r
 }
 
-// The greatest of the things of `all` that are under each of s, of which the first n count, or 0. Where `all` is
-// the set of the first n, this is the greatest lower bound; who asks for many makes that set once.
-pub fn greatest_lower(t: &Table, n: usize, all: &Set, s: Set) -> usize
-    ensures { λ r. ⌜ r ≡ leastOf 32 (converse (mark (now (t .entry)))) (λ c. marks (now (all .entry)) c && upper (min n 32) (converse (mark (now (t .entry)))) (marks s) c) ⌝ }
+// The row of thing a, empty where it is none of the 32.
+pub fn row(t: &Rows, a: usize) -> Members
+    ensures { λ r. ⌜ ((b : ℕ) → Among 32 b → holds r b ≡ (among 32 a && held (now (t .entry)) a b)) ⌝ }
 {
-    let bounds = lower_bounds(t, n, all, s);
-    greatest(t, &bounds)
+    if !search::among(THINGS as u64, a as u64) {
+        return 0;
+    }
+    t[a - 1]
 }
 
-// The column of thing j + 1.
-fn column(t: &Table, j: usize) -> Set
-    requires { ⌜ j < 32 ⌝ }
-    ensures { λ r. ⌜ Upto 32 (λ a. mark (now (t .entry)) a (j + 1)) r ⌝ }
+// Whether the set has a thing.
+pub fn any(s: Members) -> bool
+    ensures { λ r. ⌜ r ≡ some 32 (holds s) ⌝ }
 {
-    let mut r = [false; THINGS];
-    let mut i = 0;
-    while i < THINGS {
-        r[i] = t[i][j];
-        i += 1;
+    s != 0
+}
+
+// Whether some thing is in all three sets.
+pub fn meet(s: Members, t: Members, u: Members) -> bool
+    ensures { λ r. ⌜ r ≡ some 32 (λ a. holds s a && (holds t a && holds u a)) ⌝ }
+{
+    s & (t & u) != 0
+}
+
+// Whether all of s is in t.
+fn within(s: Members, t: Members) -> bool
+    ensures { λ r. ⌜ r ≡ every 32 (λ a. implies (holds s a) (holds t a)) ⌝ }
+{
+    s & t == s
+}
+
+// The greatest of the set, or 0. Where several are over all of it, the lowest number of them. They are tried in
+// turn, the lowest that is left first.
+fn greatest(t: &Rows, s: Members) -> usize
+    ensures { λ r. ⌜ r ≡ leastOf 32 (converse (held (now (t .entry)))) (holds s) ⌝ }
+{
+    let mut rest = s;
+    while rest != 0 {
+        let c = u32::trailing_zeros(rest) as usize;
+        let under = t[c];
+        if within(s, under) {
+            return c + 1;
+        }
+        rest = rest & (rest - 1);
+    }
+    0
+}
+
+// The things of `all` that are under each of s, which are taken in turn likewise.
+fn lower_bounds(t: &Rows, all: Members, s: Members) -> Members
+    ensures { λ r. ⌜ ((c : ℕ) → Among 32 c → holds r c ≡ (holds all c && upper 32 (converse (held (now (t .entry)))) (holds s) c)) ⌝ }
+{
+    let mut r = all;
+    let mut rest = s;
+    while rest != 0 {
+        r = r & t[u32::trailing_zeros(rest) as usize];
+        rest = rest & (rest - 1);
     }
     r
 }
 
-// The order turned round.
-pub fn converse(t: Table) -> Table
-    ensures { λ r. ⌜ Agree 32 32 (mark r) (converse (mark t)) ⌝ }
+// The greatest of the things of `all` that are under each of s, or 0. Where `all` is the set of all things,
+// this is the greatest lower bound; who asks for many makes that set once.
+pub fn greatest_lower(t: &Rows, all: Members, s: Members) -> usize
+    ensures { λ r. ⌜ r ≡ leastOf 32 (converse (held (now (t .entry)))) (λ c. holds all c && upper 32 (converse (held (now (t .entry)))) (holds s) c) ⌝ }
 {
-    let mut r = t;
-    let mut j = 0;
-    while j < THINGS {
-        r[j] = column(&t, j);
-        j += 1;
-    }
-    r
-}
-
-// The greatest of what s and the row of thing j + 1 have in common, or 0.
-fn greatest_common(t: &Table, s: Set, j: usize) -> usize
-    requires { ⌜ j < 32 ⌝ }
-    ensures { λ r. ⌜ r ≡ leastOf 32 (converse (mark (now (t .entry)))) (λ a. marks s a && mark (now (t .entry)) (j + 1) a) ⌝ }
-{
-    let row = t[j];
-    let both = common(s, row);
-    greatest(t, &both)
+    greatest(t, lower_bounds(t, all, s))
 }
 
 // The lowest of the first m things that comes after thing i + 1 and has no least upper bound with it, or 0,
 // in the order that was turned round.
-fn partner(up: &Table, m: usize, i: usize) -> usize
+fn partner(up: &Rows, m: usize, i: usize) -> usize
     requires { ⌜ (m ≤ 32) × (i < m) ⌝ }
-    ensures { λ r. ⌜ r ≡ partnerWithoutBound m (converse (mark (now (up .entry)))) (i + 1) ⌝ }
+    ensures { λ r. ⌜ r ≡ partnerWithoutBound m (converse (held (now (up .entry)))) (i + 1) ⌝ }
 {
-    let over = up[i];
-    let bounds = common(first_things(m), over);
+    let bounds = first_things(m) & up[i];
     let mut j = i + 1;
     while j < m {
-        if greatest_common(up, bounds, j) == 0 {
+        if greatest(up, bounds & up[j]) == 0 {
             return j + 1;
         }
         j += 1;
@@ -188,11 +200,12 @@ pub struct Pair {
     pub higher: usize,
 }
 
-// The first pair among the first n things that has no least upper bound in an order, which is lent turned round.
-pub fn first_pair(up: Table, n: usize) -> Pair
-    ensures { λ r. ⌜ FirstWithoutBound (min n 32) (converse (mark up)) (r .lower) (r .higher) ⌝ }
+// The first pair among the first n things that has no least upper bound in an order.
+pub fn first_pair(t: Table, n: usize) -> Pair
+    ensures { λ r. ⌜ FirstWithoutBound (min n 32) (mark t) (r .lower) (r .higher) ⌝ }
 {
     let m = marks::lesser(n, THINGS);
+    let up = columns(&t, m);
     let mut i = 0;
     while i < m {
         let higher = partner(&up, m, i);

@@ -4,7 +4,6 @@ ghost use mathlib.Core.Bool.{_&&_, _||_};
 ghost use Prim.Native.Nat.{_+_, _≤_, _<_, min};
 ghost use lib.Dec.{eqb};
 ghost use lib.ListN.{length};
-ghost use Rattle.search.specs.Search.{among};
 ghost use Rattle.order.specs.Closure.{path, loop, round, withItself};
 ghost use Rattle.order.specs.Table.{marks, mark, Upto, Rows};
 
@@ -22,16 +21,6 @@ pub fn lesser(n: usize, most: usize) -> usize
     ensures { λ r. ⌜ r ≡ min n most ⌝ }
 {
     if n < most { n } else { most }
-}
-
-// The row of thing a, with no mark where it is none of the 32.
-pub fn row(t: &Table, a: usize) -> Set
-    ensures { λ r. ⌜ Upto 32 (λ b. among 32 a && mark (now (t .entry)) a b) r ⌝ }
-{
-    if !search::among(THINGS as u64, a as u64) {
-        return [false; THINGS];
-    }
-    t[a - 1]
 }
 
 // The row with the marks of `other` too, where `on`.

@@ -14,7 +14,7 @@ use Rattle.search.proofs.Truth.{and-iff, among-iff, untrue, both, same}
 use Rattle.search.proofs.Found.{some-cut}
 use Rattle.order.specs.Closure.{Relation, Agree}
 use Rattle.order.specs.Bound.{converse}
-use Rattle.order.specs.Table.{mark}
+use Rattle.order.specs.inner.Members.{held}
 use Rattle.rolefile.specs.declared.Verdict.{Verdict}
 use Rattle.rolefile.specs.Line.{A, lineAt, lines, part}
 use Rattle.rolefile.specs.Form.{refusal, header, scan}
@@ -29,19 +29,18 @@ use Rattle.policy.specs.Settings.{Inside, Settings, dominates, settings}
 use Rattle.policy.specs.Policy.{mayAt, level, rLevel, wLevel, passes, isDefined, levelNumber}
 use Rattle.policy.specs.Tables.{clearancesAt, rLevelsAt, wLevelsAt, byteOf, marked, passesIn, markAt}
 use Rattle.policy.specs.inner.Filling.{inRow, levelRow, someServes, assignByTables}
-use Rattle.policy.specs.inner.Stages.{Turned}
 use Rattle.policy.specs.Image.{Labelled, Dominating, Levelled}
 use Rattle.policy.specs.Verdict.{serves, assignVerdict, assignmentVerdict}
 use Rattle.policy.proofs.Readying.{one-within, two-within, limits-a}
 use Rattle.policy.proofs.Levels.{Tells, level-tells}
 use Rattle.policy.proofs.Checks.{assignment-clean}
 
-pub tables-clean : (xs : List ℕ) (down up : List (List Bool)) (u r : ℕ) → Clean (assignByTables xs down up u r)
+pub tables-clean : (xs under over : List ℕ) (u r : ℕ) → Clean (assignByTables xs under over u r)
 unfolding assignByTables
-tables-clean xs down up u r =
+tables-clean xs under over u r =
     unless-clean (not (eqb (byteOf xs wLevelsAt r) 99)) (refusal 14 u r) (λ e. omega arith)
     (unless-clean (passesIn xs (byteOf xs rLevelsAt r) (byteOf xs clearancesAt u) (byteOf xs rLevelsAt r)) (refusal 15 u r) (λ e. omega arith)
-    (unless-clean (someServes down up (byteOf xs clearancesAt u) (byteOf xs rLevelsAt r) (byteOf xs wLevelsAt r)) (refusal 16 u r) (λ e. omega arith)
+    (unless-clean (someServes under over (byteOf xs clearancesAt u) (byteOf xs rLevelsAt r) (byteOf xs wLevelsAt r)) (refusal 16 u r) (λ e. omega arith)
     (λ e. refl)))
 
 -- ---- a level as it is kept: no label is 0 or 99
@@ -65,7 +64,7 @@ module _ (n : ℕ) (ge : Relation) (s : ℕ → Bool) (few : n ≤ 32) where
       go (Label c) (h, b) = rw (ne-eqb c 0 (λ e. omega (arith, b .inside))) (agree c (b .inside))
       go Undefined t = none
 
--- ---- dominance by the marks m of 32 labels: those of bytes, or of a table
+-- ---- dominance by the marks m of 32 labels: those of bytes, or of rows
 
 module _ (σ : Settings) (few : σ .labels ≤ 32) (inside : Inside (σ .labels) (σ .dominates)) (m : Relation) (says : Agree 32 32 m (λ a b. leb a (σ .labels) && σ .dominates a b)) where
   -- where one of the two is a label
@@ -100,43 +99,44 @@ module _ (σ : Settings) (few : σ .labels ≤ 32) (inside : Inside (σ .labels)
       let few = leb-true a (σ .labels) l in
       ⊎-elim (λ i. omega arith) (λ (x, y). omega arith) (inside a b d))
 
--- ---- 16 by two tables
+-- ---- 16 by the rows of dominance
 
-module _ (σ : Settings) (few : σ .labels ≤ 32) (inside : Inside (σ .labels) (σ .dominates)) (down up : List (List Bool))
-    (closed : Agree 32 32 (mark down) (λ a b. leb a (σ .labels) && σ .dominates a b)) (turned : Turned down up) where
+module _ (σ : Settings) (few : σ .labels ≤ 32) (inside : Inside (σ .labels) (σ .dominates)) (under over : List ℕ)
+    (lower : Agree 32 32 (held under) (λ a b. leb a (σ .labels) && σ .dominates a b))
+    (upper : Agree 32 32 (converse (held over)) (λ a b. leb a (σ .labels) && σ .dominates a b)) where
   module _ (y : ℕ) (label : Among (σ .labels) y) where
-    in-down : (a : ℕ) → inRow down a y ≡ σ .dominates a y
-    in-down a = rw (among-iff 32 y .1 (omega arith)) at (mark-is σ few inside (mark down) closed a y (inr label))
+    in-under : (a : ℕ) → inRow under a y ≡ σ .dominates a y
+    in-under a = rw (among-iff 32 y .1 (omega arith)) at (mark-is σ few inside (held under) lower a y (inr label))
 
-    in-up : (a : ℕ) → Among (σ .labels) a → inRow up a y ≡ σ .dominates y a
-    in-up a w =
+    in-over : (a : ℕ) → Among (σ .labels) a → inRow over a y ≡ σ .dominates y a
+    in-over a w =
         let v : Among 32 a = omega arith in
         let i : Among 32 y = omega arith in
-        rw (among-iff 32 a .1 v, turned a y v i, closed y a i v, le-leb y (σ .labels) (label .1))
+        rw (among-iff 32 a .1 v, upper y a i v, le-leb y (σ .labels) (label .1))
 
-    over-is : (r : ℕ) → levelRow up (levelNumber (rLevel σ r)) y ≡ passes (λ l. σ .dominates y l) (rLevel σ r)
+    over-is : (r : ℕ) → levelRow over (levelNumber (rLevel σ r)) y ≡ passes (λ l. σ .dominates y l) (rLevel σ r)
     unfolding rLevel
-    over-is r = passes-number (σ .labels) (σ .dominates) (mayAt σ 1 r) few (λ a. inRow up a y) (λ l. σ .dominates y l) refl in-up
+    over-is r = passes-number (σ .labels) (σ .dominates) (mayAt σ 1 r) few (λ a. inRow over a y) (λ l. σ .dominates y l) refl in-over
 
-    under-is : (r : ℕ) → levelRow down (levelNumber (wLevel σ r)) y ≡ passes (λ l. σ .dominates l y) (wLevel σ r)
+    under-is : (r : ℕ) → levelRow under (levelNumber (wLevel σ r)) y ≡ passes (λ l. σ .dominates l y) (wLevel σ r)
     unfolding wLevel
-    under-is r = passes-number (σ .labels) (converse (σ .dominates)) (mayAt σ 2 r) few (λ a. inRow down a y) (λ l. σ .dominates l y) refl (λ a i. in-down a)
+    under-is r = passes-number (σ .labels) (converse (σ .dominates)) (mayAt σ 2 r) few (λ a. inRow under a y) (λ l. σ .dominates l y) refl (λ a i. in-under a)
 
-  in-past : (a y : ℕ) → Among 32 y → σ .labels < y → inRow down a y ≡ false
-  in-past a y w past = untrue (inRow down a y) (λ h.
-      let (v, e) = and-iff (among 32 a) (mark down a y) .0 h in
-      both e (mark-past σ few inside (mark down) closed a y (among-iff 32 a .0 v) w past))
+  in-past : (a y : ℕ) → Among 32 y → σ .labels < y → inRow under a y ≡ false
+  in-past a y w past = untrue (inRow under a y) (λ h.
+      let (v, e) = and-iff (among 32 a) (held under a y) .0 h in
+      both e (mark-past σ few inside (held under) lower a y (among-iff 32 a .0 v) w past))
 
-  some-serves : (u r : ℕ) → someServes down up (σ .clearance u) (levelNumber (rLevel σ r)) (levelNumber (wLevel σ r)) ≡ some (σ .labels) (serves σ u r)
+  some-serves : (u r : ℕ) → someServes under over (σ .clearance u) (levelNumber (rLevel σ r)) (levelNumber (wLevel σ r)) ≡ some (σ .labels) (serves σ u r)
   unfolding someServes
   some-serves u r = some-cut (σ .labels) 32 few (serves σ u r) _ (λ y w. elim (decLt (σ .labels) y) [
     | yes l ↦ rw (in-past (σ .clearance u) y w l, lt-leb y (σ .labels) l)
     | no l ↦
         let label : Among (σ .labels) y = omega arith in
-        rw (in-down y label (σ .clearance u), over-is y label r, under-is y label r, le-leb y (σ .labels) (label .1))
+        rw (in-under y label (σ .clearance u), over-is y label r, under-is y label r, le-leb y (σ .labels) (label .1))
   ])
 
--- ---- the verdict by a state's bytes and by two tables
+-- ---- the verdict by a state's bytes and by the rows of dominance
 
 module _ (σ : Settings) (ys : List ℕ) (few : σ .labels ≤ 32) (inside : Inside (σ .labels) (σ .dominates)) (dominating : Dominating σ ys) where
   pub marked-is : (a b : ℕ) → Among (σ .labels) a ⊎ Among (σ .labels) b → marked ys a b ≡ σ .dominates a b
@@ -164,9 +164,10 @@ module _ (σ : Settings) (ys : List ℕ) (few : σ .labels ≤ 32) (inside : Ins
         passes-number (σ .labels) (converse (σ .dominates)) (mayAt σ 2 r) few (λ a. marked ys a l) (λ a. σ .dominates a l)
         refl (λ a i. marked-is a l (inl i))
 
-  module _ (labelled : Labelled σ ys) (levelled : Levelled σ ys) (down up : List (List Bool))
-      (closed : Agree 32 32 (mark down) (λ a b. leb a (σ .labels) && σ .dominates a b)) (turned : Turned down up) where
-    pub tables-verdict : (u r : ℕ) → Among 256 u → Among 128 r → assignByTables ys down up u r ≡ assignVerdict σ u r
+  module _ (labelled : Labelled σ ys) (levelled : Levelled σ ys) (under over : List ℕ)
+      (lower : Agree 32 32 (held under) (λ a b. leb a (σ .labels) && σ .dominates a b))
+      (upper : Agree 32 32 (converse (held over)) (λ a b. leb a (σ .labels) && σ .dominates a b)) where
+    pub tables-verdict : (u r : ℕ) → Among 256 u → Among 128 r → assignByTables ys under over u r ≡ assignVerdict σ u r
     unfolding assignByTables assignVerdict
     tables-verdict u r v w =
         rw (
@@ -175,7 +176,7 @@ module _ (σ : Settings) (ys : List ℕ) (few : σ .labels ≤ 32) (inside : Ins
           levelled .writes r w,
           defined-test r,
           reads-test (σ .clearance u) r,
-          some-serves σ few inside down up closed turned u r,
+          some-serves σ few inside under over lower upper u r,
         )
 
 -- ---- the assignments of a file, by the section of its A lines

@@ -2,12 +2,12 @@
 use Prim.Native.Nat.{ℕ, zero, suc, _≤_}
 use mathlib.Core.Path.{_≡_, refl, _∙_}
 use mathlib.Core.List.{List}
-use mathlib.Core.Bool.{Bool, cond}
+use mathlib.Core.Bool.{Bool, true, false, _&&_, cond}
 use native.Mathlib.Omega.{arith}
-use lib.Dec.{ltb}
+use lib.Dec.{leb, ltb}
 use borrow.Author.Tests.{le-leb, lt-ltb}
 use Rattle.order.specs.Closure.{Relation, Agree, path, withItself}
-use Rattle.order.specs.Bound.{converse, partnerWithoutBound, lowestWithoutBound, FirstWithoutBound}
+use Rattle.order.specs.Bound.{partnerWithoutBound, lowestWithoutBound, FirstWithoutBound}
 use Rattle.order.specs.Table.{mark, Rows}
 use Rattle.order.proofs.Closure.{loop-circle}
 use Rattle.order.proofs.Bound.{first-without-agree}
@@ -19,7 +19,7 @@ use Rattle.rolefile.specs.WellFormed.{GoodLines}
 use Rattle.policy.specs.Settings.{dominates}
 use Rattle.policy.specs.inner.Filling.{Marking}
 use Rattle.policy.specs.Verdict.{orderVerdict, labelVerdict, pairVerdict}
-use Rattle.policy.specs.inner.Stages.{Paths, Closed, Turned}
+use Rattle.policy.specs.inner.Stages.{Paths, Closed}
 use Rattle.policy.proofs.Inside.{over-between}
 use Rattle.policy.proofs.Closing.{paths-table, closed-table}
 
@@ -33,16 +33,21 @@ module _ (f : List ℕ) (good : GoodLines f) (few : labels f ≤ 32) {j m : ℕ}
       paths-table 32 (labels f) (over f) (mark t) (mark u) few (over-between f good) (λ a b v w. said a b v w ∙ says-two f good s refl a b)
 
 pub closed-of : (f : List ℕ) (t c : List (List Bool)) → Paths f t
-    → Rows 32 (labels f) (withItself (mark t)) (mark t) (mark c) → Closed f c
+    → Rows 32 (labels f) (withItself (mark t)) (mark t) (mark c) → Closed f (mark c)
 unfolding dominates
 closed-of f t c = closed-table 32 (labels f) (over f) (mark t) (mark c)
 
--- on the labels it is dominance, and so is the order that was turned round
-pub closed-agree : (f : List ℕ) (t : List (List Bool)) → labels f ≤ 32 → Closed f t → Agree (labels f) (labels f) (mark t) (dominates f)
-closed-agree f t few closed a b v w = closed a b (omega arith) (omega arith) ∙ rw (le-leb a (labels f) (v .1))
+-- its first rows are all of it
+pub closed-rows : (f : List ℕ) (m r : Relation) → Closed f m → Agree 32 32 r (λ a b. leb a (labels f) && m a b) → Closed f r
+closed-rows f m r closed same a b v w = same a b v w ∙ rw (closed a b v w) (again (leb a (labels f)) (dominates f a b))
+  where
+    again : (x y : Bool) → (x && (x && y)) ≡ (x && y)
+    again true y = refl
+    again false y = refl
 
-pub turned-agree : (f : List ℕ) (down up : List (List Bool)) → labels f ≤ 32 → Closed f down → Turned down up → Agree (labels f) (labels f) (converse (mark up)) (dominates f)
-turned-agree f down up few closed turned a b v w = turned b a (omega arith) (omega arith) ∙ closed-agree f down few closed a b v w
+-- on the labels it is dominance
+pub closed-agree : (f : List ℕ) (m : Relation) → labels f ≤ 32 → Closed f m → Agree (labels f) (labels f) m (dominates f)
+closed-agree f m few closed a b v w = closed a b (omega arith) (omega arith) ∙ rw (le-leb a (labels f) (v .1))
 
 -- ---- 11 and 12
 

@@ -5,6 +5,7 @@ use super::labels;
 use super::layout;
 use super::marks;
 use super::rows;
+use order::bounds::Rows;
 use order::marks::Table;
 use rolefile::Line;
 use rolefile::Verdict;
@@ -16,6 +17,7 @@ ghost use lib.ListN.{length};
 ghost use Rattle.roleset.specs.Row.{Kept};
 ghost use Rattle.order.specs.Bound.{converse};
 ghost use Rattle.order.specs.Table.{mark};
+ghost use Rattle.order.specs.inner.Members.{held};
 ghost use Rattle.rolefile.specs.Line.{lines, part};
 ghost use Rattle.rolefile.specs.Form.{scan};
 ghost use Rattle.rolefile.specs.inner.Section.{Leads};
@@ -24,7 +26,7 @@ ghost use Rattle.policy.specs.Tables.{clearancesAt, rLevelsAt, seniorsAt
 ghost use Rattle.policy.specs.Settings.{settings};
 ghost use Rattle.policy.specs.Image.{Labelled, Seniors, Levelled, Dominating};
 ghost use Rattle.policy.specs.Verdict.{orderVerdict, assignmentVerdict};
-ghost use Rattle.policy.specs.inner.Stages.{Laid, Ready, Zeros, Noting, Paths, Closed, Turned, Ranking, Granting, Counting, Finishing, Built, Copied};
+ghost use Rattle.policy.specs.inner.Stages.{Laid, Ready, Zeros, Noting, Paths, Closed, Ranking, Granting, Counting, Finishing, Built, Copied};
 
 // The lines of one letter: how many stand before them, and how many they are.
 pub struct Part {
@@ -96,15 +98,15 @@ fn dominance(f: &[u8], q: Parts, h: Line) -> Table
     order::marks::paths(table, h.a as usize)
 }
 
-// 11 and 12, by the paths and by the closed table turned round.
-fn check_labels(paths: Table, up: Table, n: usize) -> Verdict
-    ensures { λ v. ⌜ v ≡ orderVerdict (min n 32) (mark paths) (converse (mark up)) ⌝ }
+// 11 and 12, by the paths and by their closure.
+fn check_labels(paths: Table, down: Table, n: usize) -> Verdict
+    ensures { λ v. ⌜ v ≡ orderVerdict (min n 32) (mark paths) (mark down) ⌝ }
 {
     let a = order::marks::lowest_loop(paths, n);
     if a != 0 {
         return check::refused(11, a as u64, 0);
     }
-    let pair = order::bounds::first_pair(up, n);
+    let pair = order::bounds::first_pair(down, n);
     if pair.lower != 0 {
         return check::refused(12, pair.lower as u64, pair.higher as u64);
     }
@@ -130,30 +132,26 @@ fn rank_roles(f: &[u8], s: &mut [u8], q: Parts, h: Line) -> Verdict
 }
 
 // Dominance, readers, writers and levels, put into the state.
-fn grant_all(f: &[u8], s: &mut [u8], q: Parts, h: Line, down: &Table, up: &Table)
-    requires { ⌜ Ready (now f) q h × (stateSize ≤ length (now s)) × Labelled (settings (now f)) (now s) × Seniors (settings (now f)) (now s) × Closed (now f) (now down) × Turned (now down) (now up) × Zeros rLevelsAt seniorsAt (now s) × Zeros readersAt (writersAt + 16 * 512) (now s) ⌝ }
+fn grant_all(f: &[u8], s: &mut [u8], q: Parts, h: Line, down: &Table, under: &Rows, over: &Rows)
+    requires { ⌜ Ready (now f) q h × (stateSize ≤ length (now s)) × Labelled (settings (now f)) (now s) × Seniors (settings (now f)) (now s) × Closed (now f) (mark (now down)) × Closed (now f) (held (now under)) × Closed (now f) (converse (held (now over))) × Zeros rLevelsAt seniorsAt (now s) × Zeros readersAt (writersAt + 16 * 512) (now s) ⌝ }
     ensures { λ _. ⌜ Granting (now (f .entry)) (now (s .entry)) (now (s .exit)) ⌝ }
 {
     let p = q.p;
     let lines = read::part(f, p.start);
     marks::put_table(s, *down);
     rows::grant_lines(s, lines, p.count);
-    let n = h.a as usize;
-    let roles = h.b as usize;
-    let cards = h.d as usize;
-    let all = order::bounds::first_things(n);
-    let g = gather::gather(s, cards);
-    gather::put_levels(s, &g, down, up, n, &all, roles);
+    let g = gather::gather(s, h.d as usize);
+    gather::put_levels(s, &g, under, over, h.a as usize, h.b as usize);
 }
 
-// 14 to 16, by the tables in the state and those of dominance.
-fn check_assignments(f: &[u8], s: &[u8], q: Parts, h: Line, down: &Table, up: &Table) -> Verdict
-    requires { ⌜ Ready (now f) q h × (stateSize ≤ length (now s)) × Labelled (settings (now f)) (now s) × Dominating (settings (now f)) (now s) × Levelled (settings (now f)) (now s) × Closed (now f) (now down) × Turned (now down) (now up) ⌝ }
+// 14 to 16, by the tables in the state and the rows of dominance.
+fn check_assignments(f: &[u8], s: &[u8], q: Parts, h: Line, under: &Rows, over: &Rows) -> Verdict
+    requires { ⌜ Ready (now f) q h × (stateSize ≤ length (now s)) × Labelled (settings (now f)) (now s) × Dominating (settings (now f)) (now s) × Levelled (settings (now f)) (now s) × Closed (now f) (held (now under)) × Closed (now f) (converse (held (now over))) ⌝ }
     ensures { λ v. ⌜ v ≡ scan (lines (now (f .entry))) (assignmentVerdict (now (f .entry))) ⌝ }
 {
     let a = q.a;
     let p = read::part(f, a.start);
-    assign::assign_lines(s, down, up, p, a.count)
+    assign::assign_lines(s, under, over, p, a.count)
 }
 
 // The lower and the upper byte of a count at `at`.
@@ -206,8 +204,7 @@ pub fn build(f: &[u8], s: &mut [u8]) -> Verdict
     let paths = dominance(f, q, h);
     let n = h.a as usize;
     let down = order::marks::reflected(paths, n);
-    let up = order::bounds::converse(down);
-    let v = check_labels(paths, up, n);
+    let v = check_labels(paths, down, n);
     if v.number != 0 {
         return v;
     }
@@ -215,8 +212,10 @@ pub fn build(f: &[u8], s: &mut [u8]) -> Verdict
     if v.number != 0 {
         return v;
     }
-    grant_all(f, s, q, h, &down, &up);
-    let v = check_assignments(f, s, q, h, &down, &up);
+    let under = order::bounds::rows(&down, n);
+    let over = order::bounds::columns(&down, n);
+    grant_all(f, s, q, h, &down, &under, &over);
+    let v = check_assignments(f, s, q, h, &under, &over);
     if v.number != 0 {
         return v;
     }

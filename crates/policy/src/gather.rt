@@ -1,18 +1,19 @@
 // Levels: the labels that a role may read or write are gathered, and bounded.
 use super::layout;
-use order::marks::Set;
-use order::marks::Table;
+use order::bounds::Members;
+use order::bounds::Rows;
 use roleset::ROW_BYTES;
 ghost use mathlib.Core.Path.{_≡_};
 ghost use Prim.Native.Nat.{ℕ, _+_, _*_, _≤_, _<_};
 ghost use lib.ListN.{length};
-ghost use Rattle.search.specs.Search.{some, Among};
+ghost use Rattle.search.specs.Search.{Among};
 ghost use Rattle.order.specs.Closure.{Agree};
 ghost use Rattle.order.specs.Bound.{converse};
-ghost use Rattle.order.specs.Table.{marks, mark, Upto, FirstThings, related};
+ghost use Rattle.order.specs.Table.{related};
+ghost use Rattle.order.specs.inner.Members.{holds, held};
 ghost use Rattle.policy.specs.Policy.{level, levelNumber};
 ghost use Rattle.policy.specs.Tables.{seniorsAt, writersAt, tableOf};
-ghost use Rattle.policy.specs.inner.Filling.{brings, gathered, byMode, gatheredAt, Unites, LevelBytes};
+ghost use Rattle.policy.specs.inner.Filling.{brings, gathered, byMode, gatheredAt, Unites, FirstLabels, LevelBytes};
 
 // The bytes of a set of roles for each label.
 const MODE_BYTES: usize = ROW_BYTES * layout::LABELS;
@@ -57,68 +58,48 @@ pub fn gather(s: &[u8], n: usize) -> Gathered
 }
 
 // The labels whose row has the role, of the rows of `g` from `at` on.
-fn labels_of(g: &Gathered, at: usize, role: usize) -> Set
+fn labels_of(g: &Gathered, at: usize, role: usize) -> Members
     requires { ⌜ at ≤ 512 ⌝ }
-    ensures { λ r. ⌜ Upto 32 (λ l. related (now (g .entry)) at l role) r ⌝ }
+    ensures { λ r. ⌜ ((l : ℕ) → Among 32 l → holds r l ≡ related (now (g .entry)) at l role) ⌝ }
 {
-    let mut r = [false; layout::LABELS];
+    let mut r = 0;
     let mut i = 0;
     while i < layout::LABELS {
-        r[i] = roleset::has(g, at + ROW_BYTES * i, role);
+        r = order::bounds::with(r, i + 1, roleset::has(g, at + ROW_BYTES * i, role));
         i += 1;
     }
     r
 }
 
-// Whether one of the first n things is in the set.
-fn any(s: &Set, n: usize) -> bool
-    requires { ⌜ n ≤ 32 ⌝ }
-    ensures { λ r. ⌜ r ≡ some n (marks (now (s .entry))) ⌝ }
+// The level of a set of labels, of which the first n count: its bound by the rows of t, as it is kept. `all` is
+// the set of the n labels.
+fn level_of(t: &Rows, n: usize, all: Members, s: Members) -> u8
+    requires { ⌜ (n ≤ 32) × FirstLabels n all ⌝ }
+    ensures { λ r. ⌜ r ≡ levelNumber (level n (converse (held (now (t .entry)))) (holds s)) ⌝ }
 {
-    let mut i = 0;
-    while i < n {
-        if s[i] {
-            return true;
-        }
-        i += 1;
-    }
-    false
-}
-
-// The level of a set of labels: its bound by the rows of t, as it is kept. `all` is the set of the n labels.
-fn level_of(t: &Table, n: usize, all: &Set, s: &Set) -> u8
-    requires { ⌜ (n ≤ 32) × FirstThings n (now all) ⌝ }
-    ensures { λ r. ⌜ r ≡ levelNumber (level n (converse (mark (now (t .entry)))) (marks (now (s .entry)))) ⌝ }
-{
-    if !any(s, n) {
+    let set = s & all;
+    if !order::bounds::any(set) {
         return layout::FREE;
     }
-    let bound = order::bounds::greatest_lower(t, n, all, *s);
+    let bound = order::bounds::greatest_lower(t, all, set);
     if bound == 0 {
         return layout::UNDEFINED;
     }
     bound as u8
 }
 
-// Puts both levels of each of the first `roles` roles. `all` is the set of the n labels.
-pub fn put_levels(
-    s: &mut [u8],
-    g: &Gathered,
-    down: &Table,
-    up: &Table,
-    n: usize,
-    all: &Set,
-    roles: usize,
-)
-    requires { ⌜ (seniorsAt ≤ length (now s)) × (n ≤ 32) × FirstThings n (now all) × (roles ≤ 128) ⌝ }
-    ensures { λ _. ⌜ LevelBytes roles (λ d r. levelNumber (level n (converse (mark (byMode (now (up .entry)) (now (down .entry)) d))) (λ l. related (now (g .entry)) (gatheredAt d) l r))) (now (s .entry)) (now (s .exit)) ⌝ }
+// Puts both levels of each of the first `roles` roles, by the n labels under each label and those over it.
+pub fn put_levels(s: &mut [u8], g: &Gathered, under: &Rows, over: &Rows, n: usize, roles: usize)
+    requires { ⌜ (seniorsAt ≤ length (now s)) × (n ≤ 32) × (roles ≤ 128) ⌝ }
+    ensures { λ _. ⌜ LevelBytes roles (λ d r. levelNumber (level n (converse (held (byMode (now (over .entry)) (now (under .entry)) d))) (λ l. related (now (g .entry)) (gatheredAt d) l r))) (now (s .entry)) (now (s .exit)) ⌝ }
 {
+    let all = order::bounds::first_things(n);
     let mut i = 0;
     while i < roles {
         let reads = labels_of(g, READ_AT, i + 1);
-        s[layout::R_LEVELS_AT + i] = level_of(up, n, all, &reads);
+        s[layout::R_LEVELS_AT + i] = level_of(over, n, all, reads);
         let writes = labels_of(g, WRITTEN_AT, i + 1);
-        s[layout::W_LEVELS_AT + i] = level_of(down, n, all, &writes);
+        s[layout::W_LEVELS_AT + i] = level_of(under, n, all, writes);
         i += 1;
     }
 }

@@ -3,12 +3,13 @@ use Prim.Native.Nat.{ℕ, zero, suc, _+_, _*_, _%_, _≤_}
 use mathlib.Core.Path.{_≡_}
 use mathlib.Core.List.{List}
 use mathlib.Core.Bool.{Bool, not, _&&_, _||_, cond}
-use lib.Dec.{eqb}
+use lib.Dec.{leb, eqb}
 use lib.ListN.{getD}
 use Rattle.search.specs.Search.{among, some, Among}
 use Rattle.roleset.specs.Row.{member, rowOf, Kept}
 use Rattle.order.specs.Closure.{Relation, Agree}
 use Rattle.order.specs.Table.{mark, related}
+use Rattle.order.specs.inner.Members.{holds, held}
 use Rattle.rolefile.specs.declared.Verdict.{Verdict}
 use Rattle.rolefile.specs.Form.{fine, refusal, unless}
 use Rattle.rolefile.specs.inner.Section.{one, two, three, pairs}
@@ -115,25 +116,31 @@ pastCard t xs o r q = related t 0 r q || flowsByCard xs r q o
 abbrev pub withoutLoops : List ℕ → Relation
 withoutLoops t r q = related t 0 r q && not (eqb q r)
 
--- ---- 14 to 16 by the tables of a state and by two tables of marks: down has the labels under each label, up those over it
+-- ---- sets of labels as numbers
+
+-- x is the set of the first n labels
+abbrev pub FirstLabels : ℕ → ℕ → Type 0
+FirstLabels n x = (l : ℕ) → Among 32 l → holds x l ≡ leb l n
+
+-- ---- 14 to 16 by the tables of a state and by rows of labels: under has the labels under each label, over those over it
 
 -- y is in the row of label a; what is none of the 32 has an empty row
-abbrev pub inRow : List (List Bool) → ℕ → ℕ → Bool
-inRow t a y = among 32 a && mark t a y
+abbrev pub inRow : List ℕ → ℕ → ℕ → Bool
+inRow t a y = among 32 a && held t a y
 
 -- y is in the row of a level; where the level is 0, free, every label is
-abbrev pub levelRow : List (List Bool) → ℕ → ℕ → Bool
+abbrev pub levelRow : List ℕ → ℕ → ℕ → Bool
 levelRow t level y = eqb level 0 || inRow t level y
 
 -- some label is under the clearance, over the r-level and under the w-level
-unfoldable pub someServes : List (List Bool) → List (List Bool) → ℕ → ℕ → ℕ → Bool
-someServes down up clearance reads writes = some 32 (λ y. inRow down clearance y && (levelRow up reads y && levelRow down writes y))
+unfoldable pub someServes : List ℕ → List ℕ → ℕ → ℕ → ℕ → Bool
+someServes under over clearance reads writes = some 32 (λ y. inRow under clearance y && (levelRow over reads y && levelRow under writes y))
 
-unfoldable pub assignByTables : List ℕ → List (List Bool) → List (List Bool) → ℕ → ℕ → Verdict
-assignByTables xs down up u r =
+unfoldable pub assignByTables : List ℕ → List ℕ → List ℕ → ℕ → ℕ → Verdict
+assignByTables xs under over u r =
     let c = byteOf xs clearancesAt u in
     let reads = byteOf xs rLevelsAt r in
     let writes = byteOf xs wLevelsAt r in
     unless (not (eqb writes 99)) (refusal 14 u r)
     (unless (passesIn xs reads c reads) (refusal 15 u r)
-    (unless (someServes down up c reads writes) (refusal 16 u r) fine))
+    (unless (someServes under over c reads writes) (refusal 16 u r) fine))

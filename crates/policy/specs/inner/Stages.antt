@@ -7,7 +7,6 @@ use lib.Dec.{leb}
 use lib.ListN.{getD}
 use Rattle.roleset.specs.Row.{Kept}
 use Rattle.order.specs.Closure.{Relation, Agree, path}
-use Rattle.order.specs.Bound.{converse}
 use Rattle.order.specs.Table.{mark, Rows}
 use Rattle.rolefile.specs.declared.Line.{Line}
 use Rattle.rolefile.specs.declared.Verdict.{Verdict}
@@ -56,16 +55,13 @@ pub record Noting (f : List ℕ) (v : Verdict) (xs ys : List ℕ) : Type 0 where
 abbrev pub PathRows : ℕ → ℕ → Relation → Relation → Type 0
 PathRows size n e u = Rows size n (path n e) (λ a b. false) u
 
--- the paths of dominance, and its closure, as tables
+-- the paths of dominance as a table
 abbrev pub Paths : List ℕ → List (List Bool) → Type 0
 Paths f t = PathRows 32 (labels f) (over f) (mark t)
 
-abbrev pub Closed : List ℕ → List (List Bool) → Type 0
-Closed f t = Agree 32 32 (mark t) (λ a b. leb a (labels f) && dominates f a b)
-
--- up is the order of down turned round
-abbrev pub Turned : List (List Bool) → List (List Bool) → Type 0
-Turned down up = Agree 32 32 (mark up) (converse (mark down))
+-- m is dominance among the labels, and nothing in the rows after
+abbrev pub Closed : List ℕ → Relation → Type 0
+Closed f m = Agree 32 32 m (λ a b. leb a (labels f) && dominates f a b)
 
 -- 13
 pub record Ranking (f : List ℕ) (v : Verdict) (xs ys : List ℕ) : Type 0 where

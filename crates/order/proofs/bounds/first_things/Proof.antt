@@ -1,36 +1,34 @@
--- Each turn stores one mark more.
-use Prim.Native.Nat.{_≤_, _-_}
-use mathlib.Core.Path.{_≡_}
+-- The first n bits of 2 ^ n - 1 are set, and no others.
+use Prim.Native.Nat.{ℕ, suc, _-_, _*_, _%_, _^_, _≤_}
+use mathlib.Core.Path.{_≡_, sym, ap, _∙_}
 use native.Mathlib.Omega.{arith}
 use borrow.Author.Needs.{needs}
-use lib.ListN.{length}
-use native.Mathlib.Numerals.{add-one}
+use borrow.Author.Tests.{le-leb}
 use lib.Dec.{leb}
-use Rattle.order.specs.Table.{Upto}
-use Rattle.order.proofs.Stored.{upto-more}
+use lib.Pow.{pow-pos}
+use Rattle.roleset.proofs.Bits.{bit-ones, one-shifted}
+use Rattle.order.specs.inner.Members.{holds}
 use Rattle.order.proofs.bounds.first_things.Statement.{statement}
 use Rattle.order.proofs.bounds.first_things.Tie as tie
 
-abbrev Inv-loop : tie.InvT-loop
-Inv-loop n r₀ i₀ r i = (i ≤ 32) × (length r ≡ 32) × Upto i (λ a. leb a n) r
+firsts : (n a : ℕ) → 1 ≤ a → holds (2 ^ n - 1) a ≡ leb a n
+firsts n a l = let place : suc (a - 1) ≡ a = omega arith in rw place at (bit-ones n (a - 1))
 
-abbrev μ-loop : tie.MeasureT-loop
-μ-loop n r₀ i₀ r i = 32 - i
+returns : tie.Need-returns
+returns c a w = firsts 32 a (w .0) ∙ le-leb a 32 (w .1) ∙ sym (le-leb a (c .before .args .n) (omega arith))
 
-loop-again : tie.Need-loop-again Inv-loop μ-loop
-loop-again c =
-    let w = c .before .loop in
-    (search needs, search needs, upto-more _ (w .r) (w .i) _ (search needs) (w .inv .2) (rw add-one))
+power : (c : tie.Else1) → 1 * 2 ^ (c .before .args .n) % 2 ^ 32 ≡ 2 ^ (c .before .args .n)
+power c = one-shifted 32 (c .before .args .n) (omega arith)
+
+returns-2 : tie.Need-returns-2
+returns-2 c a w = ap (λ (x : ℕ). holds (x - 1) a) (power c) ∙ firsts (c .before .args .n) a (w .0)
 
 pub first-things-spec : {M : Type 1} → statement M
 first-things-spec =
     tie.close
     (tie.spec
-    Inv-loop
-    μ-loop
-    (λ c. (search needs, search needs, λ b w. absurd (omega arith)))
+    returns
     (λ c. search needs)
     (λ c. search needs)
-    (λ c. search needs)
-    loop-again
-    (λ c b w. c .before .loop .inv .2 b (omega arith)))
+    (λ c. rw (power c) (pow-pos (c .before .args .n)))
+    returns-2)

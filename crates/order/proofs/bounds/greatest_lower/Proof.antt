@@ -1,5 +1,4 @@
 -- The greatest of the lower bounds.
-use Prim.Native.Nat.{min}
 use mathlib.Core.Path.{_∙_}
 use mathlib.Core.Bool.{_&&_}
 use native.Mathlib.Omega.{arith}
@@ -7,18 +6,18 @@ use borrow.Author.Needs.{needs}
 use borrow.Author.Tests.{le-leb}
 use denote.Ref.{now}
 use Rattle.order.specs.Bound.{converse, upper}
-use Rattle.order.specs.Table.{mark, marks}
+use Rattle.order.specs.inner.Members.{holds, held}
 use Rattle.order.proofs.Bound.{least-cut}
 use Rattle.order.proofs.bounds.greatest_lower.Statement.{statement}
 use Rattle.order.proofs.bounds.greatest_lower.Tie as tie
 
 returns : tie.Need-returns
 returns c =
-    let a = c .before .before .before .args in
-    let order = converse (mark (now (a .t))) in
-    let bounds = c .before .before .lower-bounds in
+    let a = c .before .before .args in
+    let order = converse (held (now (a .t))) in
+    let bounds = c .before .lower-bounds in
     c .greatest .ensures
-    ∙ least-cut 32 32 order (λ x. marks (now (a .all)) x && upper (min (a .n) 32) order (marks (a .s)) x) (marks (bounds .result)) (omega arith) (λ x w.
+    ∙ least-cut 32 32 order (λ x. holds (a .all) x && upper 32 order (holds (a .s)) x) (holds (bounds .result)) (omega arith) (λ x w.
     bounds .ensures x w ∙ rw (le-leb x 32 (w .1)))
 
 pub greatest-lower-spec : {M : Type 1} → statement M

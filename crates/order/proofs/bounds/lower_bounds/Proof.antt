@@ -1,54 +1,95 @@
--- After each turn the set holds the things of `all` that are under each of the set so far.
-use Prim.Native.Nat.{ℕ, _+_, _≤_, _-_, min}
-use mathlib.Core.Path.{_≡_, sym, _∙_}
-use lib.ListN.{getD}
-use mathlib.Core.Bool.{Bool, false, _&&_, and-true, and-assoc}
-use mathlib.Core.List.{List, []}
+-- After each turn the set has the things of `all` that are under each of s that is not left.
+use Prim.Native.Nat.{ℕ, _+_, _-_}
+use mathlib.Core.Path.{_≡_, sym, ap, _∙_}
+use mathlib.Core.Bool.{Bool, true, false, not, _&&_, _||_, and-true, or-false, and-assoc, false≢true}
+use mathlib.Core.List.{List}
 use native.Mathlib.Nat.{add-sub-cancel}
 use native.Mathlib.Omega.{arith}
+use native.Mathlib.Decide.{ℕ-discrete}
 use borrow.Author.Needs.{needs}
+use borrow.Author.Tests.{eq-eqb, ne-eqb}
 use denote.Ref.{now}
-use Rattle.search.specs.Search.{every, implies}
-use Rattle.search.proofs.Found.{every-yet, every-more}
+use lib.Bits.{bitAnd}
+use lib.Count.{trailingZeros}
+use lib.Dec.{eqb}
+use lib.ListN.{getD}
+use Rattle.search.specs.Search.{every, implies, Among}
+use Rattle.search.proofs.Found.{every-agree, every-in, every-with}
+use Rattle.roleset.proofs.Bits.{bit-and, bit-zero}
 use Rattle.order.specs.Bound.{upper}
-use Rattle.order.specs.Table.{marks, mark, Upto}
+use Rattle.order.specs.inner.Members.{holds, held}
+use Rattle.order.proofs.Left.{Left, all-left, lowest-within, lowest-left, still, fewer, still-left}
 use Rattle.order.proofs.bounds.lower_bounds.Statement.{statement}
 use Rattle.order.proofs.bounds.lower_bounds.Tie as tie
 
--- c is under thing x, if that is in s
-abbrev under : List (List Bool) → List Bool → ℕ → ℕ → Bool
-under t s c x = implies (marks s x) (mark t x c)
+-- thing x of s has had its turn
+abbrev Taken : ℕ → ℕ → ℕ → Bool
+Taken s rest x = holds s x && not (holds rest x)
 
-one-more : (t : List (List Bool)) (s : List Bool) (x i : ℕ) (one now : Bool) → now ≡ (one && every i (under t s x))
-    → (now && implies (getD s i false) (marks (getD t i []) x)) ≡ (one && every (i + 1) (under t s x))
-one-more t s x i one now e =
-    rw (e, every-more (under t s x) i, add-sub-cancel i 1) (and-assoc one (every i (under t s x)) (implies (getD s i false) (marks (getD t i []) x)))
+-- c is under each of s that has
+abbrev Under : List ℕ → ℕ → ℕ → ℕ → Bool
+Under t s rest c = every 32 (λ x. implies (Taken s rest x) (held t x c))
+
+none-taken : (t : List ℕ) (s c : ℕ) → Under t s s c ≡ true
+none-taken t s c = every-in 32 (Taken s s) (λ x. held t x c) .1 (λ x w h. absurd (never (holds s x) h))
+  where
+    never : (a : Bool) → (a && not a) ≡ true → ⊥
+    never true h = false≢true h
+    never false h = false≢true h
+
+-- the turn of the lowest that is left
+module _ {s rest : ℕ} (left : Left s rest) (some : rest ≡ 0 → ⊥) where
+  abbrev lowest : ℕ
+  lowest = trailingZeros 32 rest
+
+  abbrev dropped : ℕ
+  dropped = bitAnd rest (rest - 1)
+
+  taken : (x : ℕ) → Among 32 x → Taken s dropped x ≡ (Taken s rest x || eqb x (lowest + 1))
+  taken x w = elim (ℕ-discrete x (lowest + 1)) [
+    | yes q ↦
+        let place : x - 1 ≡ lowest = omega arith in
+        let set : holds rest x ≡ true = rw q (lowest-left left some) in
+        rw (still left some x, set, left .of x w set, eq-eqb (x - 1) lowest place, eq-eqb x (lowest + 1) q)
+    | no q ↦
+        rw (still left some x, ne-eqb (x - 1) lowest (λ e. q (omega arith)), ne-eqb x (lowest + 1) q, and-true (holds rest x))
+        (sym (or-false (Taken s rest x)))
+  ]
+
+  under-more : (t : List ℕ) (c r : ℕ) (all : Bool) → holds r c ≡ (all && Under t s rest c) → holds (bitAnd r (getD t lowest 0)) c ≡ (all && Under t s dropped c)
+  under-more t c r all e =
+      let low = lowest-within left some in
+      bit-and r (getD t lowest 0) (c - 1)
+      ∙ rw (e, every-with 32 (Taken s rest) (Taken s dropped) (λ x. held t x c) (lowest + 1) (omega arith) taken, add-sub-cancel lowest 1)
+      (and-assoc all (Under t s rest c) (holds (getD t lowest 0) c))
 
 abbrev Inv-loop : tie.InvT-loop
-Inv-loop t n all s m r₀ i₀ r i = (m ≤ 32) × (i ≤ m) × Upto 32 (λ c. marks all c && every i (under t s c)) r
+Inv-loop t all s r₀ rest₀ r rest = Left s rest × ((c : ℕ) → Among 32 c → holds r c ≡ (holds all c && Under t s rest c))
 
 abbrev μ-loop : tie.MeasureT-loop
-μ-loop t n all s m r₀ i₀ r i = m - i
+μ-loop t all s r₀ rest₀ r rest = rest
 
-loop-holds : tie.Need-loop-holds Inv-loop μ-loop
-loop-holds c = (search needs, search needs, λ x w. rw (← (every-yet _)) (sym (and-true _)))
+-- the lowest that is left is a thing
+member : tie.Need-element-copy-out-r Inv-loop μ-loop
+member c = lowest-within (c .before .loop .inv .0) (λ z. omega arith)
 
 loop-again : tie.Need-loop-again Inv-loop μ-loop
 loop-again c =
-    let a = c .before .before .before .before .before .before .args in
-    let w = c .before .before .before .loop in (
-      search needs,
-      search needs,
-      λ x v. c .narrowed .ensures x v ∙ one-more (now (a .t)) (a .t4) x (w .i) (marks (now (a .all)) x) _ (w .inv .2 x v),
-    )
+    let w = c .before .before .loop in
+    let a = c .before .before .before .args in
+    let some : (w .rest ≡ 0 → ⊥) = λ z. omega arith in
+    (still-left (w .inv .0) some, λ x v. under-more (w .inv .0) some (now (a .t)) x (w .r) (holds (a .all) x) (w .inv .1 x v))
 
 returns : tie.Need-returns Inv-loop μ-loop
 unfolding upper
-returns c =
-    let n = c .before .before .before .before .args .n in
+returns c x v =
+    let a = c .before .before .args in
     let w = c .before .loop in
-    let i : w .i ≡ min n 32 = omega arith in
-    rw i at (w .inv .2)
+    let none : w .rest ≡ 0 = omega arith in
+    w .inv .1 x v
+    ∙ ap (λ (b : Bool). holds (a .all) x && b)
+    (every-agree (λ y. implies (Taken (a .s) (w .rest) y) (held (now (a .t)) y x)) (λ y. implies (holds (a .s) y) (held (now (a .t)) y x)) 32
+    (λ y u. rw (none, bit-zero (y - 1), and-true (holds (a .s) y))))
 
 pub lower-bounds-spec : {M : Type 1} → statement M
 lower-bounds-spec =
@@ -56,13 +97,11 @@ lower-bounds-spec =
     (tie.spec
     Inv-loop
     μ-loop
-    (λ c κs. search needs)
-    loop-holds
+    (λ c. (all-left _ (omega arith), λ x v. rw (none-taken _ _ x) (sym (and-true _))))
+    (λ c. omega (arith, member c))
+    (λ c. omega (arith, member c))
+    member
     (λ c. search needs)
-    (λ c. search needs)
-    (λ c. search needs)
-    (λ c κs. search needs)
-    (λ c. search needs)
-    (λ c. search needs)
+    (λ c. fewer (c .before .before .loop .inv .0) (λ z. omega arith))
     loop-again
     returns)

@@ -9,7 +9,7 @@ use borrow.Author.Needs.{needs}
 use denote.Ref.{now}
 use lib.ListN.{length, getD}
 use Rattle.order.specs.Closure.{Relation, round}
-use Rattle.order.specs.Table.{mark, Rows}
+use Rattle.order.specs.Table.{marks, mark, Rows}
 use Rattle.order.proofs.Closure.{rows-none, rows-more}
 use Rattle.order.proofs.Stored.{set-row}
 use Rattle.order.proofs.marks.pass.Statement.{statement}
@@ -36,7 +36,7 @@ loop-again c =
       search needs,
       search needs,
       rows-more 32 _ _ (w .i) _ _ (search needs) (w .inv .2)
-          (set-row _ (w .t) (w .i) (c .stepped .result) (search needs) (λ b v.
+          (set-row marks [] _ (w .t) (w .i) (c .stepped .result) (search needs) (λ b v.
           simp (add-sub-cancel (w .i) 1, add-sub-cancel (a .k) 1) (c .stepped .ensures b v ∙ rw (seat (b - 1) (omega arith), seat (a .k) (search needs))))),
     )
 

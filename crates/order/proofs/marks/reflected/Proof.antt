@@ -1,12 +1,13 @@
 -- Each turn stores the next row, made from the old table.
 use Prim.Native.Nat.{_≤_, _-_, min}
 use mathlib.Core.Path.{_≡_}
+use mathlib.Core.List.{[]}
 use native.Mathlib.Nat.{add-sub-cancel}
 use native.Mathlib.Omega.{arith}
 use borrow.Author.Needs.{needs}
 use lib.ListN.{length}
 use Rattle.order.specs.Closure.{withItself}
-use Rattle.order.specs.Table.{mark, Rows}
+use Rattle.order.specs.Table.{marks, mark, Rows}
 use Rattle.order.proofs.Closure.{rows-none, rows-more}
 use Rattle.order.proofs.Stored.{set-row}
 use Rattle.order.proofs.marks.reflected.Statement.{statement}
@@ -25,7 +26,7 @@ loop-again c =
       search needs,
       search needs,
       rows-more 32 _ _ (w .i) _ _ (search needs) (w .inv .3)
-          (set-row _ (w .r) (w .i) (c .with-mark .result) (search needs) (simp (add-sub-cancel (w .i) 1) (c .with-mark .ensures))),
+          (set-row marks [] _ (w .r) (w .i) (c .with-mark .result) (search needs) (simp (add-sub-cancel (w .i) 1) (c .with-mark .ensures))),
     )
 
 returns : tie.Need-returns Inv-loop μ-loop

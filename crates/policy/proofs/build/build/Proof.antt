@@ -1,6 +1,6 @@
 -- Stage after stage: a stage that refuses decides the file, and where none does the tables are the file's.
 use Prim.Native.Nat.{ℕ, min}
-use mathlib.Core.Path.{_≡_, sym, _∙_}
+use mathlib.Core.Path.{_≡_, sym, ap, _∙_}
 use mathlib.Core.List.{List}
 use native.Mathlib.Omega.{arith}
 use borrow.Author.Needs.{needs}
@@ -8,6 +8,8 @@ use denote.Ref.{now}
 use lib.ListN.{length}
 use Rattle.order.specs.Bound.{converse}
 use Rattle.order.specs.Table.{mark}
+use Rattle.order.specs.inner.Members.{held}
+use Rattle.rolefile.specs.declared.Line.{Line}
 use Rattle.rolefile.specs.Line.{lines}
 use Rattle.rolefile.specs.Form.{linesVerdict, unlabelledVerdict}
 use Rattle.rolefile.specs.Said.{labels}
@@ -16,7 +18,7 @@ use Rattle.policy.proofs.Checks.{assignment-clean}
 use Rattle.policy.specs.Verdict.{labelVerdict, roleVerdict, assignmentVerdict, verdict}
 use Rattle.policy.specs.inner.Stages.{Ready, Closed}
 use Rattle.policy.proofs.Readying.{counts-of, head-labels}
-use Rattle.policy.proofs.Dominance.{closed-of, turned-agree, order-verdict-is}
+use Rattle.policy.proofs.Dominance.{closed-of, closed-rows, closed-agree, order-verdict-is}
 use Rattle.policy.proofs.Builds.{refused-lines, refused-labels, refused-order, refused-roles, the-last, built-refused}
 use Rattle.policy.proofs.Builds.{Ranked, ranked-of, level-zeros, row-zeros, third-labelled, third-zeros, image}
 use Rattle.policy.proofs.build.build.Statement.{statement}
@@ -34,7 +36,7 @@ abbrev laid : tie.After-note-labels → tie.After-lay-out
 laid c = c .before .before
 
 abbrev noted : tie.After-check-labels → tie.After-note-labels
-noted c = c .before .before .before .before .before .before .before .before
+noted c = c .before .before .before .before .before .before .before
 
 abbrev ordered : tie.After-rank-roles → tie.After-check-labels
 ordered c = c .before .before .before .before
@@ -45,8 +47,11 @@ ranked c = c .before .before .before .before
 abbrev granted : tie.After-check-assignments → tie.After-grant-all
 granted c = c .before .before .before .before .before .before
 
+abbrev columned : tie.After-grant-all → tie.After-columns
+columned c = c .before .before .before .before .before
+
 abbrev passed : tie.After-grant-all → tie.Else4
-passed c = c .before .before .before .before
+passed c = columned c .before .before .before .before
 
 -- ---- the stages passed so far
 
@@ -57,25 +62,28 @@ ready : (c : tie.After-lay-out) → Ready (file c) (c .lay-out .result) (c .befo
 ready c = record { lines = lines-pass c; laid = c .lay-out .ensures; head = c .before .first-line .ensures }
 
 labels-pass : (c : tie.After-check-labels) → unlabelledVerdict (file (laid (noted c))) .number ≡ 0
-labels-pass c = rw (noted c .note-labels .ensures .answer) at (c .before .before .before .before .if2 .left)
+labels-pass c = rw (noted c .note-labels .ensures .answer) at (c .before .before .before .if2 .left)
 
 count : (c : tie.After-lay-out) → min (c .before .first-line .result .a) 32 ≡ labels (file c)
 count c = head-labels _ _ _ (ready c)
 
-closed : (c : tie.After-check-labels) → Closed (file (laid (noted c))) (c .before .before .reflected .result)
+head-is : (c : tie.After-lay-out) → c .before .first-line .result .a ≡ labels (file c)
+head-is c = ap (λ (h : Line). h .a) (c .before .first-line .ensures)
+
+closed : (c : tie.After-check-labels) → Closed (file (laid (noted c))) (mark (c .before .reflected .result))
 closed c =
-    let down = c .before .before in
+    let down = c .before in
     let paths = down .before .dominance in
     closed-of _ (paths .result) (down .reflected .result) (paths .ensures) (rw (count (laid (noted c))) at (down .reflected .ensures))
 
 -- the order's verdict is the file's
 order-is : (c : tie.After-check-labels) → c .check-labels .result ≡ labelVerdict (file (laid (noted c)))
 order-is c =
-    let paths = c .before .before .before .dominance in
+    let paths = c .before .before .dominance in
     let few = counts-of _ (lines-pass (laid (noted c))) .labels in
     c .check-labels .ensures
     ∙ rw (count (laid (noted c)))
-    (order-verdict-is _ (paths .result) (converse (mark (c .before .converse .result))) (few .1) (paths .ensures) (turned-agree _ (c .before .before .reflected .result) (c .before .converse .result) (few .1) (closed c) (c .before .converse .ensures)))
+    (order-verdict-is _ (paths .result) (mark (c .before .reflected .result)) (few .1) (paths .ensures) (closed-agree _ (mark (c .before .reflected .result)) (few .1) (closed c)))
 
 order-pass : (c : tie.After-rank-roles) → labelVerdict (file (laid (noted (ordered c)))) .number ≡ 0
 order-pass c = rw (order-is (ordered c)) at (c .before .before .if3 .left)
@@ -97,8 +105,24 @@ module _ (c : tie.Else4) where
 
   stands : Ranked (file (laid labelling)) (ranked c .rank-roles .last .1 .0)
   stands =
-      ranked-of (entry .pre .1) (labelling .note-labels .ensures) (ordered (ranked c) .before .before .before .before .if2 .left)
+      ranked-of (entry .pre .1) (labelling .note-labels .ensures) (ordered (ranked c) .before .before .before .if2 .left)
       (ranked c .rank-roles .ensures) (c .if4 .left)
+
+-- dominance as rows: the labels under each label, and those over it
+module _ (c : tie.After-columns) where
+  abbrev unrefused : tie.Else4
+  unrefused = c .before .before .before .before
+
+  abbrev order : tie.After-check-labels
+  order = ordered (ranked unrefused)
+
+  lower : Closed (file (laid (noted order))) (held (c .before .before .rows .result))
+  lower = closed-rows _ (mark (order .before .reflected .result)) _ (closed order) (rw (head-is (laid (noted order))) at (c .before .before .rows .ensures))
+
+  upper : Closed (file (laid (noted order))) (converse (held (c .columns .result)))
+  upper =
+      closed-rows _ (mark (order .before .reflected .result)) _ (closed order)
+      (λ a b v w. rw (head-is (laid (noted order))) at (c .columns .ensures b a w v))
 
 granted-long : (c : tie.After-grant-all) → length (c .grant-all .last .1 .0) ≡ length (now (entry (passed c) .args .s))
 granted-long c = c .grant-all .kept .1 .0 ∙ ranked-long (passed c)
@@ -120,9 +144,10 @@ rank-roles-requires c κs =
 
 grant-all-requires : tie.Need-grant-all-requires
 grant-all-requires c κs =
-    let d = c .before .before .before in
+    let columns = c .before .before .before .before in
+    let d = unrefused columns in
     let long = ranked-long d ∙ entry d .pre .0 in
-    (ready (laid (labelling d)), omega arith, stands d .labelled, stands d .seniors, closed (ordered (ranked d)), ordered (ranked d) .before .converse .ensures, level-zeros (stands d), row-zeros (stands d))
+    (ready (laid (labelling d)), omega arith, stands d .labelled, stands d .seniors, closed (ordered (ranked d)), lower columns, upper columns, level-zeros (stands d), row-zeros (stands d))
 
 check-assignments-requires : tie.Need-check-assignments-requires
 check-assignments-requires c κs =
@@ -130,7 +155,7 @@ check-assignments-requires c κs =
     let d = passed g in
     let granting = g .grant-all .ensures in
     let long = granted-long g ∙ entry d .pre .0 in
-    (ready (laid (labelling d)), omega arith, third-labelled (stands d) granting, granting .dominating, granting .levelled, closed (ordered (ranked d)), ordered (ranked d) .before .converse .ensures)
+    (ready (laid (labelling d)), omega arith, third-labelled (stands d) granting, granting .dominating, granting .levelled, lower (columned g), upper (columned g))
 
 finish-requires : tie.Need-finish-requires
 finish-requires c κs =
@@ -205,12 +230,13 @@ build-spec =
     dominance-requires
     (λ c κs. search needs)
     (λ c κs. search needs)
-    (λ c κs. search needs)
     (λ c. search needs)
     returns-3
     rank-roles-requires
     (λ c. search needs)
     returns-4
+    (λ c κs. search needs)
+    (λ c κs. search needs)
     grant-all-requires
     check-assignments-requires
     (λ c. granted-long (granted (c .before .before)))

@@ -30,15 +30,15 @@ returns c =
     let f = now (start .args .f) in
     let ys = now (start .args .s) in
     let q = start .args .q in
-    let (ready, long, labelled, dominating, levelled, closed, turned) = start .pre in
-    let down = now (start .args .down) in
-    let up = now (start .args .up) in
+    let (ready, long, labelled, dominating, levelled, lower, upper) = start .pre in
+    let under = now (start .args .under) in
+    let over = now (start .args .over) in
     let l = ready .lines in
     let good = good-of f l in
     let counts = counts-of f l in
     rw (c .before .part .ensures) at (c .assign-lines .ensures)
-    ∙ scan-assignments f good counts (a-lines f q l (ready .laid)) (assignByTables ys down up)
-    (tables-verdict (settings f) ys (counts .labels .1) (dominates-inside f good) dominating labelled levelled down up closed turned)
+    ∙ scan-assignments f good counts (a-lines f q l (ready .laid)) (assignByTables ys under over)
+    (tables-verdict (settings f) ys (counts .labels .1) (dominates-inside f good) dominating labelled levelled under over lower upper)
 
 pub check-assignments-spec : {M : Type 1} → statement M
 check-assignments-spec = tie.close (tie.spec (λ c κs. search needs) assign-lines-requires returns)

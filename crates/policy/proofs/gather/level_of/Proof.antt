@@ -1,45 +1,64 @@
 -- Free where the set is empty, undefined where there is no bound, and else the bound.
-use Prim.Native.Nat.{min}
+use Prim.Native.Nat.{ℕ, _-_, _≤_}
 use mathlib.Core.Path.{_≡_, _∙_}
+use mathlib.Core.Bool.{_&&_, and-comm}
 use native.Mathlib.Omega.{arith}
 use borrow.Author.Needs.{needs}
 use denote.Ref.{now}
+use lib.Bits.{bitAnd}
+use lib.Dec.{leb}
+use Rattle.search.specs.Search.{Among, some}
 use Rattle.search.proofs.Truth.{passed, failed}
+use Rattle.search.proofs.Found.{some-cut, every-cut}
+use Rattle.roleset.proofs.Bits.{bit-and}
 use Rattle.order.specs.Bound.{lub, converse, upper}
-use Rattle.order.specs.Table.{marks, mark}
+use Rattle.order.specs.inner.Members.{holds, held}
 use Rattle.order.proofs.Bound.{lub-within, least-cut}
+use Rattle.policy.specs.inner.Filling.{FirstLabels}
 use Rattle.policy.proofs.Gathering.{level-empty, level-unbounded, level-bound}
 use Rattle.policy.proofs.gather.level_of.Statement.{statement}
 use Rattle.policy.proofs.gather.level_of.Tie as tie
 
+-- the set cut down to the first n labels
+cut : (n all s : ℕ) → FirstLabels n all → (l : ℕ) → Among 32 l → holds (bitAnd s all) l ≡ (leb l n && holds s l)
+cut n all s firsts l w = bit-and s all (l - 1) ∙ rw (firsts l w) (and-comm (holds s l) (leb l n))
+
+-- whether it has a label
+some-label : (c : tie.After-any) → let a = c .before .args in c .any .result ≡ some (a .n) (holds (a .s))
+some-label c =
+    let a = c .before .args in
+    let (few, firsts) = c .before .pre in
+    c .any .ensures ∙ some-cut (a .n) 32 few (holds (a .s)) (holds (bitAnd (a .s) (a .all))) (cut (a .n) (a .all) (a .s) firsts)
+
 returns : tie.Need-returns
-returns c = level-empty _ _ _ (failed (c .before .any .ensures) (c .if1 .taken))
+returns c = level-empty _ _ _ (failed (some-label (c .before)) (c .if1 .taken))
 
 -- the bound that was found
-found : (c : tie.After-greatest-lower) → let a = c .before .before .before .before .args in c .greatest-lower .result ≡ lub (a .n) (converse (mark (now (a .t)))) (marks (now (a .s)))
-unfolding lub
+found : (c : tie.After-greatest-lower) → let a = c .before .before .before .args in c .greatest-lower .result ≡ lub (a .n) (converse (held (now (a .t)))) (holds (a .s))
+unfolding lub upper
 found c =
-    let start = c .before .before .before .before in
+    let start = c .before .before .before in
     let a = start .args in
-    let order = converse (mark (now (a .t))) in
-    let q : min (a .n) 32 ≡ a .n = omega arith in
-    rw q at (c .greatest-lower .ensures)
-    ∙ least-cut (a .n) 32 order (upper (a .n) order (marks (now (a .s)))) _ (search needs) (λ x w. rw (start .pre .1 x w))
+    let (few, firsts) = start .pre in
+    let order = converse (held (now (a .t))) in
+    c .greatest-lower .ensures
+    ∙ least-cut (a .n) 32 order (upper (a .n) order (holds (a .s))) _ few (λ x w.
+    rw (firsts x w, every-cut (a .n) 32 few (holds (a .s)) (holds (bitAnd (a .s) (a .all))) (order x) (cut (a .n) (a .all) (a .s) firsts)))
 
 returns-2 : tie.Need-returns-2
 returns-2 c =
     let g = c .before in
-    level-unbounded _ _ _ _ (passed (g .before .before .before .any .ensures) (g .before .before .if1 .left)) (found g) (c .if2 .taken)
+    level-unbounded _ _ _ _ (passed (some-label (g .before .before)) (g .before .if1 .left)) (found g) (c .if2 .taken)
 
 cast-result : tie.Need-cast-result
 cast-result c =
-    let a = c .before .before .before .before .before .args in
-    omega (arith, found (c .before), lub-within (a .n) (converse (mark (now (a .t)))) (marks (now (a .s))))
+    let a = c .before .before .before .before .args in
+    omega (arith, found (c .before), lub-within (a .n) (converse (held (now (a .t)))) (holds (a .s)))
 
 returns-3 : tie.Need-returns-3
 returns-3 c =
     let g = c .before in
-    level-bound _ _ _ _ (passed (g .before .before .before .any .ensures) (g .before .before .if1 .left)) (found g) (c .if2 .left)
+    level-bound _ _ _ _ (passed (some-label (g .before .before)) (g .before .if1 .left)) (found g) (c .if2 .left)
 
 pub level-of-spec : {M : Type 1} → statement M
 level-of-spec = tie.close (tie.spec (λ c κs. search needs) returns (λ c κs. search needs) returns-2 cast-result returns-3)
