@@ -7,7 +7,7 @@ use mathlib.Core.List.{List, [], _∷_, _++_, append-assoc, append-nil}
 use mathlib.Core.Bool.{true, _&&_}
 use native.Mathlib.Omega.{arith}
 use native.Mathlib.Decide.{decLt}
-use lib.Dec.{eqb}
+use lib.Dec.{leb, eqb}
 use lib.ListN.{length, replicate, length-append, length-replicate, replicate-append-replicate}
 use borrow.Author.Tests.{lt-ltb, le-ltb, eqb-true, ne-eqb}
 use Rattle.search.specs.Search.{among, Among}
@@ -18,11 +18,18 @@ use Rattle.rolefile.specs.Field.{blank, digitZero, digitNine, isDigit, c
 use Rattle.rolefile.specs.inner.Section.{figure}
 use Rattle.rolefile.specs.Decimal.{lastDigits, digits, padded, blanks}
 
+-- a digit, from the digit `low` on
+abbrev pub UpToNine : ℕ → ℕ → Type 0
+UpToNine low b = (low ≤ b) × (b ≤ digitNine)
+
+pub up-to-nine-iff : (low b : ℕ) → ((leb low b && leb b digitNine) ≡ true) ↔ UpToNine low b
+up-to-nine-iff low b = and-both (leb-iff low b) (leb-iff b digitNine)
+
 abbrev pub IsDigit : ℕ → Type 0
-IsDigit b = (digitZero ≤ b) × (b ≤ digitNine)
+IsDigit = UpToNine digitZero
 
 pub isDigit-iff : (b : ℕ) → (isDigit b ≡ true) ↔ IsDigit b
-isDigit-iff b = and-both (leb-iff digitZero b) (leb-iff b digitNine)
+isDigit-iff = up-to-nine-iff digitZero
 
 -- ---- what one column more reads as
 
@@ -38,6 +45,35 @@ module _ (P : Field → Type 0) (bad : P Bad) where
   after-number n b onDigit =
       either-by P (isDigit b && among 9999 n) (Number (10 * n + (b - digitZero))) Bad
       (λ p. let (d, a) = and-iff (isDigit b) (among 9999 n) .0 p in onDigit (isDigit-iff b .0 d) (among-iff 9999 n .0 a)) (λ p. bad)
+
+first-column : (b : ℕ) → IsDigit b → column Blank b ≡ Number (b - digitZero)
+unfolding column
+first-column b d = rw (ne-eqb b blank (omega arith), isDigit-iff b .1 d)
+
+next-column : (n b : ℕ) → Among 9999 n → IsDigit b → column (Number n) b ≡ Number (10 * n + (b - digitZero))
+unfolding column
+next-column n b a d = rw (isDigit-iff b .1 d, among-iff 9999 n .1 a)
+
+-- ---- three columns, of which the last is a digit
+
+-- a digit that others may follow
+abbrev Leads : ℕ → Type 0
+Leads = UpToNine (digitZero + 1)
+
+module _ (x y z : ℕ) (d : IsDigit z) where
+  pub one-digit : x ≡ blank → y ≡ blank → columns Blank (x ∷ y ∷ z ∷ []) ≡ Number (z - digitZero)
+  unfolding column columns
+  one-digit p q = rw (p, q) (first-column z d)
+
+  pub two-digits : x ≡ blank → Leads y → columns Blank (x ∷ y ∷ z ∷ []) ≡ Number (10 * (y - digitZero) + (z - digitZero))
+  unfolding column columns
+  two-digits p e = rw (p, first-column y (omega arith)) (next-column (y - digitZero) z (omega arith) d)
+
+  pub three-digits : Leads x → IsDigit y → columns Blank (x ∷ y ∷ z ∷ []) ≡ Number (100 * (x - digitZero) + (10 * (y - digitZero) + (z - digitZero)))
+  unfolding columns
+  three-digits e f =
+      let sum : 100 * (x - digitZero) + (10 * (y - digitZero) + (z - digitZero)) ≡ 10 * (10 * (x - digitZero) + (y - digitZero)) + (z - digitZero) = omega arith in
+      rw (first-column x (omega arith), next-column (x - digitZero) y (omega arith) f, next-column (10 * (x - digitZero) + (y - digitZero)) z (omega arith) d, sum)
 
 -- ---- the digits of n, by those of n / 10
 
@@ -131,16 +167,14 @@ blanks-read zero = refl
 blanks-read (suc k) = blanks-read k
 
 first-read : (n : ℕ) → n < 10 → column Blank (digitZero + n) ≡ Number n
-unfolding column
 first-read n l =
     let whole : digitZero + n - digitZero ≡ n = omega arith in
-    rw (ne-eqb (digitZero + n) blank (omega arith), isDigit-iff (digitZero + n) .1 (omega arith), whole)
+    first-column (digitZero + n) (omega arith) ∙ rw whole
 
 next-read : (n : ℕ) → 10 ≤ n → n < 100000 → column (Number (n / 10)) (digitZero + n % 10) ≡ Number n
-unfolding column
 next-read n l m =
     let whole : 10 * (n / 10) + (digitZero + n % 10 - digitZero) ≡ n = omega arith in
-    rw (isDigit-iff (digitZero + n % 10) .1 (omega arith), among-iff 9999 (n / 10) .1 (omega arith), whole)
+    next-column (n / 10) (digitZero + n % 10) (omega arith) (omega arith) ∙ rw whole
 
 digits-read : (k n : ℕ) → n < k → n < 100000 → columns Blank (digits n) ≡ Number n
 unfolding columns

@@ -12,33 +12,55 @@ use Rattle.search.proofs.Truth.{eqb-iff, and-both, same}
 use types.Run
 use Rattle.rolefile.specs.declared.Field.{Field}
 use Rattle.rolefile.specs.declared.Field.the-variants.{Blank, Number, Bad}
-use Rattle.rolefile.specs.Field.{blank, fieldAt, fieldNumber, value}
+use Rattle.rolefile.specs.Field.{blank, column, columns, fieldAt, fieldNumber, value}
 use Rattle.rolefile.specs.Line.{noLine, lineFrom}
 use Rattle.rolefile.specs.inner.Field.{takenOut}
 use Rattle.rolefile.proofs.Decimals.{field-blank}
 use Rattle.rolefile.proofs.Written.{FieldIs, number-stands, stands-number, not-made}
 use Rattle.rolefile.proofs.Field as field-type
 
--- four columns as one number, the first lowest
+-- columns as one number, the first lowest
+abbrev two : List ℕ → ℕ → ℕ
+two f at = getD f at 0 + 256 * getD f (at + 1) 0
+
 abbrev four : List ℕ → ℕ → ℕ
 four f at = getD f at 0 + 256 * getD f (at + 1) 0 + 65536 * getD f (at + 2) 0 + 16777216 * getD f (at + 3) 0
+
+abbrev twoBlanks : ℕ
+twoBlanks = 8224
 
 abbrev fourBlanks : ℕ
 fourBlanks = 538976288
 
--- five blanks, four of them tested at once
-module _ (f : List ℕ) (at : ℕ) where
-  pub blank-tested : getD f at 0 < 256 → getD f (at + 1) 0 < 256 → getD f (at + 2) 0 < 256 → getD f (at + 3) 0 < 256
-      → (eqb (four f at) fourBlanks && eqb (getD f (at + 4) 0) blank) ≡ eqb (fieldNumber false (fieldAt f at)) 0
-  blank-tested l m n o = same _ _ to of
+-- blanks before the columns that are read
+module _ (f : List ℕ) (at : ℕ) (byte : (i : ℕ) → getD f i 0 < 256) where
+  pub after-two : two f at ≡ twoBlanks → fieldAt f at ≡ columns Blank (getD f (at + 2) 0 ∷ getD f (at + 3) 0 ∷ getD f (at + 4) 0 ∷ [])
+  unfolding columns column
+  after-two e =
+      let e₁ : getD f (at + 1) 0 ≡ blank = omega (arith, byte at) in
+      let e₀ : getD f at 0 ≡ blank = omega arith in
+      rw (e₀, e₁)
+
+  four-blanks : four f at ≡ fourBlanks → (getD f at 0 ≡ blank) × (getD f (at + 1) 0 ≡ blank) × (getD f (at + 2) 0 ≡ blank) × (getD f (at + 3) 0 ≡ blank)
+  four-blanks h =
+      let e₃ : getD f (at + 3) 0 ≡ blank = omega (arith, byte at, byte (at + 1), byte (at + 2)) in
+      let e₂ : getD f (at + 2) 0 ≡ blank = omega (arith, byte at, byte (at + 1)) in
+      let e₁ : getD f (at + 1) 0 ≡ blank = omega (arith, byte at) in
+      let e₀ : getD f at 0 ≡ blank = omega arith in
+      (e₀, e₁, e₂, e₃)
+
+  pub after-four : four f at ≡ fourBlanks → column Blank (getD f (at + 4) 0) ≡ fieldAt f at
+  unfolding columns column
+  after-four h = let (e₀, e₁, e₂, e₃) = four-blanks h in rw (e₀, e₁, e₂, e₃)
+
+  -- five blanks, four of them tested at once
+  pub blank-tested : (eqb (four f at) fourBlanks && eqb (getD f (at + 4) 0) blank) ≡ eqb (fieldNumber false (fieldAt f at)) 0
+  blank-tested = same _ _ to of
     where
       to : (eqb (four f at) fourBlanks && eqb (getD f (at + 4) 0) blank) ≡ true → eqb (fieldNumber false (fieldAt f at)) 0 ≡ true
       to e =
           let (h, e₄) = and-both (eqb-iff (four f at) fourBlanks) (eqb-iff (getD f (at + 4) 0) blank) .0 e in
-          let e₃ : getD f (at + 3) 0 ≡ blank = omega arith in
-          let e₂ : getD f (at + 2) 0 ≡ blank = omega arith in
-          let e₁ : getD f (at + 1) 0 ≡ blank = omega arith in
-          let e₀ : getD f at 0 ≡ blank = omega arith in
+          let (e₀, e₁, e₂, e₃) = four-blanks h in
           let b : fieldAt f at ≡ Blank = field-blank f at .1 (rw (e₀, e₁, e₂, e₃, e₄)) in
           rw b
 

@@ -54,27 +54,41 @@ pub fn counts_fit(labels: u64, roles: u64, users: u64, cards: u64) -> bool
         & ((roles <= ROLE_LIMIT) & ((users <= USER_LIMIT) & (cards <= CARD_LIMIT)))
 }
 
-// 4: the count that the first field of a letter's lines goes up to, and the second.
-fn first_limit(h: Line, k: u64) -> u64
-    ensures { λ r. ⌜ r ≡ firstLimit h k ⌝ }
-{
-    match k {
-        read::D => h.a,
-        read::S => h.b,
-        read::P => h.b,
-        read::O => h.d,
-        _ => h.c,
-    }
+// 4: the counts that the first and the second field of a letter's lines go up to.
+struct Limits {
+    first: u64,
+    second: u64,
 }
 
-fn second_limit(h: Line, k: u64) -> u64
-    ensures { λ r. ⌜ r ≡ secondLimit h k ⌝ }
+// Those of the letter k, under the counts h.
+fn limits_of(h: Line, k: u64) -> Limits
+    ensures { λ r. ⌜ (r .first ≡ firstLimit h k) × (r .second ≡ secondLimit h k) ⌝ }
 {
     match k {
-        read::S => h.b,
-        read::A => h.b,
-        read::P => h.d,
-        _ => h.a,
+        read::D => Limits {
+            first: h.a,
+            second: h.a,
+        },
+        read::S => Limits {
+            first: h.b,
+            second: h.b,
+        },
+        read::O => Limits {
+            first: h.d,
+            second: h.a,
+        },
+        read::P => Limits {
+            first: h.b,
+            second: h.d,
+        },
+        read::A => Limits {
+            first: h.c,
+            second: h.b,
+        },
+        _ => Limits {
+            first: h.c,
+            second: h.a,
+        },
     }
 }
 
@@ -83,8 +97,9 @@ fn numbers_fit(h: Line, l: Line) -> bool
     ensures { λ r. ⌜ r ≡ ranged h l ⌝ }
 {
     let k = l.letter;
-    let one = search::among(first_limit(h, k), l.a);
-    let two = search::among(second_limit(h, k), l.b);
+    let up_to = limits_of(h, k);
+    let one = search::among(up_to.first, l.a);
+    let two = search::among(up_to.second, l.b);
     one & (two & ((k != read::P) | search::among(MODE_LIMIT, l.c)))
 }
 

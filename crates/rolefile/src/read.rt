@@ -2,12 +2,13 @@
 use super::Field;
 use super::Line;
 ghost use mathlib.Core.Path.{_≡_};
-ghost use mathlib.Core.Bool.{false};
+ghost use mathlib.Core.Bool.{false, _&&_};
+ghost use mathlib.Core.List.{[], _∷_};
 ghost use Prim.Native.Nat.{_+_, _%_, _≤_, _<_};
-ghost use lib.Dec.{eqb};
+ghost use lib.Dec.{leb, eqb};
 ghost use lib.ListN.{length};
-ghost use Rattle.rolefile.specs.Field.{isDigit, column, fieldAt, fieldNumber};
-ghost use Rattle.rolefile.specs.inner.Field.{takenOut};
+ghost use Rattle.rolefile.specs.Field.{digitZero, digitNine, isDigit, column, columns, fieldAt, fieldNumber};
+ghost use Rattle.rolefile.specs.inner.Field.{takenOut, AtOnce};
 ghost use Rattle.rolefile.specs.inner.Section.{figure, figureOf, one, two, three, Leads};
 ghost use Rattle.rolefile.specs.Line.{lineLength, letterOf, fields, noLine, lineOf, lineFrom, lineAt, part};
 
@@ -97,8 +98,8 @@ fn column(f: Field, b: u8) -> Field
     }
 }
 
-// The field of five columns at `at`.
-fn field(s: &[u8], at: usize) -> Field
+// The field of five columns at `at`, column by column.
+fn by_columns(s: &[u8], at: usize) -> Field
     requires { ⌜ at + 5 ≤ length (now s) ⌝ }
     ensures { λ r. ⌜ r ≡ fieldAt (now (s .entry)) at ⌝ }
 {
@@ -107,6 +108,102 @@ fn field(s: &[u8], at: usize) -> Field
     let three = column(two, s[at + 2]);
     let four = column(three, s[at + 3]);
     column(four, s[at + 4])
+}
+
+// A byte as a number.
+fn wide(b: u8) -> u64
+    ensures { λ r. ⌜ (r ≡ b) × (r < 256) ⌝ }
+{
+    b as u64
+}
+
+// The bytes of a blank and of the digits 0, 1 and 9 as numbers.
+const WIDE_BLANK: u64 = BLANK as u64;
+
+const WIDE_ZERO: u64 = DIGIT_ZERO as u64;
+
+const WIDE_ONE: u64 = WIDE_ZERO + 1;
+
+const WIDE_NINE: u64 = DIGIT_NINE as u64;
+
+// In place of a number of three digits at most, where none was read.
+const LONG: u64 = 1000;
+
+// Whether the byte is a digit, from the digit `low` on.
+fn up_to_nine(low: u64, b: u64) -> bool
+    ensures { λ r. ⌜ r ≡ (leb low b && leb b digitNine) ⌝ }
+{
+    (low <= b) & (b <= WIDE_NINE)
+}
+
+// The number in a field's last three columns, of which the last is a digit, where those before them
+// are blanks; LONG where they hold none.
+fn last_three(x: u64, y: u64, z: u64) -> u64
+    requires { ⌜ (digitZero ≤ z) × (z ≤ digitNine) ⌝ }
+    ensures { λ r. ⌜ AtOnce r (columns Field.Blank (x ∷ y ∷ z ∷ [])) ⌝ }
+{
+    if y == WIDE_BLANK {
+        if x == WIDE_BLANK {
+            return z - WIDE_ZERO;
+        }
+        return LONG;
+    }
+    if x == WIDE_BLANK {
+        if up_to_nine(WIDE_ONE, y) {
+            return 10 * (y - WIDE_ZERO) + (z - WIDE_ZERO);
+        }
+        return LONG;
+    }
+    if !up_to_nine(WIDE_ONE, x) {
+        return LONG;
+    }
+    if !up_to_nine(WIDE_ZERO, y) {
+        return LONG;
+    }
+    100 * (x - WIDE_ZERO) + (10 * (y - WIDE_ZERO) + (z - WIDE_ZERO))
+}
+
+// Two blanks as one number, and four.
+const TWO_BLANKS: u64 = 0x2020;
+
+const FOUR_BLANKS: u64 = 0x2020_2020;
+
+// The number in the five columns at `at`, where it has up to three digits, as each number of an
+// accepted file has; else LONG.
+fn at_once(s: &[u8], at: usize) -> u64
+    requires { ⌜ at + 5 ≤ length (now s) ⌝ }
+    ensures { λ r. ⌜ AtOnce r (fieldAt (now (s .entry)) at) ⌝ }
+{
+    if number::two(s[at], s[at + 1]) != TWO_BLANKS {
+        return LONG;
+    }
+    if !is_digit(s[at + 4]) {
+        return LONG;
+    }
+    last_three(wide(s[at + 2]), wide(s[at + 3]), wide(s[at + 4]))
+}
+
+// The field of five columns at `at`, out of which the number n was read at once, unless n is LONG.
+// It is small, so that the compiler inlines it and the field is not handed over through memory.
+fn field(n: u64, s: &[u8], at: usize) -> Field
+    requires { ⌜ (at + 5 ≤ length (now s)) × AtOnce n (fieldAt (now s) at) ⌝ }
+    ensures { λ r. ⌜ r ≡ fieldAt (now (s .entry)) at ⌝ }
+{
+    if n < LONG {
+        return Field::Number(n);
+    }
+    by_columns(s, at)
+}
+
+// The field of five columns at `at`, where a number of one digit, as a mode is, is read at once.
+fn digit_field(s: &[u8], at: usize) -> Field
+    requires { ⌜ at + 5 ≤ length (now s) ⌝ }
+    ensures { λ r. ⌜ r ≡ fieldAt (now (s .entry)) at ⌝ }
+{
+    if number::four(s[at], s[at + 1], s[at + 2], s[at + 3]) == FOUR_BLANKS {
+        return first_digit(s[at + 4]);
+    }
+    by_columns(s, at)
 }
 
 // A letter's row in the table of letters, or 0.
@@ -201,15 +298,12 @@ pub fn first_line(f: &[u8]) -> Line
     if f.len() < LINE_LENGTH {
         return no_line();
     }
-    let p = field(f, 1);
-    let q = field(f, 6);
-    let r = field(f, 11);
-    let s = field(f, 16);
+    let p = by_columns(f, 1);
+    let q = by_columns(f, 6);
+    let r = by_columns(f, 11);
+    let s = by_columns(f, 16);
     line_of(letter(f[0]), f[21], p, q, r, s)
 }
-
-// Four blanks as one number.
-const FOUR_BLANKS: u64 = 0x2020_2020;
 
 // Whether the five columns at `at` are blanks, four of them compared at once.
 fn all_blank(s: &[u8], at: usize) -> bool
@@ -226,7 +320,7 @@ fn taken_out_at(s: &[u8], at: usize, used: bool) -> Field
     ensures { λ r. ⌜ r ≡ takenOut used (fieldAt (now (s .entry)) at) ⌝ }
 {
     if used {
-        return taken_out(field(s, at), true);
+        return taken_out(digit_field(s, at), true);
     }
     if all_blank(s, at) {
         return Field::Number(0);
@@ -243,10 +337,10 @@ fn line_from(f: &[u8], at: usize) -> Line
     if k < 1 {
         return no_line();
     }
-    let Field::Number(a) = field(f, at + 1) else {
+    let Field::Number(a) = field(at_once(f, at + 1), f, at + 1) else {
         return no_line();
     };
-    let Field::Number(b) = field(f, at + 6) else {
+    let Field::Number(b) = field(at_once(f, at + 6), f, at + 6) else {
         return no_line();
     };
     let Field::Number(c) = taken_out_at(f, at + 11, 3 <= field_count(k)) else {

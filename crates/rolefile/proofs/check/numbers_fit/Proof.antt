@@ -8,10 +8,11 @@ returns : tie.Need-returns
 unfolding ranged
 returns c =
     let two = c .before in
-    let one = two .before .before in
-    rw (c .among3 .ensures, two .among2 .ensures, two .before .second-limit .ensures, one .among .ensures, one .before .first-limit .ensures)
+    let one = two .before in
+    let upTo = one .before .limits-of .ensures in
+    rw (c .among3 .ensures, two .among2 .ensures, upTo .1, one .among .ensures, upTo .0)
 
 pub numbers-fit-spec : {M : Type 1} → statement M
 numbers-fit-spec =
     tie.close
-    (tie.spec (λ c κs. search needs) (λ c κs. search needs) (λ c κs. search needs) (λ c κs. search needs) (λ c κs. search needs) returns)
+    (tie.spec (λ c κs. search needs) (λ c κs. search needs) (λ c κs. search needs) (λ c κs. search needs) returns)

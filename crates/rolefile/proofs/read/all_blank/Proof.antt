@@ -1,6 +1,4 @@
 -- Five blanks, four of them tested at once.
-use Prim.Native.Nat.{_+_}
-use native.Mathlib.Omega.{arith}
 use borrow.Author.Needs.{needs}
 use denote.Ref.{now}
 use Rattle.rolefile.proofs.Reading.{blank-tested}
@@ -11,13 +9,7 @@ returns : tie.Need-returns
 returns c =
     let first = c .before .before .before .before .before .before in
     let a = first .before .args in
-    let byte = first .shared-slice-known .given in
-    rw (c .before .four .ensures .0)
-    (blank-tested (now (a .s)) (a .at)
-    (omega (arith, byte (a .at)))
-    (omega (arith, byte (a .at + 1)))
-    (omega (arith, byte (a .at + 2)))
-    (omega (arith, byte (a .at + 3))))
+    rw (c .before .four .ensures .0) (blank-tested (now (a .s)) (a .at) (λ i. first .shared-slice-known .given i .fits))
 
 pub all-blank-spec : {M : Type 1} → statement M
 all-blank-spec =

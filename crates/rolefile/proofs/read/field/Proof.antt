@@ -1,35 +1,11 @@
--- The five columns, one after the other.
-use mathlib.Core.Path.{_∙_}
+-- A number that was read at once is the field's.
+use mathlib.Core.Path.{sym}
 use borrow.Author.Needs.{needs}
-use Rattle.rolefile.specs.Field.{columns}
 use Rattle.rolefile.proofs.read.field.Statement.{statement}
 use Rattle.rolefile.proofs.read.field.Tie as tie
 
 returns : tie.Need-returns
-unfolding columns
-returns c =
-    let three = c .before .before in
-    let two = three .before .before in
-    let one = two .before .before in
-    let first = one .before .before in
-    c .column4 .ensures ∙ rw (three .column3 .ensures, two .column2 .ensures, one .column .ensures, first .first-digit .ensures)
+returns c = sym (c .before .before .pre .1 (c .if1 .taken))
 
 pub field-spec : {M : Type 1} → statement M
-field-spec =
-    tie.close
-    (tie.spec
-    (λ c. search needs)
-    (λ c κs. search needs)
-    (λ c. search needs)
-    (λ c. search needs)
-    (λ c κs. search needs)
-    (λ c. search needs)
-    (λ c. search needs)
-    (λ c κs. search needs)
-    (λ c. search needs)
-    (λ c. search needs)
-    (λ c κs. search needs)
-    (λ c. search needs)
-    (λ c. search needs)
-    (λ c κs. search needs)
-    returns)
+field-spec = tie.close (tie.spec returns (λ c κs. search needs) (λ c. search needs))

@@ -19,7 +19,7 @@ returns-2 c =
     let s = l .before .before in
     let r = s .before in
     let q = r .before in
-    c .line-of .ensures ∙ rw (l .letter .ensures, s .field4 .ensures, r .field3 .ensures, q .field2 .ensures, q .before .field .ensures)
+    c .line-of .ensures ∙ rw (l .letter .ensures, s .by-columns4 .ensures, r .by-columns3 .ensures, q .by-columns2 .ensures, q .before .by-columns .ensures)
 
 pub first-line-spec : {M : Type 1} → statement M
 first-line-spec =

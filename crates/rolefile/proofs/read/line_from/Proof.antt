@@ -20,20 +20,20 @@ returns-4 : tie.Need-returns-4
 returns-4 c =
     let r = c .before .before in
     let q = r .before .before .before .before .before in
-    let p = q .before .before .before .before in
+    let p = q .before .before .before .before .before in
     c .no-line4 .ensures
     ∙ not-made _ _ _ _ _ _ (λ m.
-    no-number (rw (r .before .field-count .ensures, p .before .before .letter .ensures) at (r .taken-out-at .ensures) ∙ taken-iff _ _ _ .1 (m .c)) (c .before .match3 .keys2))
+    no-number (rw (r .before .field-count .ensures, p .before .before .before .letter .ensures) at (r .taken-out-at .ensures) ∙ taken-iff _ _ _ .1 (m .c)) (c .before .match3 .keys2))
 
 returns-5 : tie.Need-returns-5
 returns-5 c =
     let s = c .before .before in
     let r = s .before .before .before .before .before in
     let q = r .before .before .before .before .before in
-    let p = q .before .before .before .before in
+    let p = q .before .before .before .before .before in
     c .no-line5 .ensures
     ∙ not-made _ _ _ _ _ _ (λ m.
-    no-number (rw (s .before .field-count2 .ensures, p .before .before .letter .ensures) at (s .taken-out-at2 .ensures) ∙ taken-iff _ _ _ .1 (m .d)) (c .before .match4 .keys2))
+    no-number (rw (s .before .field-count2 .ensures, p .before .before .before .letter .ensures) at (s .taken-out-at2 .ensures) ∙ taken-iff _ _ _ .1 (m .d)) (c .before .match4 .keys2))
 
 returns-6 : tie.Need-returns-6
 returns-6 c = c .no-line6 .ensures ∙ not-made _ _ _ _ _ _ (λ m. c .before .if2 .taken (m .end))
@@ -44,12 +44,12 @@ returns-7 c =
     let s = d .before .before in
     let r = s .before .before .before .before .before in
     let q = r .before .before .before .before .before in
-    let p = q .before .before .before .before in
+    let p = q .before .before .before .before .before in
     sym (made _ _ _ _ _ _ _ record {
-      letter = sym (p .before .before .letter .ensures);
-      some = p .before .if1 .left;
+      letter = sym (p .before .before .before .letter .ensures);
+      some = p .before .before .if1 .left;
       end = c .if2 .left;
-      a = sym (p .field .ensures) ∙ q .before .before .a .given .1;
+      a = sym (p .field .ensures) ∙ q .before .before .before .a .given .1;
       b = sym (q .field2 .ensures) ∙ r .before .before .before .b .given .1;
       c = rw (r .before .field-count .ensures) at (taken-iff _ _ _ .0 (sym (r .taken-out-at .ensures) ∙ s .before .before .before .c .given .1));
       d = rw (s .before .field-count2 .ensures) at (taken-iff _ _ _ .0 (sym (s .taken-out-at2 .ensures) ∙ d .d .given .1));
@@ -67,7 +67,11 @@ line-from-spec =
     (λ c κs. search needs)
     (λ c. search needs)
     (λ c κs. search needs)
+    (λ c. search needs)
+    (λ c κs. search needs)
     returns-2
+    (λ c. search needs)
+    (λ c κs. search needs)
     (λ c. search needs)
     (λ c κs. search needs)
     (λ c. search needs)

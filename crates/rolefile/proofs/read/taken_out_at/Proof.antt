@@ -6,7 +6,7 @@ use Rattle.rolefile.proofs.read.taken_out_at.Statement.{statement}
 use Rattle.rolefile.proofs.read.taken_out_at.Tie as tie
 
 returns : tie.Need-returns
-returns c = rw (c .before .before .if1 .taken, ← (c .before .field .ensures)) (c .taken-out .ensures)
+returns c = rw (c .before .before .if1 .taken, ← (c .before .digit-field .ensures)) (c .taken-out .ensures)
 
 returns-2 : tie.Need-returns-2
 returns-2 c =
