@@ -2,7 +2,7 @@
 
 use crate::loads::{agree, measure, ALL, PROVED_AND_PLAIN};
 use crate::plain::STATE;
-use crate::table::Row;
+use crate::table::{Row, HEADINGS};
 use crate::timing::{Three, Times};
 use crate::{files, proved};
 use second_checker::example::TWO_MAKERS;
@@ -70,8 +70,18 @@ fn agree_on_refused() {
     assert_eq!(proved::load(&files::smallest(), &mut short).number, 7);
 }
 
+/// Loads the 2,900 lines once by the archive and once by plain, for a tool that counts instructions.
+pub fn load_once() {
+    let mut state = vec![0; STATE];
+    for load in PROVED_AND_PLAIN {
+        assert_eq!(load(&write(&files::largest()), &mut state).number, 0);
+    }
+}
+
 pub fn report(rounds: usize) {
     agree_on_refused();
+    println!("{rounds} rounds, times in nanoseconds");
+    println!("{HEADINGS}");
     println!("loads");
     report_accepted(rounds);
     println!("stages of the 2,900 lines, as differences between files refused after each");

@@ -39,8 +39,6 @@ fn report_growth(rounds: usize) -> Vec<(Way, Vec<Point>)> {
 }
 
 fn report(rounds: usize) {
-    println!("{rounds} rounds, times in nanoseconds");
-    println!("{}", table::HEADINGS);
     load_rows::report(rounds);
     call_rows::report(rounds);
     call_rows::report_review(rounds);
@@ -60,11 +58,16 @@ fn main() {
     let rounds = |text: &str| text.parse().expect("a count of rounds");
     match arguments[..] {
         [] => report(ROUNDS),
+        ["--loads"] => load_rows::report(ROUNDS),
+        ["--loads", text] => load_rows::report(rounds(text)),
+        ["--count"] => load_rows::load_once(),
         ["--review"] => call_rows::report_review(ROUNDS),
         ["--review", text] => call_rows::report_review(rounds(text)),
         ["--plot", file] => report_plot(file, ROUNDS),
         ["--plot", file, text] => report_plot(file, rounds(text)),
         [text] => report(rounds(text)),
-        _ => panic!("give [ROUNDS], --review [ROUNDS] or --plot FILE [ROUNDS]"),
+        _ => panic!(
+            "give [ROUNDS], --loads [ROUNDS], --count, --review [ROUNDS] or --plot FILE [ROUNDS]"
+        ),
     }
 }

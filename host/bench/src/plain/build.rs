@@ -4,9 +4,7 @@ use super::levels::{gather, put_levels};
 use super::order::Dominance;
 use super::read::{split_letter, Line, Part, LINE};
 use super::{check, order, roleset, tables};
-use super::{
-    ASSIGNED, CARD_LABELS, CLEARANCES, READERS, READ_LEVELS, SENIORS, WRITERS, WRITE_LEVELS,
-};
+use super::{ASSIGNED, CARD_LABELS, CLEARANCES, SENIORS};
 use crate::verdict::{refused, Verdict};
 
 /// The four counts at the start of the state.
@@ -49,11 +47,12 @@ fn closed_dominance(lines: Part, labels: usize) -> Result<Dominance, Verdict> {
         return Err(refused(11, label, 0));
     }
     order::reflect(&mut down, labels);
-    let up = order::turned(&down);
-    if let Some((lower, higher)) = order::first_pair(&up, labels) {
+    if let Some((lower, higher)) = order::first_pair(&down, labels) {
         return Err(refused(12, lower, higher));
     }
-    Ok(Dominance { down, up })
+    let under = order::rows(&down, labels);
+    let over = order::columns(&down, labels);
+    Ok(Dominance { down, under, over })
 }
 
 /// 13, with the seniors of each role put into the state.
@@ -72,12 +71,8 @@ fn rank_roles(state: &mut [u8], lines: Part, roles: usize) -> Result<(), Verdict
 fn grant_all(state: &mut [u8], n: &Counts, dominance: &Dominance, lines: Part) {
     tables::put_dominance(state, &dominance.down);
     tables::grant(state, lines);
-    let readers = gather(state, READERS, n.cards);
-    let levels = &mut state[READ_LEVELS..READ_LEVELS + n.roles];
-    put_levels(levels, &readers, &dominance.up, n.labels);
-    let writers = gather(state, WRITERS, n.cards);
-    let levels = &mut state[WRITE_LEVELS..WRITE_LEVELS + n.roles];
-    put_levels(levels, &writers, &dominance.down, n.labels);
+    let gathered = gather(state, n.cards);
+    put_levels(state, &gathered, dominance, n.labels, n.roles);
 }
 
 /// The whole check of a file, into a state of zeros.

@@ -3,10 +3,15 @@
 pub type Set = [bool; 32];
 pub type Table = [Set; 32];
 
-/// Dominance: the labels under each label, and those over it.
+/// A set of labels as a number: label a is bit a - 1.
+pub type Members = u32;
+pub type Rows = [Members; 32];
+
+/// Dominance: the table, and by rows the labels under each label and those over it.
 pub struct Dominance {
     pub down: Table,
-    pub up: Table,
+    pub under: Rows,
+    pub over: Rows,
 }
 
 /// Leaves the paths of one step or more among the first n labels.
@@ -34,73 +39,69 @@ pub fn reflect(table: &mut Table, n: usize) {
     }
 }
 
-/// The order turned round.
-pub fn turned(table: &Table) -> Table {
-    let mut turned = [[false; 32]; 32];
-    for i in 0..32 {
-        for j in 0..32 {
-            turned[j][i] = table[i][j];
-        }
-    }
-    turned
+/// The set with label a too, where `on`.
+pub fn with(set: Members, a: usize, on: bool) -> Members {
+    set | Members::from(on) << (a - 1)
 }
 
 /// The set of the first n labels.
-pub fn first_labels(n: usize) -> Set {
-    let mut set = [false; 32];
-    set[..n].fill(true);
-    set
-}
-
-fn narrow(set: &mut Set, other: &Set) {
-    for (mark, &also) in set.iter_mut().zip(other) {
-        *mark &= also;
+pub fn first_labels(n: usize) -> Members {
+    if n < 32 {
+        (1 << n) - 1
+    } else {
+        Members::MAX
     }
 }
 
-/// Whether some label is in all three sets.
-pub fn meet(first: &Set, second: &Set, third: &Set) -> bool {
-    first
-        .iter()
-        .zip(second)
-        .zip(third)
-        .fold(false, |found, ((&a, &b), &c)| found | (a & b & c))
+/// The first n rows, each as a number.
+pub fn rows(table: &Table, n: usize) -> Rows {
+    let mut rows = [0; 32];
+    for (number, row) in rows.iter_mut().zip(&table[..n]) {
+        *number = (0..32).fold(0, |set, j| with(set, j + 1, row[j]));
+    }
+    rows
 }
 
-/// Whether all of the set is in the other.
-fn within(set: &Set, other: &Set) -> bool {
-    set.iter()
-        .zip(other)
-        .fold(true, |all, (&mark, &also)| all & (!mark | also))
+/// The columns, each as a number, of which the first n rows count.
+pub fn columns(table: &Table, n: usize) -> Rows {
+    let mut columns = [0; 32];
+    for (i, row) in table[..n].iter().enumerate() {
+        for (number, &mark) in columns.iter_mut().zip(row) {
+            *number = with(*number, i + 1, mark);
+        }
+    }
+    columns
+}
+
+/// The labels of a set, the lowest first, counted from 0.
+fn members(mut rest: Members) -> impl Iterator<Item = usize> {
+    std::iter::from_fn(move || {
+        let lowest = (rest != 0).then(|| rest.trailing_zeros() as usize);
+        rest &= rest.wrapping_sub(1);
+        lowest
+    })
 }
 
 /// The greatest of the set, or 0.
-fn greatest(table: &Table, set: &Set) -> usize {
-    (0..32)
-        .find(|&i| set[i] && within(set, &table[i]))
+fn greatest(rows: &Rows, set: Members) -> usize {
+    members(set)
+        .find(|&i| set & rows[i] == set)
         .map_or(0, |i| i + 1)
 }
 
-/// The greatest of the labels of `all` that are under each of the set, of which the first n count, or 0.
-pub fn greatest_lower(table: &Table, n: usize, all: &Set, set: &Set) -> usize {
-    let mut bounds = *all;
-    for i in 0..n {
-        if set[i] {
-            narrow(&mut bounds, &table[i]);
-        }
-    }
-    greatest(table, &bounds)
+/// The greatest of the labels of `all` that are under each of the set, or 0.
+pub fn greatest_lower(rows: &Rows, all: Members, set: Members) -> usize {
+    let bounds = members(set).fold(all, |bounds, i| bounds & rows[i]);
+    greatest(rows, bounds)
 }
 
-/// The first pair among the first n labels that has no least upper bound in an order, which is lent turned round.
-pub fn first_pair(up: &Table, n: usize) -> Option<(usize, usize)> {
+/// The first pair among the first n labels that has no least upper bound.
+pub fn first_pair(table: &Table, n: usize) -> Option<(usize, usize)> {
+    let over = columns(table, n);
     for i in 0..n {
-        let mut over = first_labels(n);
-        narrow(&mut over, &up[i]);
+        let bounds = first_labels(n) & over[i];
         for j in i + 1..n {
-            let mut bounds = over;
-            narrow(&mut bounds, &up[j]);
-            if greatest(up, &bounds) == 0 {
+            if greatest(&over, bounds & over[j]) == 0 {
                 return Some((i + 1, j + 1));
             }
         }

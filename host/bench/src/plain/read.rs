@@ -3,6 +3,11 @@
 /// The bytes of a line.
 pub const LINE: usize = 22;
 
+/// The value of a digit.
+fn digit(byte: u8) -> u64 {
+    (byte - b'0') as u64
+}
+
 /// What the columns of a field say.
 #[derive(Clone, Copy)]
 enum Field {
@@ -16,9 +21,9 @@ impl Field {
     fn then(self, byte: u8) -> Field {
         match self {
             Field::Blank if byte == b' ' => Field::Blank,
-            Field::Blank if byte.is_ascii_digit() => Field::Number((byte - b'0') as u64),
+            Field::Blank if byte.is_ascii_digit() => Field::Number(digit(byte)),
             Field::Number(n) if byte.is_ascii_digit() && (1..=9999).contains(&n) => {
-                Field::Number(10 * n + (byte - b'0') as u64)
+                Field::Number(10 * n + digit(byte))
             }
             _ => Field::Bad,
         }
@@ -39,12 +44,30 @@ fn field(columns: &[u8]) -> Field {
         .fold(Field::Blank, |field, &byte| field.then(byte))
 }
 
-/// The number of a field in use; 0 for one without use, which is five blanks.
-fn taken(columns: &[u8], used: bool) -> Option<u64> {
-    if used {
+/// The number of a field; one of up to three digits, as each number of an accepted file has, is
+/// read at once.
+fn number(columns: &[u8]) -> Option<u64> {
+    let &[b' ', b' ', x, y, z @ b'0'..=b'9'] = columns else {
         return field(columns).number();
+    };
+    match (x, y) {
+        (b' ', b' ') => Some(digit(z)),
+        (b' ', b'1'..=b'9') => Some(10 * digit(y) + digit(z)),
+        (b'1'..=b'9', b'0'..=b'9') => Some(100 * digit(x) + 10 * digit(y) + digit(z)),
+        _ => field(columns).number(),
     }
-    (columns == b"     ").then_some(0)
+}
+
+/// The number of a field in use, which mostly is one digit; 0 for one without use, which is five
+/// blanks.
+fn taken(columns: &[u8], used: bool) -> Option<u64> {
+    if !used {
+        return (columns == b"     ").then_some(0);
+    }
+    match *columns {
+        [b' ', b' ', b' ', b' ', last] => Field::Blank.then(last).number(),
+        _ => field(columns).number(),
+    }
 }
 
 /// A line: its letter's row in the table of letters, 1 to 7, and its numbers, 0 where a field has
@@ -75,8 +98,8 @@ pub fn line(bytes: &[u8]) -> Option<Line> {
         6 => 3,
         _ => 2,
     };
-    let a = field(&bytes[1..6]).number()?;
-    let b = field(&bytes[6..11]).number()?;
+    let a = number(&bytes[1..6])?;
+    let b = number(&bytes[6..11])?;
     let c = taken(&bytes[11..16], 3 <= fields)?;
     let d = taken(&bytes[16..21], 4 <= fields)?;
     if bytes[21] != b'\n' {

@@ -1,6 +1,6 @@
 //! The tables that the lines of each letter fill.
 
-use super::order::{meet, Dominance, Set, Table};
+use super::order::{Dominance, Members, Rows, Table};
 use super::read::Part;
 use super::roleset::{add, row, row_mut, taken, unite};
 use super::state::{dominates, State};
@@ -67,10 +67,10 @@ pub fn grant(state: &mut [u8], part: Part) {
 }
 
 /// The row of a level: every label where it is free, 0.
-fn level_row(table: &Table, level: u8) -> Set {
+fn level_row(rows: &Rows, level: u8) -> Members {
     match level {
-        0 => [true; 32],
-        label => table[label as usize - 1],
+        0 => Members::MAX,
+        label => rows[label as usize - 1],
     }
 }
 
@@ -86,9 +86,8 @@ pub fn judge_assignments(state: &State, order: &Dominance, part: Part) -> Result
         if read != 0 && !dominates(state, clearance.into(), read.into()) {
             return Err(refused(15, user, role));
         }
-        let lower = &order.down[clearance as usize - 1];
-        let (over, under) = (level_row(&order.up, read), level_row(&order.down, write));
-        if !meet(lower, &over, &under) {
+        let lower = order.under[clearance as usize - 1];
+        if lower & level_row(&order.over, read) & level_row(&order.under, write) == 0 {
             return Err(refused(16, user, role));
         }
     }
