@@ -10,7 +10,7 @@ ghost use mathlib.Core.Path.{_≡_};
 ghost use mathlib.Core.Bool.{_&&_, _||_};
 ghost use Prim.Native.Nat.{ℕ, _+_, _≤_, _<_, min};
 ghost use lib.Dec.{leb, eqb};
-ghost use Rattle.search.specs.Search.{among, Among, some, every, first, implies};
+ghost use Rattle.search.specs.Search.{among, Among, some, every, implies};
 ghost use Rattle.order.specs.Closure.{Agree};
 ghost use Rattle.order.specs.Bound.{upper, leastOf, converse, partnerWithoutBound, FirstWithoutBound};
 ghost use Rattle.order.specs.Table.{marks, mark};
@@ -40,12 +40,15 @@ pub fn with(s: Members, a: usize, on: bool) -> Members
     put(s, a - 1, on)
 }
 
+// The set of all 32 things.
+const ALL: Members = 0xFFFF_FFFF;
+
 // The set of the first n things.
 pub fn first_things(n: usize) -> Members
     ensures { λ r. ⌜ ((a : ℕ) → Among 32 a → holds r a ≡ leb a n) ⌝ }
 {
     if THINGS <= n {
-        return 4294967295;
+        return ALL;
     }
     (1 << n) - 1
 }

@@ -2,25 +2,20 @@
 use Prim.Native.Nat.{ℕ, zero, suc, _+_, _-_, _*_, _≤_, _<_}
 use mathlib.Core.Path.{_≡_, refl, sym, _∙_}
 use mathlib.Core.Logic.{inl, inr}
-use mathlib.Core.Bool.{Bool, true, false, _&&_, _||_, or-false, and-true, and-false}
+use mathlib.Core.Bool.{Bool, true, false, _||_, or-false}
 use mathlib.Core.List.{List}
 use native.Mathlib.Nat.{add-sub-cancel}
 use native.Mathlib.Omega.{arith}
-use native.Mathlib.Decide.{ℕ-discrete}
-use lib.Dec.{leb, eqb}
 use lib.ListN.{length, getD, set, replicate, length-set}
 use lib.Seq.{getD-set-same, getD-set-other}
-use borrow.Author.Tests.{eq-eqb, ne-eqb, le-leb, lt-leb}
+use borrow.Author.Tests.{ne-eqb}
 use Rattle.search.specs.Search.{Among, some}
-use Rattle.search.proofs.Truth.{leb-same}
 use Rattle.search.proofs.Found.{some-more, some-yet, some-agree, among-next}
 use Rattle.roleset.specs.Row.{rowOf, member, united, RowCopy, Placed}
-use Rattle.roleset.proofs.Bits.{bit-zero}
 use Rattle.roleset.proofs.Rows.{row-copy, row-kept, zero-rows}
 use Rattle.order.specs.Closure.{Relation, Agree}
 use Rattle.order.specs.Bound.{lub}
 use Rattle.order.specs.Table.{related}
-use Rattle.order.specs.inner.Members.{holds}
 use Rattle.order.proofs.Bound.{lub-agree}
 use Rattle.policy.specs.Policy.{levelAt, level, levelNumber}
 use Rattle.policy.specs.Tables.{byteOf, cardLabelsAt, rLevelsAt, wLevelsAt, seniorsAt, readersAt, writersAt, tableOf}
@@ -73,20 +68,6 @@ gathered-none xs =
     by-mode (λ d. Agree 32 128 (related (replicate 1024 0) (gatheredAt d)) (gathered xs (tableOf d) 0))
     (λ l r v w. zero-rows 1024 (rowOf 0 l) r (omega arith) ∙ sym (gathered-yet xs readersAt l r))
     (λ l r v w. zero-rows 1024 (rowOf 512 l) r (omega arith) ∙ sym (gathered-yet xs writersAt l r))
-
--- ---- the labels of a role, read off row by row
-
-pub no-label-yet : (l : ℕ) (b : Bool) → 1 ≤ l → holds 0 l ≡ (leb l 0 && b)
-no-label-yet l b w = rw (lt-leb l 0 (omega arith)) (bit-zero (l - 1))
-
--- the set x has what s says of the first i labels, and gets what it says of the next
-pub label-more : (s : ℕ → Bool) (i l : ℕ) (x on : Bool) → 1 ≤ l → x ≡ (leb l i && s l) → on ≡ s (i + 1) → (x || (on && eqb (i + 1) l)) ≡ (leb l (i + 1) && s l)
-label-more s i l x on w e f = rw (e, f) (elim (ℕ-discrete l (i + 1)) [
-  | yes q ↦ rw (q, lt-leb (i + 1) i (omega arith), le-leb (i + 1) (i + 1) (omega arith), eq-eqb (i + 1) (i + 1) refl) (and-true (s (i + 1)))
-  | no q ↦
-      rw (ne-eqb (i + 1) l (λ j. q (sym j)), and-false (s (i + 1)), leb-same l i l (i + 1) (λ k. omega arith) (λ k. omega arith))
-      (or-false (leb l (i + 1) && s l))
-])
 
 -- ---- both levels of one role after the other
 

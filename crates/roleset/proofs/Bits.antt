@@ -1,16 +1,16 @@
 -- The bits of a number: of one made by `|`, `&`, `^`, `>>` and `<<`, of 2 ^ k, of 2 ^ k - 1 and of 0; and a number below 2 ^ k is settled by its first k bits.
 -- The lowest bit that is set stands above the trailing zeros.
 -- Assumes nothing.
-use Prim.Native.Nat.{ℕ, zero, suc, _+_, _-_, _*_, _/_, _%_, _^_, _≤_, _<_}
+use Prim.Native.Nat.{ℕ, zero, suc, _+_, _-_, _*_, _/_, _%_, _^_, _<_}
 use mathlib.Core.Path.{_≡_, refl, sym, ap, ap₂, _∙_}
 use mathlib.Core.Logic.{_↔_}
 use mathlib.Core.Bool.{Bool, true, false, not, _&&_, _||_, cond, or-true, or-false}
-use native.Mathlib.Nat.{one-mul, zero-mul, zero-div, zero-mod, div-one, div-eq-of-lt, lt-of-lt-of-le, mul-mod-left, mul-div-cancel, div-div-eq-div-mul, pow-suc, pow-succ'}
+use native.Mathlib.Nat.{one-mul, zero-mul, zero-div, zero-mod, div-one, mul-mod-left, mul-div-cancel, div-div-eq-div-mul, pow-suc, pow-succ'}
 use native.Mathlib.Omega.{arith}
 use native.Mathlib.Decide.{decLt}
 use lib.Count.{under, trailingZeros}
 use lib.Dec.{leb, eqb, eqb·zero-suc, eqb·suc-zero, eqb·suc-suc, leb·suc-zero, leb·suc-suc}
-use lib.Pow.{pow-pos, pow-add, pow-mono, shl-exact, shr-shr, field, mod-mod-pow}
+use lib.Pow.{pow-pos, pow-add, shl-exact, shr-shr, field, mod-mod-pow}
 use mir.Val.{boolByte}
 use lib.Bits.{bitAnd, bitOr, bitXor, and-shr, and-mod, and-lt, and-le-l, and-le-r, or-shr, or-mod, or-add-and, xor-shr, xor-mod}
 use borrow.Author.Tests.{eqb-true, eq-eqb, ne-eqb, le-leb}

@@ -9,7 +9,7 @@ use native.Mathlib.Nat.{eq-or-lt-of-le}
 use native.Mathlib.Numerals.{add-one}
 use native.Mathlib.Decide.{decLt}
 use lib.Dec.{leb, eqb}
-use borrow.Author.Tests.{leb-true, leb-false, le-leb, lt-leb, eqb-true, eq-eqb, not-true}
+use borrow.Author.Tests.{leb-true, le-leb, lt-leb, eqb-true, eq-eqb, not-true}
 use Rattle.search.specs.Search.{some, every, orElse, first, implies, Among, Lowest, LowestOf}
 use Rattle.search.proofs.Truth.{or-iff, and-iff, implies-iff, untrue, both, same}
 

@@ -1,6 +1,5 @@
 -- The row of a free level has every label.
 use mathlib.Core.Path.{_∙_}
-use native.Mathlib.Omega.{arith}
 use borrow.Author.Needs.{needs}
 use borrow.Author.Tests.{ne-eqb, le-leb}
 use Rattle.policy.proofs.assign.level_row.Statement.{statement}

@@ -1,9 +1,7 @@
 -- What each call leaves, in order: the table of dominance, the permissions, and both levels.
-use Prim.Native.Nat.{_≤_}
 use native.Mathlib.Omega.{arith}
 use borrow.Author.Needs.{needs}
 use denote.Ref.{now}
-use lib.ListN.{length}
 use Rattle.policy.proofs.Readying.{head-counts}
 use Rattle.policy.proofs.Granting.{granting}
 use Rattle.policy.proofs.build.grant_all.Statement.{statement}

@@ -1,17 +1,18 @@
 -- Each turn puts in one label more, where its row has the role.
-use Prim.Native.Nat.{ℕ, _+_, _≤_, _-_}
-use mathlib.Core.Path.{_≡_, sym, _∙_}
+use Prim.Native.Nat.{ℕ, _≤_, _-_}
+use mathlib.Core.Path.{_≡_, _∙_}
 use mathlib.Core.Bool.{_&&_}
 use native.Mathlib.Omega.{arith}
 use borrow.Author.Needs.{needs}
-use borrow.Author.Tests.{le-leb}
+use borrow.Author.Tests.{le-leb, lt-leb}
 use denote.Ref.{now}
 use lib.Dec.{leb}
 use Rattle.search.specs.Search.{Among}
+use Rattle.roleset.proofs.Bits.{bit-zero}
 use Rattle.order.proofs.Placing.{row-tested}
+use Rattle.order.proofs.Stored.{put-more}
 use Rattle.order.specs.Table.{related}
 use Rattle.order.specs.inner.Members.{holds}
-use Rattle.policy.proofs.Gathering.{no-label-yet, label-more}
 use Rattle.policy.proofs.gather.labels_of.Statement.{statement}
 use Rattle.policy.proofs.gather.labels_of.Tie as tie
 
@@ -28,7 +29,8 @@ loop-again c =
     let a = has .before .before .before .before .args in (
       search needs,
       λ l v. c .with .ensures l v
-          ∙ label-more (λ l. related (now (a .g)) (a .at) l (a .role)) (w .i) l _ _ (v .0) (w .inv .1 l v) (row-tested (now (a .g)) (a .at) (w .i) _ _ (search needs) (has .has .ensures)),
+          ∙ rw (w .inv .1 l v, row-tested (now (a .g)) (a .at) (w .i) _ _ (search needs) (has .has .ensures))
+          (put-more (λ l. related (now (a .g)) (a .at) l (a .role)) (w .i) l),
     )
 
 returns : tie.Need-returns Inv-loop μ-loop
@@ -43,7 +45,7 @@ labels-of-spec =
     (tie.spec
     Inv-loop
     μ-loop
-    (λ c. (search needs, λ l v. no-label-yet l _ (v .0)))
+    (λ c. (search needs, λ l v. rw (lt-leb l 0 (omega arith)) (bit-zero (l - 1))))
     (λ c. search needs)
     (λ c. search needs)
     (λ c. search needs)

@@ -1,5 +1,5 @@
 -- Free where the set is empty, undefined where there is no bound, and else the bound.
-use Prim.Native.Nat.{ℕ, _-_, _≤_}
+use Prim.Native.Nat.{ℕ, _-_}
 use mathlib.Core.Path.{_≡_, _∙_}
 use mathlib.Core.Bool.{_&&_, and-comm}
 use native.Mathlib.Omega.{arith}
