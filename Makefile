@@ -52,7 +52,7 @@ LEGEND = $${NAMES:+--names "$$NAMES"}
 .NOTPARALLEL:
 .DELETE_ON_ERROR:
 .PHONY: help check rights picture rolecheck example all lib install uninstall clean kit cargo
-.PHONY: test prove differential lists pairs long fuzz sanitize installed bench growth mutation
+.PHONY: test prove differential lists pairs long fuzz sanitize installed bench loads growth mutation
 
 help:
 	@echo 'Of a role file FILE=F, with the names of a legend NAMES=L:'
@@ -77,6 +77,7 @@ help:
 	@echo '  make sanitize      the C tests under AddressSanitizer and valgrind'
 	@echo '  make installed     install into a folder, build and run C and C++ there'
 	@echo '  make bench         times of loads and calls; make growth: with a plot'
+	@echo '  make loads         times of the loads alone, and by their stages'
 	@echo '  make mutation      MUTANTS=80 small edits, and which the gate refuses'
 
 kit:
@@ -208,6 +209,9 @@ installed: $(ARCHIVE)
 
 bench: cargo $(PROVED)
 	cd host/bench && cargo run --release --offline --quiet
+
+loads: cargo $(PROVED)
+	cd host/bench && cargo run --release --offline --quiet -- --loads
 
 growth: cargo $(PROVED)
 	cd host/bench && cargo run --release --offline --quiet -- --plot ../../docs/growth.svg

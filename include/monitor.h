@@ -103,8 +103,8 @@
 /* The version of this header, of the library and of the programs beside it. */
 #define MONITOR_VERSION_MAJOR 1
 #define MONITOR_VERSION_MINOR 1
-#define MONITOR_VERSION_PATCH 0
-#define MONITOR_VERSION "1.1.0"
+#define MONITOR_VERSION_PATCH 1
+#define MONITOR_VERSION "1.1.1"
 
 /* Where the compiler can, it warns of an answer that is not looked at. */
 #if defined(__has_attribute)

@@ -88,7 +88,8 @@ fn level_of(t: &Rows, n: usize, all: Members, s: Members) -> u8
     bound as u8
 }
 
-// Puts both levels of each of the first `roles` roles, by the n labels under each label and those over it.
+// Puts in both levels of each of the first `roles` roles. `under` has the labels under each of the n labels, and
+// `over` those over it.
 pub fn put_levels(s: &mut [u8], g: &Gathered, under: &Rows, over: &Rows, n: usize, roles: usize)
     requires { ⌜ (seniorsAt ≤ length (now s)) × (n ≤ 32) × (roles ≤ 128) ⌝ }
     ensures { λ _. ⌜ LevelBytes roles (λ d r. levelNumber (level n (converse (held (byMode (now (over .entry)) (now (under .entry)) d))) (λ l. related (now (g .entry)) (gatheredAt d) l r))) (now (s .entry)) (now (s .exit)) ⌝ }

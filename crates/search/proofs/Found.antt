@@ -147,10 +147,6 @@ module _ (p : ℕ → Bool) where
   unfolding some
   some-yet = refl
 
-  pub every-yet : true ≡ every 0 p
-  unfolding every
-  every-yet = refl
-
   pub some-more : (i : ℕ) → some (i + 1) p ≡ (some i p || p (i + 1))
   unfolding some
   some-more i = rw add-one
@@ -162,10 +158,6 @@ module _ (p : ℕ → Bool) where
   -- all n things have been looked at in vain
   pub some-vain : {i n : ℕ} → i ≡ n → some i p ≡ false → false ≡ some n p
   some-vain all e = sym (rw all at e)
-
-  pub every-more : (i : ℕ) → every (i + 1) p ≡ (every i p && p (i + 1))
-  unfolding every
-  every-more i = rw add-one
 
   -- what is found among the first m things is found among all of them
   pub first-sooner : (m n : ℕ) → m ≤ n → (first m p ≡ 0 → ⊥) → first m p ≡ first n p
