@@ -20,31 +20,31 @@ pub record Left (s rest : ℕ) : Type 0 where
 pub all-left : (s : ℕ) → s < 2 ^ 32 → Left s s
 all-left s fits = record { fits = fits; of = λ x w h. h }
 
+-- the lowest, counted from 0, and what is left after it
+abbrev pub lowest : ℕ → ℕ
+lowest rest = trailingZeros 32 rest
+
+abbrev pub dropped : ℕ → ℕ
+dropped rest = bitAnd rest (rest - 1)
+
 module _ {s rest : ℕ} (left : Left s rest) (some : rest ≡ 0 → ⊥) where
-  -- the lowest, counted from 0
-  abbrev lowest : ℕ
-  lowest = trailingZeros 32 rest
-
-  abbrev dropped : ℕ
-  dropped = bitAnd rest (rest - 1)
-
-  pub lowest-within : lowest < 32
+  pub lowest-within : lowest rest < 32
   lowest-within = trailing-within 32 32 rest (left .fits) some
 
-  pub lowest-left : holds rest (lowest + 1) ≡ true
-  lowest-left = rw (add-sub-cancel lowest 1) (trailing-set 32 rest lowest-within)
+  pub lowest-left : holds rest (lowest rest + 1) ≡ true
+  lowest-left = rw (add-sub-cancel (lowest rest) 1) (trailing-set 32 rest lowest-within)
 
-  pub none-lower : (x : ℕ) → Among 32 x → x < lowest + 1 → holds rest x ≡ false
+  pub none-lower : (x : ℕ) → Among 32 x → x < lowest rest + 1 → holds rest x ≡ false
   none-lower x w l = trailing-clear 32 rest (x - 1) (omega arith)
 
-  pub still : (x : ℕ) → holds dropped x ≡ (holds rest x && not (eqb (x - 1) lowest))
+  pub still : (x : ℕ) → holds (dropped rest) x ≡ (holds rest x && not (eqb (x - 1) (lowest rest)))
   still x = bit-and rest (rest - 1) (x - 1) ∙ lowest-dropped 32 rest (left .fits) some (x - 1)
 
-  pub fewer : dropped < rest
+  pub fewer : dropped rest < rest
   fewer = omega (arith, and-le-r rest (rest - 1))
 
-  pub still-left : Left s dropped
+  pub still-left : Left s (dropped rest)
   still-left = record {
     fits = let less = fewer in let before = left .fits in omega arith;
-    of = λ x w h. left .of x w (and-iff (holds rest x) (not (eqb (x - 1) lowest)) .0 (sym (still x) ∙ h) .0);
+    of = λ x w h. left .of x w (and-iff (holds rest x) (not (eqb (x - 1) (lowest rest))) .0 (sym (still x) ∙ h) .0);
   }

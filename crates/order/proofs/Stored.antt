@@ -14,7 +14,9 @@ use Rattle.search.specs.Search.{Among}
 use Rattle.search.proofs.Truth.{leb-same}
 use Rattle.search.proofs.Found.{among-next}
 use Rattle.order.specs.Closure.{Relation}
+use Rattle.roleset.proofs.Bits.{bit-zero}
 use Rattle.order.specs.Table.{marks, Upto}
+use Rattle.order.specs.inner.Members.{holds}
 use Rattle.order.proofs.Closure.{RowSet}
 
 -- what stands at thing a when v is stored at i
@@ -48,7 +50,10 @@ module _ {A : Type 0} (view : A → ℕ → Bool) (none : A) where
     others = λ a b v ne w. rw (stored-other none t i row a (v .0) ne);
   }
 
--- one thing more of f is put into a set that has those of f up to i
+-- nothing of f is put yet, and one thing more of it into a set that has those of f up to i
+pub put-none : (b : ℕ) (has : Bool) → 1 ≤ b → holds 0 b ≡ (leb b 0 && has)
+put-none b has l = rw (lt-leb b 0 (omega arith)) (bit-zero (b - 1))
+
 pub put-more : (f : ℕ → Bool) (i b : ℕ) → ((leb b i && f b) || (f (i + 1) && eqb (i + 1) b)) ≡ (leb b (i + 1) && f b)
 put-more f i b = elim (ℕ-discrete b (i + 1)) [
   | yes q ↦ rw (q, eq-eqb (i + 1) (i + 1) refl, lt-leb (i + 1) i (omega arith), le-leb (i + 1) (i + 1) (omega arith)) (and-true (f (i + 1)))

@@ -1,4 +1,5 @@
-// Bounds of sets of things in an order. A set of the things 1 to 32 is a number, and an order one for each row.
+// Bounds of sets of things in an order. A set of the things 1 to 32 is a number, and an order such a number for
+// each thing, its row.
 //
 // The row of a thing has the things under it. So lower bounds are what rows have in common, and
 // upper bounds are what columns have in common, the rows of the order turned round.
@@ -8,31 +9,31 @@ use super::marks::THINGS;
 use super::marks::Table;
 ghost use mathlib.Core.Path.{_≡_};
 ghost use mathlib.Core.Bool.{_&&_, _||_};
-ghost use Prim.Native.Nat.{ℕ, _+_, _≤_, _<_, min};
+ghost use Prim.Native.Nat.{_+_, _≤_, _<_, min};
 ghost use lib.Dec.{leb, eqb};
-ghost use Rattle.search.specs.Search.{among, Among, some, every, implies};
+ghost use Rattle.search.specs.Search.{some, every, implies};
 ghost use Rattle.order.specs.Closure.{Agree};
 ghost use Rattle.order.specs.Bound.{upper, leastOf, converse, partnerWithoutBound, FirstWithoutBound};
 ghost use Rattle.order.specs.Table.{marks, mark};
-ghost use Rattle.order.specs.inner.Members.{holds, held};
+ghost use Rattle.order.specs.inner.Members.{holds, Has, FirstThings, rowHolds, inRow};
 
 // A set of things: thing a is bit a - 1.
 pub type Members = u32;
 
 // A relation: for each thing the set of those that it is related to.
-pub type Rows = [Members; THINGS];
+pub type MemberRows = [Members; THINGS];
 
 // The set with thing i + 1 too where `on`.
 fn put(s: Members, i: usize, on: bool) -> Members
     requires { ⌜ i < 32 ⌝ }
-    ensures { λ r. ⌜ ((b : ℕ) → Among 32 b → holds r b ≡ (holds s b || (on && eqb (i + 1) b))) ⌝ }
+    ensures { λ r. ⌜ Has (λ b. holds s b || (on && eqb (i + 1) b)) r ⌝ }
 {
     s | ((on as u32) << i)
 }
 
 // The set with thing a too where `on`, if it is one of the 32.
 pub fn with(s: Members, a: usize, on: bool) -> Members
-    ensures { λ r. ⌜ ((b : ℕ) → Among 32 b → holds r b ≡ (holds s b || (on && eqb a b))) ⌝ }
+    ensures { λ r. ⌜ Has (λ b. holds s b || (on && eqb a b)) r ⌝ }
 {
     if !search::among(THINGS as u64, a as u64) {
         return s;
@@ -45,7 +46,7 @@ const ALL: Members = 0xFFFF_FFFF;
 
 // The set of the first n things.
 pub fn first_things(n: usize) -> Members
-    ensures { λ r. ⌜ ((a : ℕ) → Among 32 a → holds r a ≡ leb a n) ⌝ }
+    ensures { λ r. ⌜ FirstThings n r ⌝ }
 {
     if THINGS <= n {
         return ALL;
@@ -55,7 +56,7 @@ pub fn first_things(n: usize) -> Members
 
 // The set of the marks, as a number.
 fn packed(row: Set) -> Members
-    ensures { λ r. ⌜ ((b : ℕ) → Among 32 b → holds r b ≡ marks row b) ⌝ }
+    ensures { λ r. ⌜ Has (marks row) r ⌝ }
 {
     let mut r = 0;
     let mut j = 0;
@@ -67,8 +68,8 @@ fn packed(row: Set) -> Members
 }
 
 // The first n rows of a table, each as a number; those after are empty.
-pub fn rows(t: &Table, n: usize) -> Rows
-    ensures { λ r. ⌜ Agree 32 32 (held r) (λ a b. leb a n && mark (now (t .entry)) a b) ⌝ }
+pub fn rows(t: &Table, n: usize) -> MemberRows
+    ensures { λ r. ⌜ Agree 32 32 (rowHolds r) (λ a b. leb a n && mark (now (t .entry)) a b) ⌝ }
 {
     let m = marks::lesser(n, THINGS);
     let mut r = [0u32; THINGS];
@@ -82,9 +83,9 @@ pub fn rows(t: &Table, n: usize) -> Rows
 }
 
 // The rows with thing i + 1 too in each whose thing has a mark.
-fn spread(t: Rows, row: Set, i: usize) -> Rows
+fn spread(t: MemberRows, row: Set, i: usize) -> MemberRows
     requires { ⌜ i < 32 ⌝ }
-    ensures { λ r. ⌜ Agree 32 32 (held r) (λ a b. held t a b || (marks row a && eqb (i + 1) b)) ⌝ }
+    ensures { λ r. ⌜ Agree 32 32 (rowHolds r) (λ a b. rowHolds t a b || (marks row a && eqb (i + 1) b)) ⌝ }
 {
     let mut r = [0u32; THINGS];
     let mut j = 0;
@@ -96,8 +97,8 @@ fn spread(t: Rows, row: Set, i: usize) -> Rows
 }
 
 // The columns of a table, each as a number, of which the first n rows count: the rows of the relation turned round.
-pub fn columns(t: &Table, n: usize) -> Rows
-    ensures { λ r. ⌜ Agree 32 32 (held r) (λ a b. leb b n && mark (now (t .entry)) b a) ⌝ }
+pub fn columns(t: &Table, n: usize) -> MemberRows
+    ensures { λ r. ⌜ Agree 32 32 (rowHolds r) (λ a b. leb b n && mark (now (t .entry)) b a) ⌝ }
 {
     let counted = marks::lesser(n, THINGS);
     let mut r = [0u32; THINGS];
@@ -112,8 +113,8 @@ pub fn columns(t: &Table, n: usize) -> Rows
 }
 
 // The row of thing a, empty where it is none of the 32.
-pub fn row(t: &Rows, a: usize) -> Members
-    ensures { λ r. ⌜ ((b : ℕ) → Among 32 b → holds r b ≡ (among 32 a && held (now (t .entry)) a b)) ⌝ }
+pub fn row(t: &MemberRows, a: usize) -> Members
+    ensures { λ r. ⌜ Has (inRow (now (t .entry)) a) r ⌝ }
 {
     if !search::among(THINGS as u64, a as u64) {
         return 0;
@@ -144,8 +145,8 @@ fn within(s: Members, t: Members) -> bool
 
 // The greatest of the set, or 0. Where several are over all of it, the lowest number of them. They are tried in
 // turn, the lowest that is left first.
-fn greatest(t: &Rows, s: Members) -> usize
-    ensures { λ r. ⌜ r ≡ leastOf 32 (converse (held (now (t .entry)))) (holds s) ⌝ }
+fn greatest(t: &MemberRows, s: Members) -> usize
+    ensures { λ r. ⌜ r ≡ leastOf 32 (converse (rowHolds (now (t .entry)))) (holds s) ⌝ }
 {
     let mut rest = s;
     while rest != 0 {
@@ -159,9 +160,9 @@ fn greatest(t: &Rows, s: Members) -> usize
     0
 }
 
-// The things of `all` that are under each of s, which are taken in turn likewise.
-fn lower_bounds(t: &Rows, all: Members, s: Members) -> Members
-    ensures { λ r. ⌜ ((c : ℕ) → Among 32 c → holds r c ≡ (holds all c && upper 32 (converse (held (now (t .entry)))) (holds s) c)) ⌝ }
+// The things of `all` that are under each of s. Those of s are taken in turn, the lowest that is left first.
+fn lower_bounds(t: &MemberRows, all: Members, s: Members) -> Members
+    ensures { λ r. ⌜ Has (λ c. holds all c && upper 32 (converse (rowHolds (now (t .entry)))) (holds s) c) r ⌝ }
 {
     let mut r = all;
     let mut rest = s;
@@ -172,19 +173,19 @@ fn lower_bounds(t: &Rows, all: Members, s: Members) -> Members
     r
 }
 
-// The greatest of the things of `all` that are under each of s, or 0. Where `all` is the set of all things,
-// this is the greatest lower bound; who asks for many makes that set once.
-pub fn greatest_lower(t: &Rows, all: Members, s: Members) -> usize
-    ensures { λ r. ⌜ r ≡ leastOf 32 (converse (held (now (t .entry)))) (λ c. holds all c && upper 32 (converse (held (now (t .entry)))) (holds s) c) ⌝ }
+// The greatest of the things of `all` that are under each of s, or 0. Where `all` is the set of the things that
+// there are and s has no others, this is the greatest lower bound.
+pub fn greatest_lower(t: &MemberRows, all: Members, s: Members) -> usize
+    ensures { λ r. ⌜ r ≡ leastOf 32 (converse (rowHolds (now (t .entry)))) (λ c. holds all c && upper 32 (converse (rowHolds (now (t .entry)))) (holds s) c) ⌝ }
 {
     greatest(t, lower_bounds(t, all, s))
 }
 
 // The lowest of the first m things that comes after thing i + 1 and has no least upper bound with it, or 0,
 // in the order that was turned round.
-fn partner(up: &Rows, m: usize, i: usize) -> usize
+fn partner(up: &MemberRows, m: usize, i: usize) -> usize
     requires { ⌜ (m ≤ 32) × (i < m) ⌝ }
-    ensures { λ r. ⌜ r ≡ partnerWithoutBound m (converse (held (now (up .entry)))) (i + 1) ⌝ }
+    ensures { λ r. ⌜ r ≡ partnerWithoutBound m (converse (rowHolds (now (up .entry)))) (i + 1) ⌝ }
 {
     let bounds = first_things(m) & up[i];
     let mut j = i + 1;

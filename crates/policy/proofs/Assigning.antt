@@ -14,7 +14,7 @@ use Rattle.search.proofs.Truth.{and-iff, among-iff, untrue, both, same}
 use Rattle.search.proofs.Found.{some-cut}
 use Rattle.order.specs.Closure.{Relation, Agree}
 use Rattle.order.specs.Bound.{converse}
-use Rattle.order.specs.inner.Members.{held}
+use Rattle.order.specs.inner.Members.{rowHolds, inRow}
 use Rattle.rolefile.specs.declared.Verdict.{Verdict}
 use Rattle.rolefile.specs.Line.{A, lineAt, lines, part}
 use Rattle.rolefile.specs.Form.{refusal, header, scan}
@@ -28,7 +28,7 @@ use Rattle.policy.specs.Policy.{Level, Free, Label, Undefined}
 use Rattle.policy.specs.Settings.{Inside, Settings, dominates, settings}
 use Rattle.policy.specs.Policy.{mayAt, level, rLevel, wLevel, passes, isDefined, levelNumber}
 use Rattle.policy.specs.Tables.{clearancesAt, rLevelsAt, wLevelsAt, byteOf, marked, passesIn, markAt}
-use Rattle.policy.specs.inner.Filling.{inRow, levelRow, someServes, assignByTables}
+use Rattle.policy.specs.inner.Filling.{levelRow, someServes, assignByTables}
 use Rattle.policy.specs.Image.{Labelled, Dominating, Levelled}
 use Rattle.policy.specs.Verdict.{serves, assignVerdict, assignmentVerdict}
 use Rattle.policy.proofs.Readying.{one-within, two-within, limits-a}
@@ -102,11 +102,11 @@ module _ (σ : Settings) (few : σ .labels ≤ 32) (inside : Inside (σ .labels)
 -- ---- 16 by the rows of dominance
 
 module _ (σ : Settings) (few : σ .labels ≤ 32) (inside : Inside (σ .labels) (σ .dominates)) (under over : List ℕ)
-    (lower : Agree 32 32 (held under) (λ a b. leb a (σ .labels) && σ .dominates a b))
-    (upper : Agree 32 32 (converse (held over)) (λ a b. leb a (σ .labels) && σ .dominates a b)) where
+    (lower : Agree 32 32 (rowHolds under) (λ a b. leb a (σ .labels) && σ .dominates a b))
+    (upper : Agree 32 32 (converse (rowHolds over)) (λ a b. leb a (σ .labels) && σ .dominates a b)) where
   module _ (y : ℕ) (label : Among (σ .labels) y) where
     in-under : (a : ℕ) → inRow under a y ≡ σ .dominates a y
-    in-under a = rw (among-iff 32 y .1 (omega arith)) at (mark-is σ few inside (held under) lower a y (inr label))
+    in-under a = rw (among-iff 32 y .1 (omega arith)) at (mark-is σ few inside (rowHolds under) lower a y (inr label))
 
     in-over : (a : ℕ) → Among (σ .labels) a → inRow over a y ≡ σ .dominates y a
     in-over a w =
@@ -124,8 +124,8 @@ module _ (σ : Settings) (few : σ .labels ≤ 32) (inside : Inside (σ .labels)
 
   in-past : (a y : ℕ) → Among 32 y → σ .labels < y → inRow under a y ≡ false
   in-past a y w past = untrue (inRow under a y) (λ h.
-      let (v, e) = and-iff (among 32 a) (held under a y) .0 h in
-      both e (mark-past σ few inside (held under) lower a y (among-iff 32 a .0 v) w past))
+      let (v, e) = and-iff (among 32 a) (rowHolds under a y) .0 h in
+      both e (mark-past σ few inside (rowHolds under) lower a y (among-iff 32 a .0 v) w past))
 
   some-serves : (u r : ℕ) → someServes under over (σ .clearance u) (levelNumber (rLevel σ r)) (levelNumber (wLevel σ r)) ≡ some (σ .labels) (serves σ u r)
   unfolding someServes
@@ -165,8 +165,8 @@ module _ (σ : Settings) (ys : List ℕ) (few : σ .labels ≤ 32) (inside : Ins
         refl (λ a i. marked-is a l (inl i))
 
   module _ (labelled : Labelled σ ys) (levelled : Levelled σ ys) (under over : List ℕ)
-      (lower : Agree 32 32 (held under) (λ a b. leb a (σ .labels) && σ .dominates a b))
-      (upper : Agree 32 32 (converse (held over)) (λ a b. leb a (σ .labels) && σ .dominates a b)) where
+      (lower : Agree 32 32 (rowHolds under) (λ a b. leb a (σ .labels) && σ .dominates a b))
+      (upper : Agree 32 32 (converse (rowHolds over)) (λ a b. leb a (σ .labels) && σ .dominates a b)) where
     pub tables-verdict : (u r : ℕ) → Among 256 u → Among 128 r → assignByTables ys under over u r ≡ assignVerdict σ u r
     unfolding assignByTables assignVerdict
     tables-verdict u r v w =

@@ -2,10 +2,11 @@
 use Prim.Native.Nat.{ℕ, zero, suc, _≤_}
 use mathlib.Core.Path.{_≡_, refl, _∙_}
 use mathlib.Core.List.{List}
-use mathlib.Core.Bool.{Bool, true, false, _&&_, cond}
+use mathlib.Core.Bool.{Bool, _&&_, cond}
 use native.Mathlib.Omega.{arith}
 use lib.Dec.{leb, ltb}
 use borrow.Author.Tests.{le-leb, lt-ltb}
+use Rattle.search.proofs.Truth.{and-when}
 use Rattle.order.specs.Closure.{Relation, Agree, path, withItself}
 use Rattle.order.specs.Bound.{partnerWithoutBound, lowestWithoutBound, FirstWithoutBound}
 use Rattle.order.specs.Table.{mark, Rows}
@@ -39,11 +40,7 @@ closed-of f t c = closed-table 32 (labels f) (over f) (mark t) (mark c)
 
 -- its first rows are all of it
 pub closed-rows : (f : List ℕ) (m r : Relation) → Closed f m → Agree 32 32 r (λ a b. leb a (labels f) && m a b) → Closed f r
-closed-rows f m r closed same a b v w = same a b v w ∙ rw (closed a b v w) (again (leb a (labels f)) (dominates f a b))
-  where
-    again : (x y : Bool) → (x && (x && y)) ≡ (x && y)
-    again true y = refl
-    again false y = refl
+closed-rows f m r closed same a b v w = same a b v w ∙ rw (closed a b v w) (and-when (leb a (labels f)) (λ e. rw e))
 
 -- on the labels it is dominance
 pub closed-agree : (f : List ℕ) (m : Relation) → labels f ≤ 32 → Closed f m → Agree (labels f) (labels f) m (dominates f)

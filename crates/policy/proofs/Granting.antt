@@ -17,7 +17,7 @@ use Rattle.roleset.specs.Row.{member, rowOf, Kept}
 use Rattle.order.specs.Closure.{Relation, Agree}
 use Rattle.order.specs.Bound.{converse}
 use Rattle.order.specs.Table.{mark, related}
-use Rattle.order.specs.inner.Members.{held}
+use Rattle.order.specs.inner.Members.{rowHolds}
 use Rattle.rolefile.specs.declared.Line.{Line}
 use Rattle.rolefile.specs.Line.{P, part}
 use Rattle.rolefile.specs.Form.{header}
@@ -146,11 +146,11 @@ module _ (f : List ℕ) (counts : GoodCounts (header f)) (between : Between (rol
 
 module _ (f : List ℕ) (q : Parts) (h : Line) (down : List (List Bool)) (under over x₀ x₁ x₂ x₃ g : List ℕ) (ready : Ready f q h)
     (labelled : Labelled (settings f) x₀) (seniors : Seniors (settings f) x₀)
-    (closed : Closed f (mark down)) (lower : Closed f (held under)) (upper : Closed f (converse (held over))) (no-level : Zeros 1808 2064 x₀) (no-role : Zeros 12304 28688 x₀)
+    (closed : Closed f (mark down)) (lower : Closed f (rowHolds under)) (upper : Closed f (converse (rowHolds over))) (no-level : Zeros 1808 2064 x₀) (no-role : Zeros 12304 28688 x₀)
     (put : DominanceRows 32 down x₀ x₁)
     (grants : GrantedRows (grantedByLines x₁ (part f (q .p .start)) (q .p .count)) x₁ x₂)
     (gathers : (d : ℕ) → Among 2 d → Agree 32 128 (related g (gatheredAt d)) (gathered x₂ (tableOf d) (h .d)))
-    (levels : LevelBytes (h .b) (λ d r. levelNumber (level (h .a) (converse (held (byMode over under d))) (λ l. related g (gatheredAt d) l r))) x₂ x₃) where
+    (levels : LevelBytes (h .b) (λ d r. levelNumber (level (h .a) (converse (rowHolds (byMode over under d))) (λ l. related g (gatheredAt d) l r))) x₂ x₃) where
   counts : GoodCounts (header f)
   counts = counts-of f (ready .lines)
 
@@ -178,17 +178,17 @@ module _ (f : List ℕ) (q : Parts) (h : Line) (down : List (List Bool)) (under 
   gathered₂ : (d : ℕ) → Among 2 d → Allows (settings f) d (tableOf d) x₂ → Agree 32 128 (related g (gatheredAt d)) (λ l r. mayAt (settings f) d r l)
   gathered₂ d m allows l r v w = rw (ready .head) at gathers d m l r v w ∙ may-at-is f x₂ (counts .cards) labelled₂ d (tableOf d) allows l r w
 
-  leveled : (d : ℕ) → Among 2 d → (le : Relation) → Agree (labels f) (labels f) (converse (held (byMode over under d))) le → Allows (settings f) d (tableOf d) x₂
+  leveled : (d : ℕ) → Among 2 d → (le : Relation) → Agree (labels f) (labels f) (converse (rowHolds (byMode over under d))) le → Allows (settings f) d (tableOf d) x₂
       → (r : ℕ) → Among 128 r → byteOf x₃ (levelsAt d) r ≡ levelNumber (level (labels f) le (mayAt (settings f) d r))
   leveled d m le order allows =
-      levels-are f counts (above-between f (good-of f (ready .lines))) (λ d. converse (held (byMode over under d))) g x₂ x₃ (rw (ready .head) at levels) zeros₂ d m le
+      levels-are f counts (above-between f (good-of f (ready .lines))) (λ d. converse (rowHolds (byMode over under d))) g x₂ x₃ (rw (ready .head) at levels) zeros₂ d m le
       order (gathered₂ d m allows)
 
   levelled₃ : Levelled (settings f) x₃
   unfolding rLevel wLevel
   levelled₃ = record {
-    reads = leveled 1 (omega arith) (dominates f) (closed-agree f (converse (held over)) (counts .labels .1) upper) (permitting₂ .readers);
-    writes = leveled 2 (omega arith) (converse (dominates f)) (λ a b v w. closed-agree f (held under) (counts .labels .1) lower b a w v) (permitting₂ .writers);
+    reads = leveled 1 (omega arith) (dominates f) (closed-agree f (converse (rowHolds over)) (counts .labels .1) upper) (permitting₂ .readers);
+    writes = leveled 2 (omega arith) (converse (dominates f)) (λ a b v w. closed-agree f (rowHolds under) (counts .labels .1) lower b a w v) (permitting₂ .writers);
   }
 
   kept-since₁ : (i : ℕ) → (1808 ≤ i → 2064 ≤ i) → (12304 ≤ i → 28688 ≤ i) → getD x₃ i 0 ≡ getD x₁ i 0

@@ -4,8 +4,8 @@
 // it.
 use super::layout;
 use super::tables;
+use order::bounds::MemberRows;
 use order::bounds::Members;
-use order::bounds::Rows;
 use rolefile::Verdict;
 use rolefile::check;
 use rolefile::read;
@@ -13,7 +13,7 @@ ghost use mathlib.Core.Path.{_≡_};
 ghost use Prim.Native.Nat.{ℕ, _≤_};
 ghost use lib.ListN.{length};
 ghost use Rattle.search.specs.Search.{Among};
-ghost use Rattle.order.specs.inner.Members.{holds};
+ghost use Rattle.order.specs.inner.Members.{Has};
 ghost use Rattle.rolefile.specs.Line.{lines};
 ghost use Rattle.rolefile.specs.Form.{scan};
 ghost use Rattle.rolefile.specs.inner.Section.{one, two};
@@ -21,8 +21,8 @@ ghost use Rattle.policy.specs.Tables.{seniorsAt};
 ghost use Rattle.policy.specs.inner.Filling.{levelRow, someServes, assignByTables};
 
 // The row of a level: every label where it is free, and none where it is undefined.
-fn level_row(t: &Rows, level: u64) -> Members
-    ensures { λ r. ⌜ ((y : ℕ) → Among 32 y → holds r y ≡ levelRow (now (t .entry)) level y) ⌝ }
+fn level_row(t: &MemberRows, level: u64) -> Members
+    ensures { λ r. ⌜ Has (levelRow (now (t .entry)) level) r ⌝ }
 {
     if level == layout::FREE as u64 {
         return order::bounds::first_things(layout::LABELS);
@@ -31,7 +31,13 @@ fn level_row(t: &Rows, level: u64) -> Members
 }
 
 // Whether some label serves: one under the clearance, over the r-level and under the w-level.
-fn some_serves(under: &Rows, over: &Rows, clearance: u64, reads: u64, writes: u64) -> bool
+fn some_serves(
+    under: &MemberRows,
+    over: &MemberRows,
+    clearance: u64,
+    reads: u64,
+    writes: u64,
+) -> bool
     ensures { λ r. ⌜ r ≡ someServes (now (under .entry)) (now (over .entry)) clearance reads writes ⌝ }
 {
     let lower = order::bounds::row(under, clearance as usize);
@@ -41,7 +47,7 @@ fn some_serves(under: &Rows, over: &Rows, clearance: u64, reads: u64, writes: u6
 }
 
 // 14 to 16 for user u and role r.
-fn assign(s: &[u8], under: &Rows, over: &Rows, u: usize, r: usize) -> Verdict
+fn assign(s: &[u8], under: &MemberRows, over: &MemberRows, u: usize, r: usize) -> Verdict
     requires { ⌜ (seniorsAt ≤ length (now s)) × Among 256 u × Among 128 r ⌝ }
     ensures { λ v. ⌜ v ≡ assignByTables (now (s .entry)) (now (under .entry)) (now (over .entry)) u r ⌝ }
 {
@@ -61,7 +67,7 @@ fn assign(s: &[u8], under: &Rows, over: &Rows, u: usize, r: usize) -> Verdict
 }
 
 // 14 to 16 for the first m lines of a part: the first refusal.
-pub fn assign_lines(s: &[u8], under: &Rows, over: &Rows, p: &[u8], m: usize) -> Verdict
+pub fn assign_lines(s: &[u8], under: &MemberRows, over: &MemberRows, p: &[u8], m: usize) -> Verdict
     requires { ⌜ (seniorsAt ≤ length (now s)) × (m ≤ lines (now p)) × ((i : ℕ) → Among m i → Among 256 (one (now p) i) × Among 128 (two (now p) i)) ⌝ }
     ensures { λ v. ⌜ v ≡ scan m (λ i. assignByTables (now (s .entry)) (now (under .entry)) (now (over .entry)) (one (now (p .entry)) i) (two (now (p .entry)) i)) ⌝ }
 {

@@ -5,7 +5,7 @@ use super::labels;
 use super::layout;
 use super::marks;
 use super::rows;
-use order::bounds::Rows;
+use order::bounds::MemberRows;
 use order::marks::Table;
 use rolefile::Line;
 use rolefile::Verdict;
@@ -17,7 +17,7 @@ ghost use lib.ListN.{length};
 ghost use Rattle.roleset.specs.Row.{Kept};
 ghost use Rattle.order.specs.Bound.{converse};
 ghost use Rattle.order.specs.Table.{mark};
-ghost use Rattle.order.specs.inner.Members.{held};
+ghost use Rattle.order.specs.inner.Members.{rowHolds};
 ghost use Rattle.rolefile.specs.Line.{lines, part};
 ghost use Rattle.rolefile.specs.Form.{scan};
 ghost use Rattle.rolefile.specs.inner.Section.{Leads};
@@ -132,8 +132,16 @@ fn rank_roles(f: &[u8], s: &mut [u8], q: Parts, h: Line) -> Verdict
 }
 
 // Dominance, readers, writers and levels, put into the state.
-fn grant_all(f: &[u8], s: &mut [u8], q: Parts, h: Line, down: &Table, under: &Rows, over: &Rows)
-    requires { ⌜ Ready (now f) q h × (stateSize ≤ length (now s)) × Labelled (settings (now f)) (now s) × Seniors (settings (now f)) (now s) × Closed (now f) (mark (now down)) × Closed (now f) (held (now under)) × Closed (now f) (converse (held (now over))) × Zeros rLevelsAt seniorsAt (now s) × Zeros readersAt (writersAt + 16 * 512) (now s) ⌝ }
+fn grant_all(
+    f: &[u8],
+    s: &mut [u8],
+    q: Parts,
+    h: Line,
+    down: &Table,
+    under: &MemberRows,
+    over: &MemberRows,
+)
+    requires { ⌜ Ready (now f) q h × (stateSize ≤ length (now s)) × Labelled (settings (now f)) (now s) × Seniors (settings (now f)) (now s) × Closed (now f) (mark (now down)) × Closed (now f) (rowHolds (now under)) × Closed (now f) (converse (rowHolds (now over))) × Zeros rLevelsAt seniorsAt (now s) × Zeros readersAt (writersAt + 16 * 512) (now s) ⌝ }
     ensures { λ _. ⌜ Granting (now (f .entry)) (now (s .entry)) (now (s .exit)) ⌝ }
 {
     let p = q.p;
@@ -145,8 +153,15 @@ fn grant_all(f: &[u8], s: &mut [u8], q: Parts, h: Line, down: &Table, under: &Ro
 }
 
 // 14 to 16, by the tables in the state and the rows of dominance.
-fn check_assignments(f: &[u8], s: &[u8], q: Parts, h: Line, under: &Rows, over: &Rows) -> Verdict
-    requires { ⌜ Ready (now f) q h × (stateSize ≤ length (now s)) × Labelled (settings (now f)) (now s) × Dominating (settings (now f)) (now s) × Levelled (settings (now f)) (now s) × Closed (now f) (held (now under)) × Closed (now f) (converse (held (now over))) ⌝ }
+fn check_assignments(
+    f: &[u8],
+    s: &[u8],
+    q: Parts,
+    h: Line,
+    under: &MemberRows,
+    over: &MemberRows,
+) -> Verdict
+    requires { ⌜ Ready (now f) q h × (stateSize ≤ length (now s)) × Labelled (settings (now f)) (now s) × Dominating (settings (now f)) (now s) × Levelled (settings (now f)) (now s) × Closed (now f) (rowHolds (now under)) × Closed (now f) (converse (rowHolds (now over))) ⌝ }
     ensures { λ v. ⌜ v ≡ scan (lines (now (f .entry))) (assignmentVerdict (now (f .entry))) ⌝ }
 {
     let a = q.a;

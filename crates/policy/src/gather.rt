@@ -1,7 +1,7 @@
 // Levels: the labels that a role may read or write are gathered, and bounded.
 use super::layout;
+use order::bounds::MemberRows;
 use order::bounds::Members;
-use order::bounds::Rows;
 use roleset::ROW_BYTES;
 ghost use mathlib.Core.Path.{_≡_};
 ghost use Prim.Native.Nat.{ℕ, _+_, _*_, _≤_, _<_};
@@ -10,10 +10,10 @@ ghost use Rattle.search.specs.Search.{Among};
 ghost use Rattle.order.specs.Closure.{Agree};
 ghost use Rattle.order.specs.Bound.{converse};
 ghost use Rattle.order.specs.Table.{related};
-ghost use Rattle.order.specs.inner.Members.{holds, held};
+ghost use Rattle.order.specs.inner.Members.{holds, Has, rowHolds};
 ghost use Rattle.policy.specs.Policy.{level, levelNumber};
 ghost use Rattle.policy.specs.Tables.{seniorsAt, writersAt, tableOf};
-ghost use Rattle.policy.specs.inner.Filling.{brings, gathered, byMode, gatheredAt, Unites, FirstLabels, LevelBytes};
+ghost use Rattle.policy.specs.inner.Filling.{brings, gathered, byMode, gatheredAt, Unites, LevelBytes};
 
 // The bytes of a set of roles for each label.
 const MODE_BYTES: usize = ROW_BYTES * layout::LABELS;
@@ -22,10 +22,10 @@ const MODE_BYTES: usize = ROW_BYTES * layout::LABELS;
 // write one.
 pub type Gathered = [u8; 2 * MODE_BYTES];
 
-// Where each begins.
-const READ_AT: usize = 0;
+// Where the rows of the readers begin, and those of the writers.
+const READS_FROM: usize = 0;
 
-const WRITTEN_AT: usize = MODE_BYTES;
+const WRITES_FROM: usize = MODE_BYTES;
 
 // Joins the readers and the writers of card o + 1 into the rows of its label.
 fn gather_one(g: &mut Gathered, s: &[u8], o: usize)
@@ -38,9 +38,9 @@ fn gather_one(g: &mut Gathered, s: &[u8], o: usize)
     }
     let row = ROW_BYTES * (label - 1);
     let readers = roleset::row(s, layout::READERS_AT + ROW_BYTES * o);
-    roleset::unite(g, READ_AT + row, readers);
+    roleset::unite(g, READS_FROM + row, readers);
     let writers = roleset::row(s, layout::WRITERS_AT + ROW_BYTES * o);
-    roleset::unite(g, WRITTEN_AT + row, writers);
+    roleset::unite(g, WRITES_FROM + row, writers);
 }
 
 // For each label, the roles that may read, and those that may write, one of the first n cards of that label.
@@ -60,7 +60,7 @@ pub fn gather(s: &[u8], n: usize) -> Gathered
 // The labels whose row has the role, of the rows of `g` from `at` on.
 fn labels_of(g: &Gathered, at: usize, role: usize) -> Members
     requires { ⌜ at ≤ 512 ⌝ }
-    ensures { λ r. ⌜ ((l : ℕ) → Among 32 l → holds r l ≡ related (now (g .entry)) at l role) ⌝ }
+    ensures { λ r. ⌜ Has (λ l. related (now (g .entry)) at l role) r ⌝ }
 {
     let mut r = 0;
     let mut i = 0;
@@ -71,12 +71,12 @@ fn labels_of(g: &Gathered, at: usize, role: usize) -> Members
     r
 }
 
-// The level of a set of labels, of which the first n count: its bound by the rows of t, as it is kept. `all` is
-// the set of the n labels.
-fn level_of(t: &Rows, n: usize, all: Members, s: Members) -> u8
-    requires { ⌜ (n ≤ 32) × FirstLabels n all ⌝ }
-    ensures { λ r. ⌜ r ≡ levelNumber (level n (converse (held (now (t .entry)))) (holds s)) ⌝ }
+// The level of a set of labels, of which the first n count: its bound by the rows of t, as it is kept.
+fn level_of(t: &MemberRows, n: usize, s: Members) -> u8
+    requires { ⌜ n ≤ 32 ⌝ }
+    ensures { λ r. ⌜ r ≡ levelNumber (level n (converse (rowHolds (now (t .entry)))) (holds s)) ⌝ }
 {
+    let all = order::bounds::first_things(n);
     let set = s & all;
     if !order::bounds::any(set) {
         return layout::FREE;
@@ -90,17 +90,23 @@ fn level_of(t: &Rows, n: usize, all: Members, s: Members) -> u8
 
 // Puts in both levels of each of the first `roles` roles. `under` has the labels under each of the n labels, and
 // `over` those over it.
-pub fn put_levels(s: &mut [u8], g: &Gathered, under: &Rows, over: &Rows, n: usize, roles: usize)
+pub fn put_levels(
+    s: &mut [u8],
+    g: &Gathered,
+    under: &MemberRows,
+    over: &MemberRows,
+    n: usize,
+    roles: usize,
+)
     requires { ⌜ (seniorsAt ≤ length (now s)) × (n ≤ 32) × (roles ≤ 128) ⌝ }
-    ensures { λ _. ⌜ LevelBytes roles (λ d r. levelNumber (level n (converse (held (byMode (now (over .entry)) (now (under .entry)) d))) (λ l. related (now (g .entry)) (gatheredAt d) l r))) (now (s .entry)) (now (s .exit)) ⌝ }
+    ensures { λ _. ⌜ LevelBytes roles (λ d r. levelNumber (level n (converse (rowHolds (byMode (now (over .entry)) (now (under .entry)) d))) (λ l. related (now (g .entry)) (gatheredAt d) l r))) (now (s .entry)) (now (s .exit)) ⌝ }
 {
-    let all = order::bounds::first_things(n);
     let mut i = 0;
     while i < roles {
-        let reads = labels_of(g, READ_AT, i + 1);
-        s[layout::R_LEVELS_AT + i] = level_of(over, n, all, reads);
-        let writes = labels_of(g, WRITTEN_AT, i + 1);
-        s[layout::W_LEVELS_AT + i] = level_of(under, n, all, writes);
+        let reads = labels_of(g, READS_FROM, i + 1);
+        s[layout::R_LEVELS_AT + i] = level_of(over, n, reads);
+        let writes = labels_of(g, WRITES_FROM, i + 1);
+        s[layout::W_LEVELS_AT + i] = level_of(under, n, writes);
         i += 1;
     }
 }

@@ -19,17 +19,17 @@ use Rattle.rolefile.specs.inner.Section.{figure}
 use Rattle.rolefile.specs.Decimal.{lastDigits, digits, padded, blanks}
 
 -- a digit, from the digit `low` on
-abbrev pub UpToNine : ℕ → ℕ → Type 0
-UpToNine low b = (low ≤ b) × (b ≤ digitNine)
+abbrev pub DigitFrom : ℕ → ℕ → Type 0
+DigitFrom low b = (low ≤ b) × (b ≤ digitNine)
 
-pub up-to-nine-iff : (low b : ℕ) → ((leb low b && leb b digitNine) ≡ true) ↔ UpToNine low b
-up-to-nine-iff low b = and-both (leb-iff low b) (leb-iff b digitNine)
+pub digit-from-iff : (low b : ℕ) → ((leb low b && leb b digitNine) ≡ true) ↔ DigitFrom low b
+digit-from-iff low b = and-both (leb-iff low b) (leb-iff b digitNine)
 
 abbrev pub IsDigit : ℕ → Type 0
-IsDigit = UpToNine digitZero
+IsDigit = DigitFrom digitZero
 
 pub isDigit-iff : (b : ℕ) → (isDigit b ≡ true) ↔ IsDigit b
-isDigit-iff = up-to-nine-iff digitZero
+isDigit-iff = digit-from-iff digitZero
 
 -- ---- what one column more reads as
 
@@ -57,19 +57,19 @@ next-column n b a d = rw (isDigit-iff b .1 d, among-iff 9999 n .1 a)
 -- ---- three columns, of which the last is a digit
 
 -- a digit that others may follow
-abbrev Leads : ℕ → Type 0
-Leads = UpToNine (digitZero + 1)
+abbrev LeadingDigit : ℕ → Type 0
+LeadingDigit = DigitFrom (digitZero + 1)
 
 module _ (x y z : ℕ) (d : IsDigit z) where
   pub one-digit : x ≡ blank → y ≡ blank → columns Blank (x ∷ y ∷ z ∷ []) ≡ Number (z - digitZero)
   unfolding column columns
   one-digit p q = rw (p, q) (first-column z d)
 
-  pub two-digits : x ≡ blank → Leads y → columns Blank (x ∷ y ∷ z ∷ []) ≡ Number (10 * (y - digitZero) + (z - digitZero))
+  pub two-digits : x ≡ blank → LeadingDigit y → columns Blank (x ∷ y ∷ z ∷ []) ≡ Number (10 * (y - digitZero) + (z - digitZero))
   unfolding column columns
   two-digits p e = rw (p, first-column y (omega arith)) (next-column (y - digitZero) z (omega arith) d)
 
-  pub three-digits : Leads x → IsDigit y → columns Blank (x ∷ y ∷ z ∷ []) ≡ Number (100 * (x - digitZero) + (10 * (y - digitZero) + (z - digitZero)))
+  pub three-digits : LeadingDigit x → IsDigit y → columns Blank (x ∷ y ∷ z ∷ []) ≡ Number (100 * (x - digitZero) + (10 * (y - digitZero) + (z - digitZero)))
   unfolding columns
   three-digits e f =
       let sum : 100 * (x - digitZero) + (10 * (y - digitZero) + (z - digitZero)) ≡ 10 * (10 * (x - digitZero) + (y - digitZero)) + (z - digitZero) = omega arith in

@@ -97,9 +97,9 @@ fn numbers_fit(h: Line, l: Line) -> bool
     ensures { λ r. ⌜ r ≡ ranged h l ⌝ }
 {
     let k = l.letter;
-    let up_to = limits_of(h, k);
-    let one = search::among(up_to.first, l.a);
-    let two = search::among(up_to.second, l.b);
+    let limits = limits_of(h, k);
+    let one = search::among(limits.first, l.a);
+    let two = search::among(limits.second, l.b);
     one & (two & ((k != read::P) | search::among(MODE_LIMIT, l.c)))
 }
 

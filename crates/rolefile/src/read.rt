@@ -126,18 +126,18 @@ const WIDE_ONE: u64 = WIDE_ZERO + 1;
 
 const WIDE_NINE: u64 = DIGIT_NINE as u64;
 
-// In place of a number of three digits at most, where none was read.
-const LONG: u64 = 1000;
+// Above every number of three digits: nothing was read at once.
+const UNREAD: u64 = 1000;
 
 // Whether the byte is a digit, from the digit `low` on.
-fn up_to_nine(low: u64, b: u64) -> bool
+fn digit_from(low: u64, b: u64) -> bool
     ensures { λ r. ⌜ r ≡ (leb low b && leb b digitNine) ⌝ }
 {
     (low <= b) & (b <= WIDE_NINE)
 }
 
 // The number in a field's last three columns, of which the last is a digit, where those before them
-// are blanks; LONG where they hold none.
+// are blanks. A number below UNREAD is the field's; UNREAD tells nothing.
 fn last_three(x: u64, y: u64, z: u64) -> u64
     requires { ⌜ (digitZero ≤ z) × (z ≤ digitNine) ⌝ }
     ensures { λ r. ⌜ AtOnce r (columns Field.Blank (x ∷ y ∷ z ∷ [])) ⌝ }
@@ -146,19 +146,19 @@ fn last_three(x: u64, y: u64, z: u64) -> u64
         if x == WIDE_BLANK {
             return z - WIDE_ZERO;
         }
-        return LONG;
+        return UNREAD;
     }
     if x == WIDE_BLANK {
-        if up_to_nine(WIDE_ONE, y) {
+        if digit_from(WIDE_ONE, y) {
             return 10 * (y - WIDE_ZERO) + (z - WIDE_ZERO);
         }
-        return LONG;
+        return UNREAD;
     }
-    if !up_to_nine(WIDE_ONE, x) {
-        return LONG;
+    if !digit_from(WIDE_ONE, x) {
+        return UNREAD;
     }
-    if !up_to_nine(WIDE_ZERO, y) {
-        return LONG;
+    if !digit_from(WIDE_ZERO, y) {
+        return UNREAD;
     }
     100 * (x - WIDE_ZERO) + (10 * (y - WIDE_ZERO) + (z - WIDE_ZERO))
 }
@@ -169,27 +169,27 @@ const TWO_BLANKS: u64 = 0x2020;
 const FOUR_BLANKS: u64 = 0x2020_2020;
 
 // The number in the five columns at `at`, where it has up to three digits, as each number of an
-// accepted file has; else LONG.
+// accepted file has. UNREAD tells nothing.
 fn at_once(s: &[u8], at: usize) -> u64
     requires { ⌜ at + 5 ≤ length (now s) ⌝ }
     ensures { λ r. ⌜ AtOnce r (fieldAt (now (s .entry)) at) ⌝ }
 {
     if number::two(s[at], s[at + 1]) != TWO_BLANKS {
-        return LONG;
+        return UNREAD;
     }
     if !is_digit(s[at + 4]) {
-        return LONG;
+        return UNREAD;
     }
     last_three(wide(s[at + 2]), wide(s[at + 3]), wide(s[at + 4]))
 }
 
-// The field of five columns at `at`, out of which the number n was read at once, unless n is LONG.
+// The field of five columns at `at`, out of which the number n was read at once, unless n is UNREAD.
 // It is small, so that the compiler inlines it and the field is not handed over through memory.
 fn field(n: u64, s: &[u8], at: usize) -> Field
     requires { ⌜ (at + 5 ≤ length (now s)) × AtOnce n (fieldAt (now s) at) ⌝ }
     ensures { λ r. ⌜ r ≡ fieldAt (now (s .entry)) at ⌝ }
 {
-    if n < LONG {
+    if n < UNREAD {
         return Field::Number(n);
     }
     by_columns(s, at)

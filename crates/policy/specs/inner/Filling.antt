@@ -3,13 +3,13 @@ use Prim.Native.Nat.{ℕ, zero, suc, _+_, _*_, _%_, _≤_}
 use mathlib.Core.Path.{_≡_}
 use mathlib.Core.List.{List}
 use mathlib.Core.Bool.{Bool, not, _&&_, _||_, cond}
-use lib.Dec.{leb, eqb}
+use lib.Dec.{eqb}
 use lib.ListN.{getD}
 use Rattle.search.specs.Search.{among, some, Among}
 use Rattle.roleset.specs.Row.{member, rowOf, Kept}
 use Rattle.order.specs.Closure.{Relation, Agree}
 use Rattle.order.specs.Table.{mark, related}
-use Rattle.order.specs.inner.Members.{holds, held}
+use Rattle.order.specs.inner.Members.{inRow}
 use Rattle.rolefile.specs.declared.Verdict.{Verdict}
 use Rattle.rolefile.specs.Form.{fine, refusal, unless}
 use Rattle.rolefile.specs.inner.Section.{one, two, three, pairs}
@@ -116,17 +116,7 @@ pastCard t xs o r q = related t 0 r q || flowsByCard xs r q o
 abbrev pub withoutLoops : List ℕ → Relation
 withoutLoops t r q = related t 0 r q && not (eqb q r)
 
--- ---- sets of labels as numbers
-
--- x is the set of the first n labels
-abbrev pub FirstLabels : ℕ → ℕ → Type 0
-FirstLabels n x = (l : ℕ) → Among 32 l → holds x l ≡ leb l n
-
 -- ---- 14 to 16 by the tables of a state and by rows of labels: under has the labels under each label, over those over it
-
--- y is in the row of label a; what is none of the 32 has an empty row
-abbrev pub inRow : List ℕ → ℕ → ℕ → Bool
-inRow t a y = among 32 a && held t a y
 
 -- y is in the row of a level; where the level is 0, free, every label is
 abbrev pub levelRow : List ℕ → ℕ → ℕ → Bool

@@ -12,13 +12,13 @@ use lib.ListN.{getD-replicate}
 use Rattle.roleset.proofs.Bits.{bit-zero}
 use Rattle.order.specs.Closure.{Agree}
 use Rattle.order.specs.Table.{mark}
-use Rattle.order.specs.inner.Members.{held}
+use Rattle.order.specs.inner.Members.{rowHolds}
 use Rattle.order.proofs.Stored.{put-more, all-put}
 use Rattle.order.proofs.bounds.columns.Statement.{statement}
 use Rattle.order.proofs.bounds.columns.Tie as tie
 
 abbrev Inv-loop : tie.InvT-loop
-Inv-loop t n counted r₀ i₀ r i = (counted ≤ 32) × (i ≤ counted) × Agree 32 32 (held r) (λ a b. leb b i && mark t b a)
+Inv-loop t n counted r₀ i₀ r i = (counted ≤ 32) × (i ≤ counted) × Agree 32 32 (rowHolds r) (λ a b. leb b i && mark t b a)
 
 abbrev μ-loop : tie.MeasureT-loop
 μ-loop t n counted r₀ i₀ r i = counted - i

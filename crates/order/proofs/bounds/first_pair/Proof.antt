@@ -8,13 +8,13 @@ use Rattle.search.proofs.Found.{first-yet}
 use Rattle.order.specs.Closure.{Agree}
 use Rattle.order.specs.Bound.{converse}
 use Rattle.order.specs.Table.{mark}
-use Rattle.order.specs.inner.Members.{held}
+use Rattle.order.specs.inner.Members.{rowHolds}
 use Rattle.order.proofs.Bound.{NoneWithout, none-without-more, without-found, none-without, first-without-agree}
 use Rattle.order.proofs.bounds.first_pair.Statement.{statement}
 use Rattle.order.proofs.bounds.first_pair.Tie as tie
 
 abbrev Inv-loop : tie.InvT-loop
-Inv-loop n m up i₀ i = (m ≤ 32) × (i ≤ m) × NoneWithout m (converse (held up)) i
+Inv-loop n m up i₀ i = (m ≤ 32) × (i ≤ m) × NoneWithout m (converse (rowHolds up)) i
 
 abbrev μ-loop : tie.MeasureT-loop
 μ-loop n m up i₀ i = m - i
@@ -22,7 +22,7 @@ abbrev μ-loop : tie.MeasureT-loop
 -- the columns tell the order of the first m things
 told : (c : tie.After-columns Inv-loop μ-loop)
     → let m = c .before .before .lesser .result in
-    Agree m m (converse (held (c .columns .result))) (mark (c .before .before .before .args .t1))
+    Agree m m (converse (rowHolds (c .columns .result))) (mark (c .before .before .before .args .t1))
 told c a b v w = c .columns .ensures b a (omega arith) (omega arith) ∙ rw (le-leb a (c .before .before .lesser .result) (v .1))
 
 returns : tie.Need-returns Inv-loop μ-loop

@@ -16,13 +16,13 @@ use Rattle.search.specs.Search.{Among, first, every, implies}
 use Rattle.search.proofs.Found.{first-lowest, first-none}
 use Rattle.roleset.proofs.Bits.{bit-zero}
 use Rattle.order.specs.Bound.{converse, isLeast, leastOf, upper}
-use Rattle.order.specs.inner.Members.{holds, held}
-use Rattle.order.proofs.Left.{Left, all-left, lowest-within, lowest-left, none-lower, still, fewer, still-left}
+use Rattle.order.specs.inner.Members.{holds, rowHolds}
+use Rattle.order.proofs.Left.{Left, all-left, lowest, dropped, lowest-within, lowest-left, none-lower, still, fewer, still-left}
 use Rattle.order.proofs.bounds.greatest.Statement.{statement}
 use Rattle.order.proofs.bounds.greatest.Tie as tie
 
 abbrev leader : List ℕ → ℕ → ℕ → Bool
-leader t s = isLeast 32 (converse (held t)) (holds s)
+leader t s = isLeast 32 (converse (rowHolds t)) (holds s)
 
 -- what is not left does not lead the set
 abbrev Tried : List ℕ → ℕ → ℕ → Type 0
@@ -34,28 +34,25 @@ none-tried t s x w e = rw e
 
 -- the turn of the lowest that is left
 module _ (t : List ℕ) {s rest : ℕ} (left : Left s rest) (some : rest ≡ 0 → ⊥) (tried : Tried t s rest) where
-  abbrev lowest : ℕ
-  lowest = trailingZeros 32 rest
-
-  tells : {leads : Bool} → leads ≡ every 32 (λ x. implies (holds s x) (holds (getD t lowest 0) x)) → leader t s (lowest + 1) ≡ leads
+  tells : {leads : Bool} → leads ≡ every 32 (λ x. implies (holds s x) (holds (getD t (lowest rest) 0) x)) → leader t s (lowest rest + 1) ≡ leads
   unfolding isLeast upper
   tells h =
       let low = lowest-within left some in
-      rw (left .of (lowest + 1) (omega arith) (lowest-left left some), add-sub-cancel lowest 1) (sym h)
+      rw (left .of (lowest rest + 1) (omega arith) (lowest-left left some), add-sub-cancel (lowest rest) 1) (sym h)
 
-  leads-first : leader t s (lowest + 1) ≡ true → lowest + 1 ≡ first 32 (leader t s)
+  leads-first : leader t s (lowest rest + 1) ≡ true → lowest rest + 1 ≡ first 32 (leader t s)
   leads-first h =
       let low = lowest-within left some in
-      sym (first-lowest (leader t s) 32 (lowest + 1) (omega arith) .1 (record {
+      sym (first-lowest (leader t s) 32 (lowest rest + 1) (omega arith) .1 (record {
         inside = omega arith;
         holds = h;
         lower = λ x w l. tried x w (none-lower left some x w l);
       }))
 
-  tried-more : leader t s (lowest + 1) ≡ false → Tried t s (bitAnd rest (rest - 1))
-  tried-more h x w e = elim (ℕ-discrete x (lowest + 1)) [
+  tried-more : leader t s (lowest rest + 1) ≡ false → Tried t s (dropped rest)
+  tried-more h x w e = elim (ℕ-discrete x (lowest rest + 1)) [
     | yes q ↦ ap (leader t s) q ∙ h
-    | no q ↦ tried x w (rw (ne-eqb (x - 1) lowest (λ i. q (omega arith)), and-true (holds rest x)) at (sym (still left some x) ∙ e))
+    | no q ↦ tried x w (rw (ne-eqb (x - 1) (lowest rest) (λ i. q (omega arith)), and-true (holds rest x)) at (sym (still left some x) ∙ e))
   ]
 
 abbrev Inv-loop : tie.InvT-loop

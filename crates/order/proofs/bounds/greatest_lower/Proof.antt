@@ -6,7 +6,7 @@ use borrow.Author.Needs.{needs}
 use borrow.Author.Tests.{le-leb}
 use denote.Ref.{now}
 use Rattle.order.specs.Bound.{converse, upper}
-use Rattle.order.specs.inner.Members.{holds, held}
+use Rattle.order.specs.inner.Members.{holds, rowHolds}
 use Rattle.order.proofs.Bound.{least-cut}
 use Rattle.order.proofs.bounds.greatest_lower.Statement.{statement}
 use Rattle.order.proofs.bounds.greatest_lower.Tie as tie
@@ -14,7 +14,7 @@ use Rattle.order.proofs.bounds.greatest_lower.Tie as tie
 returns : tie.Need-returns
 returns c =
     let a = c .before .before .args in
-    let order = converse (held (now (a .t))) in
+    let order = converse (rowHolds (now (a .t))) in
     let bounds = c .before .lower-bounds in
     c .greatest .ensures
     ∙ least-cut 32 32 order (λ x. holds (a .all) x && upper 32 order (holds (a .s)) x) (holds (bounds .result)) (omega arith) (λ x w.

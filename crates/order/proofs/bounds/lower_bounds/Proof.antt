@@ -17,8 +17,8 @@ use Rattle.search.specs.Search.{every, implies, Among}
 use Rattle.search.proofs.Found.{every-agree, every-in, every-with}
 use Rattle.roleset.proofs.Bits.{bit-and, bit-zero}
 use Rattle.order.specs.Bound.{upper}
-use Rattle.order.specs.inner.Members.{holds, held}
-use Rattle.order.proofs.Left.{Left, all-left, lowest-within, lowest-left, still, fewer, still-left}
+use Rattle.order.specs.inner.Members.{holds, rowHolds}
+use Rattle.order.proofs.Left.{Left, all-left, lowest, dropped, lowest-within, lowest-left, still, fewer, still-left}
 use Rattle.order.proofs.bounds.lower_bounds.Statement.{statement}
 use Rattle.order.proofs.bounds.lower_bounds.Tie as tie
 
@@ -28,10 +28,10 @@ Taken s rest x = holds s x && not (holds rest x)
 
 -- c is under each of s that has
 abbrev Under : List ℕ → ℕ → ℕ → ℕ → Bool
-Under t s rest c = every 32 (λ x. implies (Taken s rest x) (held t x c))
+Under t s rest c = every 32 (λ x. implies (Taken s rest x) (rowHolds t x c))
 
 none-taken : (t : List ℕ) (s c : ℕ) → Under t s s c ≡ true
-none-taken t s c = every-in 32 (Taken s s) (λ x. held t x c) .1 (λ x w h. absurd (never (holds s x) h))
+none-taken t s c = every-in 32 (Taken s s) (λ x. rowHolds t x c) .1 (λ x w h. absurd (never (holds s x) h))
   where
     never : (a : Bool) → (a && not a) ≡ true → ⊥
     never true h = false≢true h
@@ -39,29 +39,23 @@ none-taken t s c = every-in 32 (Taken s s) (λ x. held t x c) .1 (λ x w h. absu
 
 -- the turn of the lowest that is left
 module _ {s rest : ℕ} (left : Left s rest) (some : rest ≡ 0 → ⊥) where
-  abbrev lowest : ℕ
-  lowest = trailingZeros 32 rest
-
-  abbrev dropped : ℕ
-  dropped = bitAnd rest (rest - 1)
-
-  taken : (x : ℕ) → Among 32 x → Taken s dropped x ≡ (Taken s rest x || eqb x (lowest + 1))
-  taken x w = elim (ℕ-discrete x (lowest + 1)) [
+  taken : (x : ℕ) → Among 32 x → Taken s (dropped rest) x ≡ (Taken s rest x || eqb x (lowest rest + 1))
+  taken x w = elim (ℕ-discrete x (lowest rest + 1)) [
     | yes q ↦
-        let place : x - 1 ≡ lowest = omega arith in
+        let place : x - 1 ≡ (lowest rest) = omega arith in
         let set : holds rest x ≡ true = rw q (lowest-left left some) in
-        rw (still left some x, set, left .of x w set, eq-eqb (x - 1) lowest place, eq-eqb x (lowest + 1) q)
+        rw (still left some x, set, left .of x w set, eq-eqb (x - 1) (lowest rest) place, eq-eqb x (lowest rest + 1) q)
     | no q ↦
-        rw (still left some x, ne-eqb (x - 1) lowest (λ e. q (omega arith)), ne-eqb x (lowest + 1) q, and-true (holds rest x))
+        rw (still left some x, ne-eqb (x - 1) (lowest rest) (λ e. q (omega arith)), ne-eqb x (lowest rest + 1) q, and-true (holds rest x))
         (sym (or-false (Taken s rest x)))
   ]
 
-  under-more : (t : List ℕ) (c r : ℕ) (all : Bool) → holds r c ≡ (all && Under t s rest c) → holds (bitAnd r (getD t lowest 0)) c ≡ (all && Under t s dropped c)
+  under-more : (t : List ℕ) (c r : ℕ) (all : Bool) → holds r c ≡ (all && Under t s rest c) → holds (bitAnd r (getD t (lowest rest) 0)) c ≡ (all && Under t s (dropped rest) c)
   under-more t c r all e =
       let low = lowest-within left some in
-      bit-and r (getD t lowest 0) (c - 1)
-      ∙ rw (e, every-with 32 (Taken s rest) (Taken s dropped) (λ x. held t x c) (lowest + 1) (omega arith) taken, add-sub-cancel lowest 1)
-      (and-assoc all (Under t s rest c) (holds (getD t lowest 0) c))
+      bit-and r (getD t (lowest rest) 0) (c - 1)
+      ∙ rw (e, every-with 32 (Taken s rest) (Taken s (dropped rest)) (λ x. rowHolds t x c) (lowest rest + 1) (omega arith) taken, add-sub-cancel (lowest rest) 1)
+      (and-assoc all (Under t s rest c) (holds (getD t (lowest rest) 0) c))
 
 abbrev Inv-loop : tie.InvT-loop
 Inv-loop t all s r₀ rest₀ r rest = Left s rest × ((c : ℕ) → Among 32 c → holds r c ≡ (holds all c && Under t s rest c))
@@ -88,7 +82,7 @@ returns c x v =
     let none : w .rest ≡ 0 = omega arith in
     w .inv .1 x v
     ∙ ap (λ (b : Bool). holds (a .all) x && b)
-    (every-agree (λ y. implies (Taken (a .s) (w .rest) y) (held (now (a .t)) y x)) (λ y. implies (holds (a .s) y) (held (now (a .t)) y x)) 32
+    (every-agree (λ y. implies (Taken (a .s) (w .rest) y) (rowHolds (now (a .t)) y x)) (λ y. implies (holds (a .s) y) (rowHolds (now (a .t)) y x)) 32
     (λ y u. rw (none, bit-zero (y - 1), and-true (holds (a .s) y))))
 
 pub lower-bounds-spec : {M : Type 1} → statement M

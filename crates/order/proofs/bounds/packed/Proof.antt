@@ -5,13 +5,12 @@ use mathlib.Core.Bool.{_&&_}
 use native.Mathlib.Nat.{add-sub-cancel}
 use native.Mathlib.Omega.{arith}
 use borrow.Author.Needs.{needs}
-use borrow.Author.Tests.{le-leb, lt-leb}
+use borrow.Author.Tests.{le-leb}
 use lib.Dec.{leb}
 use Rattle.search.specs.Search.{Among}
-use Rattle.roleset.proofs.Bits.{bit-zero}
 use Rattle.order.specs.Table.{marks}
 use Rattle.order.specs.inner.Members.{holds}
-use Rattle.order.proofs.Stored.{put-more}
+use Rattle.order.proofs.Stored.{put-none, put-more}
 use Rattle.order.proofs.bounds.packed.Statement.{statement}
 use Rattle.order.proofs.bounds.packed.Tie as tie
 
@@ -36,7 +35,7 @@ packed-spec =
     (tie.spec
     Inv-loop
     μ-loop
-    (λ c. (search needs, λ b v. rw (lt-leb b 0 (omega arith)) (bit-zero (b - 1))))
+    (λ c. (search needs, λ b v. put-none b _ (v .0)))
     (λ c. search needs)
     (λ c κs. search needs)
     (λ c. search needs)

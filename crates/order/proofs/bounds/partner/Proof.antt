@@ -15,14 +15,14 @@ use Rattle.search.specs.Search.{first, Among}
 use Rattle.search.proofs.Found.{first-none, first-found, first-more, first-vain}
 use Rattle.roleset.proofs.Bits.{bit-and}
 use Rattle.order.specs.Bound.{converse, pairWithoutBound, partnerWithoutBound, lub, leastOf, pair, upper}
-use Rattle.order.specs.inner.Members.{holds, held}
+use Rattle.order.specs.inner.Members.{holds, rowHolds}
 use Rattle.order.proofs.Bound.{least-cut, upper-pair}
 use Rattle.order.proofs.bounds.partner.Statement.{statement}
 use Rattle.order.proofs.bounds.partner.Tie as tie
 
 module _ (up : List ℕ) (m i : ℕ) where
   abbrev lone : ℕ → Bool
-  lone = pairWithoutBound m (converse (held up)) (i + 1)
+  lone = pairWithoutBound m (converse (rowHolds up)) (i + 1)
 
   -- no thing up to i + 1 comes after it
   none-before : first (i + 1) lone ≡ 0
@@ -31,10 +31,10 @@ module _ (up : List ℕ) (m i : ℕ) where
 
   -- what the test of a turn tells, with the set of the first m things
   tells : (all j : ℕ) → m ≤ 32 → i < j → j < m → ((a : ℕ) → Among 32 a → holds all a ≡ leb a m)
-      → eqb (leastOf 32 (converse (held up)) (holds (bitAnd (bitAnd all (getD up i 0)) (getD up j 0)))) 0 ≡ lone (j + 1)
+      → eqb (leastOf 32 (converse (rowHolds up)) (holds (bitAnd (bitAnd all (getD up i 0)) (getD up j 0)))) 0 ≡ lone (j + 1)
   unfolding pairWithoutBound lub
   tells all j l v w h =
-      let order = converse (held up) in
+      let order = converse (rowHolds up) in
       let over = getD up i 0 in
       let other = getD up j 0 in
       rw (

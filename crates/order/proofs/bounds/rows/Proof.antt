@@ -9,14 +9,14 @@ use borrow.Author.Tests.{le-leb, lt-leb}
 use lib.ListN.{length, getD-replicate}
 use Rattle.roleset.proofs.Bits.{bit-zero}
 use Rattle.order.specs.Table.{mark, Rows}
-use Rattle.order.specs.inner.Members.{holds, held}
+use Rattle.order.specs.inner.Members.{holds, rowHolds}
 use Rattle.order.proofs.Closure.{rows-none, rows-more}
 use Rattle.order.proofs.Stored.{set-row}
 use Rattle.order.proofs.bounds.rows.Statement.{statement}
 use Rattle.order.proofs.bounds.rows.Tie as tie
 
 abbrev Inv-loop : tie.InvT-loop
-Inv-loop t n m r₀ i₀ r i = (m ≤ 32) × (i ≤ m) × (length r ≡ 32) × Rows 32 i (mark t) (held r₀) (held r)
+Inv-loop t n m r₀ i₀ r i = (m ≤ 32) × (i ≤ m) × (length r ≡ 32) × Rows 32 i (mark t) (rowHolds r₀) (rowHolds r)
 
 abbrev μ-loop : tie.MeasureT-loop
 μ-loop t n m r₀ i₀ r i = m - i

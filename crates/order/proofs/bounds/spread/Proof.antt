@@ -10,17 +10,17 @@ use lib.Dec.{eqb}
 use lib.ListN.{length}
 use Rattle.order.specs.Closure.{Relation}
 use Rattle.order.specs.Table.{marks, Rows}
-use Rattle.order.specs.inner.Members.{holds, held}
+use Rattle.order.specs.inner.Members.{holds, rowHolds}
 use Rattle.order.proofs.Closure.{rows-none, rows-more}
 use Rattle.order.proofs.Stored.{set-row}
 use Rattle.order.proofs.bounds.spread.Statement.{statement}
 use Rattle.order.proofs.bounds.spread.Tie as tie
 
 abbrev wider : List ℕ → List Bool → ℕ → Relation
-wider t row i a b = held t a b || (marks row a && eqb (i + 1) b)
+wider t row i a b = rowHolds t a b || (marks row a && eqb (i + 1) b)
 
 abbrev Inv-loop : tie.InvT-loop
-Inv-loop i t row r₀ j₀ r j = (j ≤ 32) × (length r ≡ 32) × Rows 32 j (wider t row i) (held r₀) (held r)
+Inv-loop i t row r₀ j₀ r j = (j ≤ 32) × (length r ≡ 32) × Rows 32 j (wider t row i) (rowHolds r₀) (rowHolds r)
 
 abbrev μ-loop : tie.MeasureT-loop
 μ-loop i t row r₀ j₀ r j = 32 - j

@@ -8,7 +8,7 @@ use denote.Ref.{now}
 use lib.ListN.{length}
 use Rattle.order.specs.Bound.{converse}
 use Rattle.order.specs.Table.{mark}
-use Rattle.order.specs.inner.Members.{held}
+use Rattle.order.specs.inner.Members.{rowHolds}
 use Rattle.rolefile.specs.declared.Line.{Line}
 use Rattle.rolefile.specs.Line.{lines}
 use Rattle.rolefile.specs.Form.{linesVerdict, unlabelledVerdict}
@@ -116,10 +116,10 @@ module _ (c : tie.After-columns) where
   abbrev order : tie.After-check-labels
   order = ordered (ranked unrefused)
 
-  lower : Closed (file (laid (noted order))) (held (c .before .before .rows .result))
+  lower : Closed (file (laid (noted order))) (rowHolds (c .before .before .rows .result))
   lower = closed-rows _ (mark (order .before .reflected .result)) _ (closed order) (rw (head-is (laid (noted order))) at (c .before .before .rows .ensures))
 
-  upper : Closed (file (laid (noted order))) (converse (held (c .columns .result)))
+  upper : Closed (file (laid (noted order))) (converse (rowHolds (c .columns .result)))
   upper =
       closed-rows _ (mark (order .before .reflected .result)) _ (closed order)
       (λ a b v w. rw (head-is (laid (noted order))) at (c .columns .ensures b a w v))

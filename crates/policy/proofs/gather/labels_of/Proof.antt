@@ -4,13 +4,12 @@ use mathlib.Core.Path.{_≡_, _∙_}
 use mathlib.Core.Bool.{_&&_}
 use native.Mathlib.Omega.{arith}
 use borrow.Author.Needs.{needs}
-use borrow.Author.Tests.{le-leb, lt-leb}
+use borrow.Author.Tests.{le-leb}
 use denote.Ref.{now}
 use lib.Dec.{leb}
 use Rattle.search.specs.Search.{Among}
-use Rattle.roleset.proofs.Bits.{bit-zero}
 use Rattle.order.proofs.Placing.{row-tested}
-use Rattle.order.proofs.Stored.{put-more}
+use Rattle.order.proofs.Stored.{put-none, put-more}
 use Rattle.order.specs.Table.{related}
 use Rattle.order.specs.inner.Members.{holds}
 use Rattle.policy.proofs.gather.labels_of.Statement.{statement}
@@ -45,7 +44,7 @@ labels-of-spec =
     (tie.spec
     Inv-loop
     μ-loop
-    (λ c. (search needs, λ l v. rw (lt-leb l 0 (omega arith)) (bit-zero (l - 1))))
+    (λ c. (search needs, λ l v. put-none l _ (v .0)))
     (λ c. search needs)
     (λ c. search needs)
     (λ c. search needs)

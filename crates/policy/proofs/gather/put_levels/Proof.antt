@@ -9,7 +9,7 @@ use lib.ListN.{length, length-set}
 use Rattle.search.specs.Search.{Among}
 use Rattle.order.specs.Bound.{converse}
 use Rattle.order.specs.Table.{related}
-use Rattle.order.specs.inner.Members.{holds, held}
+use Rattle.order.specs.inner.Members.{holds, rowHolds}
 use Rattle.policy.specs.Policy.{level, levelNumber}
 use Rattle.policy.specs.Tables.{rLevelsAt}
 use Rattle.policy.specs.inner.Filling.{byMode, gatheredAt, LevelBytes}
@@ -18,26 +18,18 @@ use Rattle.policy.proofs.gather.put_levels.Statement.{statement}
 use Rattle.policy.proofs.gather.put_levels.Tie as tie
 
 abbrev Inv-loop : tie.InvT-loop
-Inv-loop s₀ g under over n roles all i₀ s i =
+Inv-loop s₀ g under over n roles i₀ s i =
     (i ≤ roles) × (length s ≡ length s₀)
-    × LevelBytes i (λ d r. levelNumber (level n (converse (held (byMode over under d))) (λ l. related g (gatheredAt d) l r))) s₀ s
+    × LevelBytes i (λ d r. levelNumber (level n (converse (rowHolds (byMode over under d))) (λ l. related g (gatheredAt d) l r))) s₀ s
 
 abbrev μ-loop : tie.MeasureT-loop
-μ-loop s₀ g under over n roles all i₀ s i = roles - i
+μ-loop s₀ g under over n roles i₀ s i = roles - i
 
 -- the level of the set that was read off is that of the rows
-bounded : (g t : List ℕ) (set n at i : ℕ) {b : ℕ} → b ≡ levelNumber (level n (converse (held t)) (holds set)) → n ≤ 32
-    → ((l : ℕ) → Among 32 l → holds set l ≡ related g at l (i + 1)) → b ≡ levelNumber (level n (converse (held t)) (λ l. related g at l (i + 1)))
+bounded : (g t : List ℕ) (set n at i : ℕ) {b : ℕ} → b ≡ levelNumber (level n (converse (rowHolds t)) (holds set)) → n ≤ 32
+    → ((l : ℕ) → Among 32 l → holds set l ≡ related g at l (i + 1)) → b ≡ levelNumber (level n (converse (rowHolds t)) (λ l. related g at l (i + 1)))
 bounded g t set n at i e few read =
-    e ∙ ap levelNumber (level-agree n (converse (held t)) _ _ _ (λ a b v w. refl) (λ l v. read l (omega arith)))
-
-level-of-requires : tie.Need-level-of-requires Inv-loop μ-loop
-level-of-requires c κs =
-    (search needs, c .before .before .before .first-things .ensures)
-
-level-of-requires-2 : tie.Need-level-of-requires-2 Inv-loop μ-loop
-level-of-requires-2 c κs =
-    (search needs, c .before .before .before .before .before .first-things .ensures)
+    e ∙ ap levelNumber (level-agree n (converse (rowHolds t)) _ _ _ (λ a b v w. refl) (λ l v. read l (omega arith)))
 
 -- the first store leaves the state as long as it was
 second-fits : tie.Need-slice-write-s-2 Inv-loop μ-loop
@@ -52,7 +44,7 @@ loop-again c =
     let reading = written .before in
     let read = reading .before in
     let w = read .before .before .loop in
-    let start = read .before .before .before .before .before in
+    let start = read .before .before .before .before in
     let a = start .args in
     let (long, few, roles) = start .pre in (
       search needs,
@@ -65,7 +57,7 @@ loop-again c =
 returns : tie.Need-returns Inv-loop μ-loop
 returns c =
     let w = c .before .loop in
-    let all : w .i ≡ c .before .before .before .before .args .roles = omega arith in
+    let all : w .i ≡ c .before .before .before .args .roles = omega arith in
     rw all at (w .inv .2)
 
 pub put-levels-spec : {M : Type 1} → statement M
@@ -74,16 +66,15 @@ put-levels-spec =
     (tie.spec
     Inv-loop
     μ-loop
-    (λ c κs. search needs)
     (λ c. (search needs, search needs, levels-none))
     (λ c. search needs)
     (λ c κs. search needs)
-    level-of-requires
+    (λ c κs. search needs)
     (λ c. search needs)
     (λ c. search needs)
     (λ c. search needs)
     (λ c κs. search needs)
-    level-of-requires-2
+    (λ c κs. search needs)
     (λ c. search needs)
     second-fits
     (λ c. search needs)

@@ -3,18 +3,18 @@ use mathlib.Core.Path.{sym, _∙_}
 use native.Mathlib.Omega.{arith}
 use borrow.Author.Needs.{needs}
 use Rattle.search.proofs.Truth.{passed}
-use Rattle.rolefile.proofs.Decimals.{UpToNine, up-to-nine-iff, one-digit, two-digits, three-digits}
+use Rattle.rolefile.proofs.Decimals.{DigitFrom, digit-from-iff, one-digit, two-digits, three-digits}
 use Rattle.rolefile.proofs.read.last_three.Statement.{statement}
 use Rattle.rolefile.proofs.read.last_three.Tie as tie
 
-two : (c : tie.Then4) → UpToNine 49 (c .before .before .before .before .args .y)
-two c = up-to-nine-iff 49 _ .0 (sym (c .before .up-to-nine .ensures) ∙ c .if4 .taken)
+two : (c : tie.Then4) → DigitFrom 49 (c .before .before .before .before .args .y)
+two c = digit-from-iff 49 _ .0 (sym (c .before .digit-from .ensures) ∙ c .if4 .taken)
 
-three : (c : tie.Else6) → let a = c .before .before .before .before .before .before .args in UpToNine 49 (a .x) × UpToNine 48 (a .y)
+three : (c : tie.Else6) → let a = c .before .before .before .before .before .before .args in DigitFrom 49 (a .x) × DigitFrom 48 (a .y)
 three c =
     let t = c .before .before in (
-      up-to-nine-iff 49 _ .0 (passed (t .before .up-to-nine2 .ensures) (t .if5 .left)),
-      up-to-nine-iff 48 _ .0 (passed (c .before .up-to-nine3 .ensures) (c .if6 .left)),
+      digit-from-iff 49 _ .0 (passed (t .before .digit-from2 .ensures) (t .if5 .left)),
+      digit-from-iff 48 _ .0 (passed (c .before .digit-from3 .ensures) (c .if6 .left)),
     )
 
 returns : tie.Need-returns
