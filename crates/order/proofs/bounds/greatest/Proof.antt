@@ -9,7 +9,6 @@ use native.Mathlib.Decide.{ℕ-discrete}
 use borrow.Author.Needs.{needs}
 use borrow.Author.Tests.{ne-eqb}
 use denote.Ref.{now}
-use lib.Bits.{bitAnd}
 use lib.Count.{trailingZeros}
 use lib.ListN.{getD}
 use Rattle.search.specs.Search.{Among, first, every, implies}
