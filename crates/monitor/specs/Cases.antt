@@ -3,7 +3,7 @@
 use Prim.Native.Nat.{ℕ, _*_}
 use Prim.Native.String.{String}
 use mathlib.Core.List.{List, [], _∷_, _++_, map}
-use mathlib.Core.Bool.{Bool, false}
+use mathlib.Core.Bool.{Bool, true, false}
 use mathlib.Core.Option.{Option, none, some, Option·map}
 use Rattle.rolefile.specs.declared.Verdict.{Verdict}
 use Rattle.rolefile.specs.Ascii.{ascii}
@@ -213,6 +213,23 @@ cases =
         flows = [];
         calls = (opens 1 1 2, 0) ∷ (takes 1 1, 0) ∷ (opens 2 1 3, 0) ∷ (takes 2 1, 28) ∷ (opens 3 1 1, 0) ∷ (takes 3 1, 28) ∷ [];
       };
+    }
+    ∷ record {
+      -- roles 2 and 3 "write one card" and "form a circle of two"; role 1, which writes another card alone, does not flow to itself (document 02, change 9)
+      file =
+          "H    1    3    0    2"
+          ∷ "O    1    1          "
+          ∷ "O    2    1          "
+          ∷ "P    1    2    2     "
+          ∷ "P    2    1    2     "
+          ∷ "P    3    1    2     "
+          ∷ [];
+      expected = record { verdict = fine; rows = []; circle = some 2; flows = (1, 1, false) ∷ (1, 2, false) ∷ (2, 3, true) ∷ (3, 2, true) ∷ (3, 3, false) ∷ []; calls = [] };
+    }
+    ∷ record {
+      -- role 2 has by seniority what role 1 writes, so the two share it
+      file = "H    1    2    0    1" ∷ "S    2    1          " ∷ "O    1    1          " ∷ "P    1    1    2     " ∷ [];
+      expected = record { verdict = fine; rows = []; circle = some 1; flows = (1, 2, true) ∷ (2, 1, true) ∷ []; calls = [] };
     }
     ∷ record {
       -- "D 1 1 in front: 11 at [1, 0]"

@@ -19,7 +19,7 @@ use Rattle.order.specs.Table.{related, Tabled}
 use Rattle.order.proofs.Closure.{circle-agree, loop-circle}
 use Rattle.order.proofs.Placing.{placing-more, placing-pass, placing-left}
 use Rattle.policy.specs.Tables.{readersAt, writersAt, stateSize, isState, flowsByCard, flowing}
-use Rattle.policy.specs.inner.Filling.{pastCard, withoutLoops}
+use Rattle.policy.specs.inner.Filling.{InEither, pastCard, withoutLoops}
 
 -- ---- whether a slice is a state
 
@@ -60,6 +60,13 @@ pub next-taken : (xs row : List ℕ) (at i : ℕ) {w : ℕ} → at + 16 ≤ leng
     → RowCopy xs at row → w ≡ cond (whole row 0) (nextMember row 0 i) 0 → w ≡ nextMember xs at i
 next-taken xs row at i l m same e =
     e ∙ rw (whole-true row 0 m) (first-agree (memberAfter row 0 i) (memberAfter xs at i) 128 (λ r w. rw (row-copy xs row at l same r)))
+
+-- the readers of card o + 1, and the writers put into their row
+pub either-row : (xs readers writers row : List ℕ) (o : ℕ) → o < 512 → 28688 ≤ length xs → 16 ≤ length readers
+    → RowCopy xs (readersAt + 16 * o) readers → RowCopy xs (writersAt + 16 * o) writers → Placed 0 (united readers 0 writers) readers row → InEither xs (o + 1) row
+either-row xs readers writers row o l fits long read write placed q =
+    placed .row long q
+    ∙ rw (add-sub-cancel o 1, row-copy xs readers (readersAt + 16 * o) (omega arith) read q, row-copy xs writers (writersAt + 16 * o) (omega arith) write q)
 
 -- card o + 1 is passed from one writer to the next: i is the last that has had its turn, and w the next one, or 0
 pub record Turn (t u xs : List ℕ) (o i w : ℕ) : Type 0 where
@@ -103,9 +110,9 @@ module _ {t u xs : List ℕ} {o i w : ℕ} (turn : Turn t u xs o i w) where
     pub writer-ahead : i < w
     writer-ahead = leb-false w i (not-true (leb w i) (and-iff (not (leb w i)) (Writes w) .0 (lowest .holds) .0))
 
-    pub writer-more : {v : List ℕ} (readers : List ℕ) → Placed (16 * (w - 1)) (united u (16 * (w - 1)) readers) u v
-        → RowCopy xs (readersAt + 16 * o) readers → Tabled 0 w Past t v
-    writer-more {v} readers placed read =
+    pub writer-more : {v : List ℕ} (others : List ℕ) → Placed (16 * (w - 1)) (united u (16 * (w - 1)) others) u v
+        → InEither xs (o + 1) others → Tabled 0 w Past t v
+    writer-more {v} others placed either =
         let ahead = writer-ahead in
         let within = writer-within in
         let last : w - 1 + 1 ≡ w = omega arith in
@@ -115,16 +122,16 @@ module _ {t u xs : List ℕ} {o i w : ℕ} (turn : Turn t u xs o i w) where
         rw (
           row-left Past t u (w - 1) (turn .long) (turn .same) (omega arith) passed q z,
           last,
+          either q,
           add-sub-cancel o 1,
           and-iff (not (leb w i)) (Writes w) .0 (lowest .holds) .1,
-          row-copy xs readers (readersAt + 16 * o) (omega arith) read q,
         )))
 
 pub loop-removed : (t u : List ℕ) (i q : ℕ) → 2048 ≤ length t → length u ≡ length t → i < 128 → Among 128 q → Tabled 0 i (withoutLoops t) t u
     → removed u (16 * i) (i + 1) q ≡ withoutLoops t (i + 1) q
 loop-removed t u i q long same l w done = rw (row-left (withoutLoops t) t u i long same l done q w)
 
--- a table that says which role may write one of the first m cards that which role may read
+-- a table that says which role may write one of the first m cards that which role may read or write
 module _ (xs t : List ℕ) (m : ℕ) (said : Agree 128 128 (related t 0) (λ r q. some m (flowsByCard xs r q))) where
   -- has the flow among the first m cards, once no role is related to itself
   pub without-loops-flows : Agree 128 128 (withoutLoops t) (flowing xs m)

@@ -36,7 +36,7 @@ module _ (n : ℕ) (ge : Relation) (o : PartialOrder n ge) (s t : ℕ → Bool) 
 module _ (σ : Settings) (lawful : Lawful σ) where
   module _ (q r : ℕ) (senior : Among (σ .roles) q) (junior : Among (σ .roles) r) (over : σ .senior q r ≡ true) where
     -- what a junior may do, its senior may
-    junior-may : (m o : ℕ) → may σ m r o ≡ true → may σ m q o ≡ true
+    pub junior-may : (m o : ℕ) → may σ m r o ≡ true → may σ m q o ≡ true
     unfolding may
     junior-may m o h =
         let (p, w, a, b) = some-both (σ .senior r) (λ p. σ .permits m p o) (σ .roles) .0 h in

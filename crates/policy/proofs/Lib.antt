@@ -21,5 +21,6 @@ pub mod Flowing
 pub mod Builds
 pub mod Loads
 pub mod Meaning
+pub mod Sharing
 pub mod Settled
 pub mod Same

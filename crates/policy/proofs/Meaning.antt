@@ -3,7 +3,7 @@ use Prim.Native.Nat.{ℕ, _≤_}
 use mathlib.Core.Path.{_≡_, refl, ap}
 use mathlib.Core.Logic.{_↔_, _⊎_}
 use mathlib.Core.List.{List}
-use mathlib.Core.Bool.{Bool, false, not, _&&_}
+use mathlib.Core.Bool.{Bool, false, not, _&&_, _||_}
 use native.Mathlib.Omega.{arith}
 use lib.Dec.{eqb}
 use lib.ListN.{length}
@@ -47,10 +47,10 @@ module _ (σ : Settings) (bounded : Bounded σ) where
     flowing-by : Agree 128 128 (flowing xs (cardsUpTo xs)) (flows σ)
     unfolding flowing flows
     flowing-by r q v w = rw cards-by (ap (λ (b : Bool). not (eqb r q) && b)
-        (some-agree (flowsByCard xs r q) (λ o. may σ 2 r o && may σ 1 q o) (σ .cards)
+        (some-agree (flowsByCard xs r q) (λ o. may σ 2 r o && (may σ 1 q o || may σ 2 q o)) (σ .cards)
         (λ o i.
         let j = card-few o i in
-        rw (tables .permitting .writers o r j v, tables .permitting .readers o q j w))))
+        rw (tables .permitting .writers o r j v, tables .permitting .readers o q j w, tables .permitting .writers o q j w))))
 
     -- as a whole state tells it
     module _ (long : stateSize ≤ length xs) where

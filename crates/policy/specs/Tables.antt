@@ -77,9 +77,9 @@ marked xs a b = among 32 a && (among 32 b && eqb (getD xs (markAt a b) 0) 1)
 
 -- ---- role flow by the rows of the first n cards
 
--- r may write card o, and q may read it
+-- r may write card o, and q may read or write it
 abbrev pub flowsByCard : List ℕ → ℕ → ℕ → ℕ → Bool
-flowsByCard xs r q o = member xs (rowOf writersAt o) r && member xs (rowOf readersAt o) q
+flowsByCard xs r q o = member xs (rowOf writersAt o) r && (member xs (rowOf readersAt o) q || member xs (rowOf writersAt o) q)
 
 unfoldable pub flowing : List ℕ → ℕ → Relation
 flowing xs n r q = not (eqb r q) && some n (flowsByCard xs r q)

@@ -12,7 +12,7 @@ ghost use Rattle.search.specs.Search.{some};
 ghost use Rattle.order.specs.Closure.{Agree};
 ghost use Rattle.order.specs.Table.{related, Tabled};
 ghost use Rattle.policy.specs.Tables.{rLevelsAt, wLevelsAt, writersAt, stateSize, flowsByCard, countIn, roleCount, levelIn, flowsIn, circleIn};
-ghost use Rattle.policy.specs.inner.Filling.{pastCard, withoutLoops};
+ghost use Rattle.policy.specs.inner.Filling.{InEither, pastCard, withoutLoops};
 
 // The count at `at` in the state, `most` where it is higher.
 fn count(s: &[u8], at: u16, most: usize) -> usize
@@ -59,13 +59,14 @@ pub fn w_level(s: &[u8], role: usize) -> u8
     level(s, layout::W_LEVELS_AT, role)
 }
 
-// Whether role `from` may write card o + 1 and role `to` may read it.
+// Whether role `from` may write card o + 1 and role `to` may read or write it.
 fn flows_by_card(s: &[u8], o: usize, from: usize, to: usize) -> bool
     requires { ⌜ (writersAt + 16 * 512 ≤ length (now s)) × (o < 512) ⌝ }
     ensures { λ r. ⌜ r ≡ flowsByCard (now (s .entry)) from to (o + 1) ⌝ }
 {
-    roleset::has(s, layout::WRITERS_AT + ROW_BYTES * o, from)
-        & roleset::has(s, layout::READERS_AT + ROW_BYTES * o, to)
+    let reads = roleset::has(s, layout::READERS_AT + ROW_BYTES * o, to);
+    let writes = roleset::has(s, layout::WRITERS_AT + ROW_BYTES * o, to);
+    roleset::has(s, layout::WRITERS_AT + ROW_BYTES * o, from) & (reads | writes)
 }
 
 // Whether role `from` flows to role `to`.
@@ -89,25 +90,37 @@ pub fn flows(s: &[u8], from: usize, to: usize) -> bool
     false
 }
 
-// Relates each role that may write card o + 1 to each role that may read it.
+// The roles that may read or write card o + 1.
+fn readers_or_writers(s: &[u8], o: usize) -> [u8; ROW_BYTES]
+    requires { ⌜ (writersAt + 16 * 512 ≤ length (now s)) × (o < 512) ⌝ }
+    ensures { λ row. ⌜ InEither (now (s .entry)) (o + 1) row ⌝ }
+{
+    let writers = roleset::row(s, layout::WRITERS_AT + ROW_BYTES * o);
+    let mut either = roleset::row(s, layout::READERS_AT + ROW_BYTES * o);
+    roleset::unite(&mut either, 0, writers);
+    either
+}
+
+// Relates each role that may write card o + 1 to each role that may read or write it.
 fn flow_past(t: &mut [u8], s: &[u8], o: usize)
     requires { ⌜ (2048 ≤ length (now t)) × (writersAt + 16 * 512 ≤ length (now s)) × (o < 512) ⌝ }
     ensures { λ _. ⌜ Tabled 0 128 (pastCard (now (t .entry)) (now (s .entry)) (o + 1)) (now (t .entry)) (now (t .exit)) ⌝ }
 {
     let writers = roleset::row(s, layout::WRITERS_AT + ROW_BYTES * o);
-    let readers = roleset::row(s, layout::READERS_AT + ROW_BYTES * o);
+    let either = readers_or_writers(s, o);
     let mut i = 0;
     while i < layout::ROLES {
         let writer = roleset::next(&writers, 0, i);
         if writer == 0 {
             return;
         }
-        roleset::unite(t, ROW_BYTES * (writer - 1), readers);
+        roleset::unite(t, ROW_BYTES * (writer - 1), either);
         i = writer;
     }
 }
 
-// Relates each role that may write one of the first n cards to each role that may read that card.
+// Relates each role that may write one of the first n cards to each role that may read or write
+// that card.
 fn flow_table(s: &[u8], n: usize) -> [u8; TABLE_BYTES]
     requires { ⌜ (writersAt + 16 * 512 ≤ length (now s)) × (n ≤ 512) ⌝ }
     ensures { λ t. ⌜ Agree 128 128 (related t 0) (λ r q. some n (flowsByCard (now (s .entry)) r q)) ⌝ }

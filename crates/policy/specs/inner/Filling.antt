@@ -108,6 +108,10 @@ pub record DominanceRows (i : ℕ) (t : List (List Bool)) (xs ys : List ℕ) : T
 
 -- ---- role flow, card by card
 
+-- the row has the roles that may read or write card o
+abbrev pub InEither : List ℕ → ℕ → List ℕ → Type 0
+InEither xs o row = (q : ℕ) → member row 0 q ≡ (related xs readersAt o q || related xs writersAt o q)
+
 -- what the table of role sets t says once card o is passed
 abbrev pub pastCard : List ℕ → List ℕ → ℕ → Relation
 pastCard t xs o r q = related t 0 r q || flowsByCard xs r q o

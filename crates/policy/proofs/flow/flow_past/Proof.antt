@@ -1,4 +1,4 @@
--- Each turn gives the next writer's row the readers, and the rows before it are no writer's; both sets were taken before the first.
+-- Each turn gives the next writer's row those who may read or write the card, and the rows before it are no writer's; both sets were taken before the first.
 use Prim.Native.Nat.{_+_, _*_, _≤_, _-_}
 use mathlib.Core.Path.{_≡_}
 use native.Mathlib.Omega.{arith}
@@ -14,10 +14,10 @@ use Rattle.policy.proofs.flow.flow_past.Statement.{statement}
 use Rattle.policy.proofs.flow.flow_past.Tie as tie
 
 abbrev Inv-loop : tie.InvT-loop
-Inv-loop t₀ s o writers readers i₀ t i = (i ≤ 128) × (length t ≡ length t₀) × Tabled 0 i (pastCard t₀ s (o + 1)) t₀ t
+Inv-loop t₀ s o writers either i₀ t i = (i ≤ 128) × (length t ≡ length t₀) × Tabled 0 i (pastCard t₀ s (o + 1)) t₀ t
 
 abbrev μ-loop : tie.MeasureT-loop
-μ-loop t₀ s o writers readers i₀ t i = 128 - i
+μ-loop t₀ s o writers either i₀ t i = 128 - i
 
 turn : (c : tie.After-next Inv-loop μ-loop)
     → let a = c .before .before .before .before .before .before .before .before .args in
@@ -53,7 +53,7 @@ loop-again c =
       writer-within (turn (next .before)),
       search needs,
       writer-more (turn (next .before)) (next .if1 .left) _ (c .before .before .unite .ensures)
-          (next .before .before .before .before .before .row2 .ensures),
+          (next .before .before .before .before .before .readers-or-writers .ensures),
     )
 
 returns-2 : tie.Need-returns-2 Inv-loop μ-loop
@@ -71,8 +71,6 @@ flow-past-spec =
     (λ c. search needs)
     (λ c. search needs)
     (λ c κs. search needs)
-    (λ c. search needs)
-    (λ c. search needs)
     (λ c κs. search needs)
     (λ c. (search needs, search needs, placing-none))
     (λ c. search needs)
