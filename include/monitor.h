@@ -102,9 +102,9 @@
 
 /* The version of this header, of the library and of the programs beside it. */
 #define MONITOR_VERSION_MAJOR 1
-#define MONITOR_VERSION_MINOR 1
-#define MONITOR_VERSION_PATCH 1
-#define MONITOR_VERSION "1.1.1"
+#define MONITOR_VERSION_MINOR 2
+#define MONITOR_VERSION_PATCH 0
+#define MONITOR_VERSION "1.2.0"
 
 /* Where the compiler can, it warns of an answer that is not looked at. */
 #if defined(__has_attribute)
@@ -345,8 +345,9 @@ struct monitor_figure monitor_can(const uint8_t *state, size_t state_len,
 
 /*
  * Role flow: figure 1 where the first role, itself or by a junior, may write a
- * card that the second, another role, may so read, else 0; never 1 for a role
- * and itself. Answers 21, 25 or 0.
+ * card that the second, another role, may so read or write, else 0; never 1
+ * for a role and itself. So two roles that may write one card flow to each
+ * other, and so do a role that may write and its senior. Answers 21, 25 or 0.
  */
 MONITOR_MUST_CHECK
 struct monitor_figure monitor_flows(const uint8_t *state, size_t state_len,
@@ -354,7 +355,8 @@ struct monitor_figure monitor_flows(const uint8_t *state, size_t state_len,
 
 /*
  * Role flow: the figure is the lowest role on a circle of two or more roles,
- * or 0 where there is none. Answers 21 or 0.
+ * or 0 where there is none. Two roles that may write one card are a circle.
+ * Answers 21 or 0.
  */
 MONITOR_MUST_CHECK
 struct monitor_figure monitor_circle(const uint8_t *state, size_t state_len);

@@ -430,6 +430,21 @@ static void role_flow(void)
     figure(monitor_flows(state, STATE_BYTES, 3, 2), 0, 1,
            "role 3 flows to role 2");
     figure(monitor_circle(state, STATE_BYTES), 0, 2, "a circle at role 2");
+    accepted("H    1    3    0    2\n"
+             "O    1    1          \n"
+             "O    2    1          \n"
+             "P    1    2    2     \n"
+             "P    2    1    2     \n"
+             "P    3    1    2     \n",
+             state, "two roles that write one card: accepted");
+    figure(monitor_flows(state, STATE_BYTES, 2, 3), 0, 1,
+           "role 2 flows to role 3, which writes that card too");
+    figure(monitor_flows(state, STATE_BYTES, 3, 2), 0, 1,
+           "and role 3 to role 2");
+    figure(monitor_flows(state, STATE_BYTES, 1, 1), 0, 0,
+           "role 1 writes alone and does not flow to itself");
+    figure(monitor_circle(state, STATE_BYTES), 0, 2,
+           "the two are a circle");
     free(state);
 }
 

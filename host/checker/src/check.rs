@@ -2,7 +2,7 @@
 //! by line 2 to 5 in that order within the line, then 6 (users before cards),
 //! 11, 12, 13, then assignments in file order, 14 to 16 within each."
 //! Number 7 is about a lent state and cannot arise here. What 16 means is from
-//! document 02, Change 1.
+//! document 02, Change 1, and shared writing as flow from its Change 9.
 
 use crate::line::{read_line, Letter, Line, LINE_LENGTH, MOST_BYTES};
 use crate::order::{lowest_on_circle, Order};
@@ -63,6 +63,8 @@ pub struct Accepted {
     pub flows: BTreeSet<(usize, usize)>,
     /// The lowest role on a circle of role flow.
     pub circle: Option<usize>,
+    /// The same of the flows by reading alone.
+    pub circle_by_reading: Option<usize>,
     /// Assignments of roles for low sessions alone: user, role.
     pub low: Vec<(usize, usize)>,
 }
@@ -258,15 +260,21 @@ fn judge(role_file: &RoleFile) -> Result<Accepted, Refusal> {
         }
     }
     let assignments = role_file.assignments.iter().copied();
-    let flows = meaning.flows();
-    let pairs: Vec<(usize, usize)> = flows.iter().copied().collect();
+    // "the lowest role on a circle of two or more roles, or 0"; no role flows
+    // to itself, so that every circle has two roles or more.
+    let circle_of = |flows: &BTreeSet<(usize, usize)>| {
+        let pairs: Vec<(usize, usize)> = flows.iter().copied().collect();
+        lowest_on_circle(counts.roles, &pairs)
+    };
+    let mut flows = meaning.flows_by_reading();
+    let circle_by_reading = circle_of(&flows);
+    flows.extend(meaning.flows_by_shared_writing());
     Ok(Accepted {
         roles: (1..=counts.roles)
             .map(|role| meaning.levels(role))
             .collect(),
-        // "the lowest role on a circle of two or more roles, or 0"; no role
-        // flows to itself, so that every circle has two roles or more.
-        circle: lowest_on_circle(counts.roles, &pairs),
+        circle: circle_of(&flows),
+        circle_by_reading,
         flows,
         low: assignments
             .filter(|&(user, role)| meaning.is_low(user, role))
@@ -416,17 +424,24 @@ impl Meaning {
 
     /// "Role r flows to another role q where a card that r may write is a
     /// card that q may read."
-    pub fn flows(&self) -> BTreeSet<(usize, usize)> {
-        let roles = self.may_read.len() - 1;
-        let mut flows = BTreeSet::new();
-        for from in 1..=roles {
-            for to in 1..=roles {
-                if from != to && !self.may_write[from].is_disjoint(&self.may_read[to]) {
-                    flows.insert((from, to));
-                }
-            }
-        }
-        flows
+    pub fn flows_by_reading(&self) -> BTreeSet<(usize, usize)> {
+        self.pairs(|from, to| !self.may_write[from].is_disjoint(&self.may_read[to]))
+    }
+
+    /// Document 02: "information passes between two roles also where both
+    /// update the same card".
+    pub fn flows_by_shared_writing(&self) -> BTreeSet<(usize, usize)> {
+        self.pairs(|from, to| !self.may_write[from].is_disjoint(&self.may_write[to]))
+    }
+
+    /// The pairs of two different roles of which this holds.
+    fn pairs(&self, holds: impl Fn(usize, usize) -> bool) -> BTreeSet<(usize, usize)> {
+        let roles = 1..self.may_read.len();
+        let all = roles
+            .clone()
+            .flat_map(|from| roles.clone().map(move |to| (from, to)));
+        all.filter(|&(from, to)| from != to && holds(from, to))
+            .collect()
     }
 }
 

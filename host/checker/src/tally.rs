@@ -35,6 +35,8 @@ pub struct Tally {
     with_low: usize,
     with_flow: usize,
     with_circle: usize,
+    /// With a lower role on a circle than by reading alone, or the only one.
+    with_shared_circle: usize,
     with_undefined: usize,
 }
 
@@ -52,6 +54,7 @@ impl Tally {
             self.with_low += usize::from(!accepted.low.is_empty());
             self.with_flow += usize::from(!accepted.flows.is_empty());
             self.with_circle += usize::from(accepted.circle.is_some());
+            self.with_shared_circle += usize::from(accepted.circle != accepted.circle_by_reading);
             self.with_undefined += usize::from(accepted.roles.iter().any(undefined));
         }
     }
@@ -68,6 +71,7 @@ impl Totals for Tally {
         self.with_low += other.with_low;
         self.with_flow += other.with_flow;
         self.with_circle += other.with_circle;
+        self.with_shared_circle += other.with_shared_circle;
         self.with_undefined += other.with_undefined;
     }
 
@@ -78,6 +82,9 @@ impl Totals for Tally {
             .collect();
         if self.with_low == 0 {
             unseen.push("a role for low sessions alone".to_string());
+        }
+        if self.with_shared_circle == 0 {
+            unseen.push("a circle that shared writing makes".to_string());
         }
         unseen
     }
@@ -96,11 +103,13 @@ impl Totals for Tally {
         }
         table.push_str(&format!(
             "\naccepted: {} with assignments, {} with a role for low sessions alone, \
-             {} with role flow, {} with a circle, {} with an undefined w-level",
+             {} with role flow, {} with a circle, {} of these with another lowest role by shared writing, \
+             {} with an undefined w-level",
             self.with_assignments,
             self.with_low,
             self.with_flow,
             self.with_circle,
+            self.with_shared_circle,
             self.with_undefined
         ));
         table

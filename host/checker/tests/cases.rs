@@ -607,7 +607,8 @@ fn a_juniors_write_bars_a_seniors_read() {
         A 1 2";
     refused(layers, 16, [1, 2]);
     let junior = layers.replace("A 1 2", "A 1 1");
-    printed(&junior, "V 0 0 0\nR 1 0 1\nR 2 2 1\nC 0");
+    // They share card 1 to write, and so flow to each other.
+    printed(&junior, "V 0 0 0\nR 1 0 1\nR 2 2 1\nF 1 2\nF 2 1\nC 1");
 }
 
 #[test]
@@ -629,7 +630,10 @@ fn levels_through_layers_of_juniors() {
     refused(&format!("{text}A 2 3"), 15, [2, 3]);
     // A junior's write counts for its seniors too.
     let writing = format!("{layers}P 1 1 2\nP 3 2 2\n");
-    printed(&writing, "V 0 0 0\nR 1 0 1\nR 2 0 1\nR 3 0 99\nC 0");
+    printed(
+        &writing,
+        "V 0 0 0\nR 1 0 1\nR 2 0 1\nR 3 0 99\nF 1 2\nF 1 3\nF 2 1\nF 2 3\nF 3 1\nF 3 2\nC 1",
+    );
     refused(&format!("{writing}A 1 2\nA 1 3"), 14, [1, 3]);
 }
 
@@ -659,6 +663,35 @@ fn a_role_never_flows_to_itself() {
     printed(
         "H 1 1 0 1\nO 1 1\nP 1 1 1\nP 1 1 2",
         "V 0 0 0\nR 1 1 1\nC 0",
+    );
+    // Writing alone is sharing with nobody.
+    printed("H 1 1 0 1\nO 1 1\nP 1 1 2", "V 0 0 0\nR 1 0 1\nC 0");
+}
+
+#[test]
+fn roles_that_write_one_card_are_a_circle() {
+    // Roles 2 and 3 write card 1, which nobody reads; role 1 writes card 2
+    // alone, and role 4 reads it.
+    let text = "H 1 4 0 2
+        O 1 1
+        O 2 1
+        P 1 2 2
+        P 2 1 2
+        P 3 1 2
+        P 4 2 1";
+    printed(
+        text,
+        "V 0 0 0\nR 1 0 1\nR 2 0 1\nR 3 0 1\nR 4 1 0\nF 1 4\nF 2 3\nF 3 2\nC 2",
+    );
+    // Three roles: each flows to each other.
+    printed(
+        &text.replace("P 4 2 1", "P 4 1 2"),
+        "V 0 0 0\nR 1 0 1\nR 2 0 1\nR 3 0 1\nR 4 0 1\nF 2 3\nF 2 4\nF 3 2\nF 3 4\nF 4 2\nF 4 3\nC 2",
+    );
+    // One writes it and one reads it: that is flow one way.
+    printed(
+        &text.replace("P 3 1 2", "P 3 1 1"),
+        "V 0 0 0\nR 1 0 1\nR 2 0 1\nR 3 1 0\nR 4 1 0\nF 1 4\nF 2 3\nC 0",
     );
 }
 
@@ -696,6 +729,12 @@ fn role_flow_by_inheritance() {
     printed(
         "H 1 2 0 1\nS 2 1\nO 1 1\nP 1 1 1\nP 1 1 2",
         "V 0 0 0\nR 1 1 1\nR 2 1 1\nF 1 2\nF 2 1\nC 1",
+    );
+    // A senior shares what its junior writes, though nobody reads it; two
+    // seniors of one junior share it with each other too.
+    printed(
+        "H 1 3 0 1\nS 2 1\nS 3 1\nO 1 1\nP 1 1 2",
+        "V 0 0 0\nR 1 0 1\nR 2 0 1\nR 3 0 1\nF 1 2\nF 1 3\nF 2 1\nF 2 3\nF 3 1\nF 3 2\nC 1",
     );
     // Seniority itself is no flow: role 2 reads what role 1 reads.
     printed(

@@ -387,6 +387,23 @@ fn role_flow() {
     both.flows(3, 4, 0, 1);
     both.flows(4, 2, 0, 1);
     both.circle(2);
+    // Roles 2 and 3 write card 1, which nobody reads, and so does 4, senior to
+    // 3; role 1 writes card 2 alone.
+    let shared = "H 1 4 0 2
+        S 4 3
+        O 1 1
+        O 2 1
+        P 1 2 2
+        P 2 1 2
+        P 3 1 2";
+    both.load(shared, [0, 0, 0]);
+    both.flows(1, 1, 0, 0);
+    both.flows(1, 2, 0, 0);
+    for (from, to) in [(2, 3), (3, 2), (2, 4), (4, 2), (3, 4), (4, 3)] {
+        both.flows(from, to, 0, 1);
+    }
+    both.flows(2, 2, 0, 0);
+    both.circle(2);
 }
 
 fn role_of_user(user: u64) -> u64 {

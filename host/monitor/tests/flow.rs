@@ -4,6 +4,7 @@ use monitor_model::STATE_BYTES;
 use monitor_tests::generate::{accepted_file, wild_number};
 use monitor_tests::library::{self, Figure};
 use monitor_tests::loaded::Loaded;
+use second_checker::check::{check, Outcome};
 use second_checker::generate::{sparse_flow, write};
 use second_checker::random::Random;
 
@@ -35,6 +36,7 @@ fn compare(loaded: &Loaded, random: &mut Random) {
 #[test]
 fn flows_and_circle() {
     let (mut with_flow, mut with_circle, mut without_circle) = (0, 0, 0);
+    let mut with_shared_circle = 0;
     for index in 0..150 {
         let random = &mut Random::for_file(13, index);
         let file = if index % 3 == 0 {
@@ -48,8 +50,13 @@ fn flows_and_circle() {
         with_flow += usize::from(!policy.flows.is_empty());
         with_circle += usize::from(policy.circle > 1);
         without_circle += usize::from(policy.circle == 0 && !policy.flows.is_empty());
+        let Outcome::Accepted(accepted) = check(&file) else {
+            panic!("file {index} is refused");
+        };
+        with_shared_circle += usize::from(accepted.circle != accepted.circle_by_reading);
     }
     assert!(with_flow > 50 && with_circle > 10 && without_circle > 10);
+    assert!(with_shared_circle > 10);
 }
 
 /// A refusal's figure is 0, also where the role has flows.

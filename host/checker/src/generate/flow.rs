@@ -6,13 +6,15 @@ use super::{arrange, LIMITS};
 use crate::check::{Counts, RoleFile, READ, WRITE};
 use crate::random::Random;
 
-/// An accepted file whose role flow has few pairs: one ring or none, the rest
-/// without a circle, and some roles that flow only to themselves.
+/// An accepted file whose role flow has few pairs: one ring or none, now and
+/// then roles that share a card to write, the rest without a circle, and some
+/// roles that write only for themselves.
 pub fn sparse_flow(random: &mut Random) -> RoleFile {
     let most_roles = random.pick(&[4, 8, 8, 20, 128]);
     let roles = random.between(2, most_roles);
     let names = random.shuffled(roles);
     let flows = few_flows(random, roles);
+    let shared = few_shared(random, roles);
     let labels = random.pick(&[1, 1, 2, 5]);
     let home = random.between(1, labels);
     let scatter = random.pick(&[0, 0, 10]);
@@ -21,7 +23,7 @@ pub fn sparse_flow(random: &mut Random) -> RoleFile {
             labels,
             roles,
             users: random.below(6),
-            cards: flows.len() + random.below(3),
+            cards: flows.len() + shared.len() + random.below(3),
         },
         dominance: label_order(random, labels),
         ..RoleFile::default()
@@ -38,7 +40,12 @@ pub fn sparse_flow(random: &mut Random) -> RoleFile {
         file.seniority = role_seniority(random, roles, 3);
     }
     let cards = random.shuffled(file.counts.cards);
-    file.permissions = flow_permissions(&flows, &names, cards);
+    let (for_flows, for_shared) = cards.split_at(flows.len().min(cards.len()));
+    file.permissions = flow_permissions(&flows, &names, for_flows.iter().copied());
+    for (writers, &card) in shared.iter().zip(for_shared) {
+        let lines = writers.iter().map(|&writer| (names[writer], card, WRITE));
+        file.permissions.extend(lines);
+    }
     arrange(&mut file);
     add_assignments(random, &mut file, 12);
     file
@@ -64,6 +71,16 @@ fn few_flows(random: &mut Random, roles: usize) -> Vec<(usize, usize)> {
     }
     flows.truncate(LIMITS[3]);
     flows
+}
+
+/// Roles that share a card to write, which nobody reads: of few cards or none.
+fn few_shared(random: &mut Random, roles: usize) -> Vec<Vec<usize>> {
+    let cards = random.pick(&[0, 0, 1, 1, 3]);
+    let writers = |random: &mut Random| {
+        let count = random.between(1, 3);
+        (0..count).map(|_| random.below(roles)).collect()
+    };
+    (0..cards).map(|_| writers(random)).collect()
 }
 
 /// A ring of flows through so many roles from a first one on.
