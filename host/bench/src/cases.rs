@@ -71,15 +71,22 @@ pub const CASES: &[Case] = &[
     case("write of 8 bytes", Holding(1), Kind::Write, 29, Draw::part),
     case("write of 8 bytes", Holding(16), Kind::Write, 29, Draw::part),
     case("write of 8 bytes", Holding(128), Kind::Write, 29, Draw::part),
+    case("flows, every role to every other", Empty, Kind::Flows, 1, Draw::two_roles),
+    case("circle, every role on one", Empty, Kind::Circle, 1, Draw::two_roles),
+];
+
+/// With the file that has no flow.
+#[rustfmt::skip]
+pub const STILL: &[Case] = &[
     case("flows, after 512 cards", Empty, Kind::Flows, 0, Draw::two_roles),
     case("circle, no flow", Empty, Kind::Circle, 0, Draw::two_roles),
 ];
 
-/// With the file that has flows.
+/// With the file in which one role flows by the last card.
 #[rustfmt::skip]
 pub const FLOWING: &[Case] = &[
     case("flows, by card 512", Empty, Kind::Flows, 1, Draw::two_roles),
-    case("circle", Empty, Kind::Circle, 17, Draw::two_roles),
+    case("circle, no role on one", Empty, Kind::Circle, 0, Draw::two_roles),
 ];
 
 /// Of the review calls, at the largest counts. The answer of counts is their sum, of a session its

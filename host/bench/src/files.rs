@@ -17,15 +17,23 @@ pub fn largest() -> RoleFile {
     LARGEST.file()
 }
 
-/// The largest file, but role 1 reads the last card: so do its seniors, which is all roles, and each
-/// role that writes the card flows to all others.
-pub fn flowing() -> RoleFile {
+/// The largest file, but its written cards are written by role 128 alone, which is no role's junior: so
+/// no two roles write one card, and nobody reads those.
+pub fn without_flow() -> RoleFile {
     let mut file = largest();
-    let last = file
-        .permissions
-        .iter()
-        .rposition(|&(role, _, mode)| role == 1 && mode == READ);
-    file.permissions[last.expect("role 1 reads")] = (1, 512, READ);
+    for line in file.permissions.iter_mut().filter(|line| line.2 == WRITE) {
+        line.0 = 128;
+    }
+    file.permissions.sort_unstable();
+    file.permissions.dedup();
+    file
+}
+
+/// The same, but role 1 reads the last card: so do its seniors, which is all roles, and role 128, which
+/// writes it, flows to all others.
+pub fn flowing_by_one_card() -> RoleFile {
+    let mut file = without_flow();
+    file.permissions.insert(0, (1, 512, READ));
     file.permissions.sort_unstable();
     file
 }

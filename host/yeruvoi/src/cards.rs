@@ -39,6 +39,11 @@ impl Cards {
         *self == Cards::default()
     }
 
+    /// Whether a card is in both sets.
+    pub fn meets(&self, other: &Cards) -> bool {
+        self.0.iter().zip(&other.0).any(|(a, b)| a & b != 0)
+    }
+
     /// The cards of either set.
     pub fn joined(&self, other: &Cards) -> Cards {
         Cards(std::array::from_fn(|word| self.0[word] | other.0[word]))

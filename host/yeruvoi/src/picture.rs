@@ -1,6 +1,7 @@
 //! `yeruvoi picture`: label order, role hierarchy and role flow as Graphviz text.
 
 mod dot;
+mod flow;
 mod json;
 
 use crate::answer::{Answer, Trouble};
@@ -8,6 +9,7 @@ use crate::arguments::{Arguments, Subcommand};
 use crate::asked::of_accepted;
 use crate::monitor::Policy;
 use crate::relation::Relation;
+use flow::Flow;
 
 pub const SUBCOMMAND: Subcommand = Subcommand {
     name: "picture",
@@ -15,9 +17,13 @@ pub const SUBCOMMAND: Subcommand = Subcommand {
     help: "\
 The label order, the role hierarchy and the role flow as text for Graphviz, as in
 `yeruvoi picture FILE | dot -Tsvg > picture.svg`. Lines lead up to what dominates
-or is senior; dashed arrows lead from a role to one that may read what it writes.
-Pairs that others make are left out: a label over another with a third between,
-and a flow that a junior of either role has. What lies on a circle of flow is red.
+or is senior. A dashed arrow leads from a role to one that may read what it may
+write, and has two heads where both may write one card. Left out are a label or a
+role over another with a third between, and a flow that a junior of either role
+has; the last lines of the picture count them. A line to a senior is bold where
+the junior may write: the two share that.
+A circle of flow is red, with double boxes, where each role may read what the one
+before it may write, and orange, with dashed boxes, where it takes shared writing.
 
   --names LEGEND    names under the numbers
   --json            for programs
@@ -35,10 +41,12 @@ struct Drawing {
     roles: u64,
     /// Junior and senior role, with nothing between.
     seniority: Vec<(u64, u64)>,
-    /// Flows that no junior of either role has.
-    flow: Vec<(u64, u64)>,
-    /// All that flow leads to, in one step or more.
-    leads: Relation,
+    /// From a role to one that may read what it may write, where no junior of either has that.
+    reading: Vec<(u64, u64)>,
+    /// Two roles that may write one card, the lower number first, where no junior of either has that.
+    sharing: Vec<(u64, u64)>,
+    /// All of it, with the circles.
+    flow: Flow,
 }
 
 fn run(arguments: &Arguments) -> Result<Answer, Trouble> {
@@ -58,26 +66,34 @@ impl Drawing {
         let over = Relation::strictly(counts.labels, |lower, upper| policy.dominates(upper, lower));
         let seniors =
             Relation::strictly(counts.roles, |junior, senior| policy.senior(senior, junior));
-        let flow = Relation::of(counts.roles, |from, to| policy.flows(from, to));
-        let by_first = seniors.turned().then(&flow);
-        let by_second = flow.then(&seniors);
+        let flow = Flow::of(policy);
         Drawing {
             labels: counts.labels,
             dominance: over.direct().pairs(),
             roles: counts.roles,
             seniority: seniors.direct().pairs(),
-            flow: flow.without(&by_first).without(&by_second).pairs(),
-            leads: flow.paths(),
+            reading: own(&flow.reading, &seniors).pairs(),
+            sharing: rising(own(&flow.sharing, &seniors)),
+            flow,
         }
     }
 
-    /// Whether the role lies on a circle of flow.
-    fn on_circle(&self, role: u64) -> bool {
-        self.leads.holds(role, role)
+    /// How many flows by reading there are, and how many pairs of roles that share writing.
+    fn all(&self) -> [usize; 2] {
+        let sharing = rising(self.flow.sharing.strict());
+        [self.flow.reading.strict().pairs().len(), sharing.len()]
     }
+}
 
-    /// Whether the flow lies on a circle.
-    fn returns(&self, (from, to): (u64, u64)) -> bool {
-        self.leads.holds(to, from)
-    }
+/// The pairs of two roles that no junior of either makes.
+fn own(flow: &Relation, seniors: &Relation) -> Relation {
+    let by_first = seniors.turned().then(flow);
+    let by_second = flow.then(seniors);
+    flow.without(&by_first).without(&by_second).strict()
+}
+
+/// The pairs of a relation that goes both ways, each once.
+fn rising(relation: Relation) -> Vec<(u64, u64)> {
+    let pairs = relation.pairs().into_iter();
+    pairs.filter(|(first, second)| first < second).collect()
 }

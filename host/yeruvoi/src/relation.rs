@@ -30,6 +30,11 @@ impl Relation {
         Relation::of(count, |a, b| a != b && related(a, b))
     }
 
+    /// The pairs of two different things.
+    pub fn strict(&self) -> Relation {
+        Relation::strictly(self.rows.len() as u64, |a, b| self.holds(a, b))
+    }
+
     fn row(&self, a: u64) -> u128 {
         self.rows.get(a as usize - 1).copied().unwrap_or(0)
     }

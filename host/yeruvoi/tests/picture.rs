@@ -26,43 +26,88 @@ struct Expected {
     roles: usize,
     dominance: Pairs,
     seniority: Pairs,
+    /// Lines to a senior by whether the junior may read a card that it may
+    /// write, or may write at all.
+    reads_its_own: Pairs,
+    writes: Pairs,
+    /// Direct flows by reading, and direct pairs that share writing.
     flow: Pairs,
-    /// Roles on a circle of flow.
+    sharing: Pairs,
+    /// Roles on a circle of flow, and those that are on one by reading alone.
     circle: BTreeSet<usize>,
-    /// Flows on one.
+    circle_by_reading: BTreeSet<usize>,
+    /// The same of the direct flows by reading.
     returning: Pairs,
+    returning_by_reading: Pairs,
+    /// How many flows by reading there are, and how many pairs that share writing.
+    all: [usize; 2],
 }
 
 impl Expected {
     fn of(policy: &Policy) -> Expected {
         let counts = policy.counts;
-        let flows: Vec<(usize, usize)> = policy.flows.iter().copied().collect();
-        let steps = steps(counts.roles, &flows);
-        let reached: Vec<BTreeSet<usize>> = (0..=counts.roles)
-            .map(|role| reached(&steps, role))
-            .collect();
-        let leads = |from: usize, to: usize| reached[from].contains(&to);
-        let direct = flows
+        let meaning = &policy.meaning;
+        let by_reading = meaning.flows_by_reading();
+        let mut pairs = meaning.flows_by_shared_writing();
+        pairs.retain(|(first, second)| first < second);
+        let all = [by_reading.len(), pairs.len()];
+        let [leads, leads_by_reading] =
+            [&policy.flows, &by_reading].map(|flows| led_to(counts.roles, flows));
+        let on = |leads: &Pairs| -> BTreeSet<usize> {
+            let roles = 1..=counts.roles;
+            roles
+                .filter(|&role| leads.contains(&(role, role)))
+                .collect()
+        };
+        let meets = |a: &BTreeSet<usize>, b: &BTreeSet<usize>| !a.is_disjoint(b);
+        let writes_for =
+            |from: usize, to: usize| meets(&meaning.may_write[from], &meaning.may_read[to]);
+        let shares =
+            |from: usize, to: usize| meets(&meaning.may_write[from], &meaning.may_write[to]);
+        let direct = |flows: Pairs, holds: &dyn Fn(usize, usize) -> bool| -> Pairs {
+            let direct = flows
+                .into_iter()
+                .filter(|&flow| is_direct(policy, flow, holds));
+            direct.collect()
+        };
+        let flow = direct(by_reading, &writes_for);
+        let back = |leads: &Pairs| -> Pairs {
+            let flows = flow.iter().copied();
+            flows
+                .filter(|&(from, to)| leads.contains(&(to, from)))
+                .collect()
+        };
+        let seniority = lines(counts.roles, &meaning.seniority);
+        let (reads_its_own, others): (Pairs, Pairs) = seniority
             .iter()
-            .copied()
-            .filter(|&flow| is_direct(policy, flow));
-        let flow: Pairs = direct.collect();
+            .partition(|&&(junior, _)| writes_for(junior, junior));
         Expected {
             labels: counts.labels,
             roles: counts.roles,
-            dominance: lines(counts.labels, &policy.meaning.dominance),
-            seniority: lines(counts.roles, &policy.meaning.seniority),
-            circle: (1..=counts.roles)
-                .filter(|&role| leads(role, role))
+            dominance: lines(counts.labels, &meaning.dominance),
+            reads_its_own,
+            writes: others
+                .into_iter()
+                .filter(|&(junior, _)| !meaning.may_write[junior].is_empty())
                 .collect(),
-            returning: flow
-                .iter()
-                .copied()
-                .filter(|&(from, to)| leads(to, from))
-                .collect(),
+            seniority,
+            sharing: direct(pairs, &shares),
+            circle: on(&leads),
+            circle_by_reading: on(&leads_by_reading),
+            returning: back(&leads),
+            returning_by_reading: back(&leads_by_reading),
             flow,
+            all,
         }
     }
+}
+
+/// Where the flows lead, in one step or more.
+fn led_to(roles: usize, flows: &Pairs) -> Pairs {
+    let flows: Vec<(usize, usize)> = flows.iter().copied().collect();
+    let steps = steps(roles, &flows);
+    let from = |role: usize| reached(&steps, role).into_iter().map(move |to| (role, to));
+    (1..=roles).flat_map(from).collect()
 }
 
 /// From each thing up to each that stands directly over it.
@@ -80,15 +125,18 @@ fn lines(count: usize, order: &Order) -> Pairs {
     pairs
 }
 
-/// Whether a flow is neither a junior's of the first role nor one to a junior
-/// of the second.
-fn is_direct(policy: &Policy, (from, to): (usize, usize)) -> bool {
+/// Whether no junior of either role has the flow, to or from itself included.
+fn is_direct(
+    policy: &Policy,
+    (from, to): (usize, usize),
+    holds: &dyn Fn(usize, usize) -> bool,
+) -> bool {
     let juniors = |role: usize| {
         let roles = 1..=policy.counts.roles;
         roles.filter(move |&junior| junior != role && policy.meaning.seniority.over(role, junior))
     };
-    let from_a_junior = juniors(from).any(|junior| policy.flows.contains(&(junior, to)));
-    let to_a_junior = juniors(to).any(|junior| policy.flows.contains(&(from, junior)));
+    let from_a_junior = juniors(from).any(|junior| holds(junior, to));
+    let to_a_junior = juniors(to).any(|junior| holds(from, junior));
     !from_a_junior && !to_a_junior
 }
 
@@ -101,11 +149,11 @@ fn number(name: &str, letter: char) -> usize {
     number.parse().expect("a number")
 }
 
-/// The edges of a part that have this arrow and color.
-fn edges(graph: &Graph, part: &str, letter: char, wanted: &dyn Fn(&str, &str) -> bool) -> Pairs {
+/// The edges of a part that have these attributes: style, color, dir.
+fn edges(graph: &Graph, part: &str, letter: char, wanted: [&str; 3]) -> Pairs {
     let has = |edge: &&dot::Drawn<(String, String)>| {
         let attribute = |name: &str| edge.attributes.get(name).map_or("", String::as_str);
-        edge.part == part && wanted(attribute("style"), attribute("color"))
+        edge.part == part && ["style", "color", "dir"].map(attribute) == wanted
     };
     let edges = graph.edges.iter().filter(has);
     edges
@@ -122,13 +170,14 @@ fn lines_are_short(shown: &str) {
     assert!(number.bytes().all(|byte| byte.is_ascii_digit()), "{shown}");
 }
 
-/// The nodes of a part are these, with number and name, and red where wanted.
+/// The nodes of a part are these, with number and name, and an outline where
+/// they lie on a circle: those that do, and of these those that do by reading.
 fn nodes_hold(
     graph: &Graph,
     part: &str,
     (kind, count): (&'static str, usize),
     legend: &Legend,
-    red: &BTreeSet<usize>,
+    [circle, by_reading]: [&BTreeSet<usize>; 2],
 ) {
     let nodes = graph.nodes.iter().filter(|node| node.part == part);
     let nodes: Vec<_> = nodes.collect();
@@ -141,37 +190,89 @@ fn nodes_hold(
         let shown = dot::shown(&node.attributes["label"]);
         assert_eq!(shown.replace('\n', " "), caption);
         lines_are_short(&shown);
-        let color = node.attributes.get("color").map(String::as_str);
-        assert_eq!(color, red.contains(&one).then_some("red"));
+        let outline = ["color", "peripheries", "style"].map(|name| node.attributes.get(name));
+        let outline = outline.map(|value| value.map_or("", String::as_str));
+        let expected = match (circle.contains(&one), by_reading.contains(&one)) {
+            (false, _) => ["", "", ""],
+            (true, true) => ["red", "2", ""],
+            (true, false) => ["darkorange", "", "dashed"],
+        };
+        assert_eq!(outline, expected);
     }
 }
 
 fn graph_holds(graph: &Graph, expected: &Expected, legend: &Legend) {
+    let none = BTreeSet::new();
     let labels = ("label", expected.labels);
-    nodes_hold(graph, "cluster_labels", labels, legend, &BTreeSet::new());
+    nodes_hold(graph, "cluster_labels", labels, legend, [&none, &none]);
     let roles = ("role", expected.roles);
-    nodes_hold(graph, "cluster_roles", roles, legend, &expected.circle);
-    let all =
-        |part, letter, wanted: &dyn Fn(&str, &str) -> bool| edges(graph, part, letter, wanted);
-    let order = |style: &str, color: &str| style.is_empty() && color.is_empty();
-    assert_eq!(all("cluster_labels", 'l', &order), expected.dominance);
-    assert_eq!(all("cluster_roles", 'r', &order), expected.seniority);
-    let flow = |style: &str, _: &str| style == "dashed";
-    assert_eq!(all("cluster_roles", 'r', &flow), expected.flow);
-    let red = |style: &str, color: &str| style == "dashed" && color == "red";
-    assert_eq!(all("cluster_roles", 'r', &red), expected.returning);
-    let drawn = expected.dominance.len() + expected.seniority.len() + expected.flow.len();
+    let circles = [&expected.circle, &expected.circle_by_reading];
+    nodes_hold(graph, "cluster_roles", roles, legend, circles);
+
+    let without = |all: &Pairs, some: [&Pairs; 2]| -> Pairs {
+        let left = |pair: &&(usize, usize)| !some.iter().any(|some| some.contains(pair));
+        all.iter().filter(left).copied().collect()
+    };
+    let unmarked = without(
+        &expected.seniority,
+        [&expected.reads_its_own, &expected.writes],
+    );
+    let one_way = without(&expected.flow, [&expected.returning, &Pairs::new()]);
+    let shared_returning = without(
+        &expected.returning,
+        [&expected.returning_by_reading, &Pairs::new()],
+    );
+    let dominance = edges(graph, "cluster_labels", 'l', ["", "", ""]);
+    assert_eq!(dominance, expected.dominance);
+    for (wanted, pairs) in [
+        (["", "", ""], &unmarked),
+        (["bold", "red", ""], &expected.reads_its_own),
+        (["bold", "darkorange", ""], &expected.writes),
+        (["dashed", "blue", ""], &one_way),
+        (["dashed", "red", ""], &expected.returning_by_reading),
+        (["dashed", "darkorange", ""], &shared_returning),
+        (["dashed", "darkorange", "both"], &expected.sharing),
+    ] {
+        assert_eq!(
+            &edges(graph, "cluster_roles", 'r', wanted),
+            pairs,
+            "{wanted:?}"
+        );
+    }
+    let order = expected.dominance.len() + expected.seniority.len();
+    let drawn = order + expected.flow.len() + expected.sharing.len();
     assert_eq!(graph.edges.len(), drawn);
     for edge in &graph.edges {
-        let dashed = edge.attributes.contains_key("style");
+        let dashed = edge
+            .attributes
+            .get("style")
+            .is_some_and(|style| style == "dashed");
         let arrow = if dashed { "normal" } else { "none" };
         assert_eq!(edge.attributes["arrowhead"], arrow);
     }
+    key_holds(graph, expected);
+}
+
+/// The last line below the picture counts what is left out.
+fn key_holds(graph: &Graph, expected: &Expected) {
+    let key = &graph.settings[&(String::new(), "label".to_string())];
+    let lines: Vec<&str> = key.split("\\l").collect();
+    let [.., last, ""] = lines[..] else {
+        panic!("{key}");
+    };
+    let [reading, sharing] = expected.all;
+    let words = format!(
+        "{} of {reading} by reading, {} of {sharing} pairs of roles that may write one card",
+        reading - expected.flow.len(),
+        sharing - expected.sharing.len()
+    );
+    assert_eq!(last.replace(',', ""), words.replace(',', ""));
 }
 
 #[test]
 fn random_files() {
-    let (mut red, mut blue, mut inherited) = (0, 0, 0);
+    let (mut red, mut orange, mut blue, mut inherited) = (0, 0, 0, 0);
+    let (mut sharing, mut shared_lines, mut reading_lines) = (0, 0, 0);
     for index in 0..FILES {
         let Drawn {
             file,
@@ -184,14 +285,24 @@ fn random_files() {
         words.extend(options.iter().map(String::as_str));
         let expected = Expected::of(&policy);
         graph_holds(&dot::read(&told(&words, &file, 0)), &expected, &legend);
-        red += expected.returning.len();
+        red += expected.returning_by_reading.len();
+        orange += expected.circle.len() - expected.circle_by_reading.len();
         blue += expected.flow.len() - expected.returning.len();
-        inherited += policy.flows.len() - expected.flow.len();
+        inherited += expected.all[0] - expected.flow.len();
+        sharing += expected.sharing.len();
+        shared_lines += expected.writes.len();
+        reading_lines += expected.reads_its_own.len();
     }
-    assert!(
-        red > 20 && blue > 100 && inherited > 100,
-        "{red} {blue} {inherited}"
-    );
+    let seen = [
+        red,
+        orange,
+        blue,
+        inherited,
+        sharing,
+        shared_lines,
+        reading_lines,
+    ];
+    assert!(seen.iter().all(|&count| count > 20), "{seen:?}");
 }
 
 #[test]
@@ -200,6 +311,14 @@ fn two_makers() {
     let expected = Expected::of(&policy(&file));
     let graph = dot::read(&told(&["picture", "-"], &file, 0));
     graph_holds(&graph, &expected, &Legend::default());
+    // What the picture of the two makers shows: few arrows, one pair of roles
+    // that share writing and are none other's senior, and all circles made by
+    // what a senior has of its junior.
+    let arrows = (expected.flow.len(), expected.returning.len());
+    assert_eq!((arrows, expected.sharing.len()), ((37, 0), 1));
+    let lines = (expected.reads_its_own.len(), expected.writes.len());
+    assert_eq!(lines, (38, 5));
+    assert_eq!(expected.all, [1164, 68]);
 }
 
 /// Every role flows to every other.
@@ -212,7 +331,7 @@ fn the_most_flows() {
         file.extend(print_line(b'P', &[role, 1, 2]));
     }
     let graph = dot::read(&told(&["picture", "-"], &file, 0));
-    assert_eq!(graph.edges.len(), 128 * 127);
+    assert_eq!(graph.edges.len(), 128 * 127 + 128 * 127 / 2);
     graph_holds(&graph, &Expected::of(&policy(&file)), &Legend::default());
 }
 
@@ -234,27 +353,52 @@ fn the_most_seniors() {
 
 fn expected_json(expected: &Expected, legend: &Legend) -> String {
     let things = |kind, count: usize| list(1..=count, |number| thing(legend, kind, number));
-    let order = |pairs: &Pairs, kind: &'static str| {
-        let turned: Pairs = pairs.iter().map(|&(lower, upper)| (upper, lower)).collect();
-        list(turned, |(upper, lower)| {
-            object(&[(kind, upper.to_string()), ("over", lower.to_string())])
-        })
+    let turned = |pairs: &Pairs| -> Pairs {
+        let turned = pairs.iter().map(|&(lower, upper)| (upper, lower));
+        turned.collect()
     };
+    let made_by = |reading: bool, shared: bool| match (reading, shared) {
+        (true, _) => "\"reading\"".to_string(),
+        (false, true) => "\"shared writing\"".to_string(),
+        (false, false) => "null".to_string(),
+    };
+    let dominance = list(turned(&expected.dominance), |(upper, lower)| {
+        object(&[("label", upper.to_string()), ("over", lower.to_string())])
+    });
+    let seniority = list(turned(&expected.seniority), |(upper, lower)| {
+        let has = |pairs: &Pairs| pairs.contains(&(lower, upper));
+        let made_by = made_by(has(&expected.reads_its_own), has(&expected.writes));
+        object(&[
+            ("role", upper.to_string()),
+            ("over", lower.to_string()),
+            ("circle_by", made_by),
+        ])
+    });
     let flow = list(&expected.flow, |flow| {
+        let returns = expected.returning.contains(flow);
+        let by_reading = expected.returning_by_reading.contains(flow);
         object(&[
             ("from", flow.0.to_string()),
             ("to", flow.1.to_string()),
-            ("circle", expected.returning.contains(flow).to_string()),
+            ("circle", returns.to_string()),
+            ("circle_by", made_by(by_reading, returns)),
         ])
+    });
+    let sharing = list(&expected.sharing, |&(first, second)| {
+        numbers(&[first, second])
     });
     object(&[
         ("accepted", "true".to_string()),
         ("labels", things("label", expected.labels)),
         ("roles", things("role", expected.roles)),
-        ("dominance", order(&expected.dominance, "label")),
-        ("seniority", order(&expected.seniority, "role")),
+        ("dominance", dominance),
+        ("seniority", seniority),
         ("flow", flow),
         ("circle", numbers(&expected.circle)),
+        ("circle_by_reading", numbers(&expected.circle_by_reading)),
+        ("sharing", sharing),
+        ("flows_by_reading", expected.all[0].to_string()),
+        ("pairs_sharing", expected.all[1].to_string()),
     ])
 }
 
@@ -284,8 +428,8 @@ fn json_of_random_files() {
 // ---------------------------------------------------------------------------
 // By hand
 
-/// The text of a graph: what labels, roles and flows it has.
-fn drawn(labels: &[&str], roles: &[&str], flows: &[&str]) -> String {
+/// The text of a graph: what labels, roles and flows it has, and its last line.
+fn drawn(labels: &[&str], roles: &[&str], flows: &[&str], left_out: &str) -> String {
     let lines = |lines: &[&str]| -> String {
         let lines = lines.iter().map(|line| format!("    {line};\n"));
         lines.collect()
@@ -302,10 +446,19 @@ digraph policy {{
   subgraph cluster_roles {{ label=\"roles\"; edge [arrowhead=none];
 {roles}    edge [arrowhead=normal, style=dashed, color=blue, constraint=false];
 {flows}  }}
+  label=\"\
+dashed arrow: the second role may read what the first may write; two heads: both may write one card\\l\
+bold line: the junior may write, and shares that with its senior\\l\
+red, double box: on a circle of flow by reading; orange, dashed box: on one that takes shared writing\\l\
+left out: a label or a role over another with a third between; flows that a junior of either role has:\\l\
+{left_out}\\l\"; labelloc=b; labeljust=l; fontname=\"sans-serif\"; fontsize=10;
 }}
 "
     )
 }
+
+/// What a picture that leaves out no flow says.
+const ALL_DRAWN: &str = "0 of 0 by reading, 0 of 0 pairs of roles that may write one card";
 
 #[test]
 fn small_files() {
@@ -315,16 +468,18 @@ fn small_files() {
             &["l1 [label=\"1\"]", "l2 [label=\"2\"]", "l1 -> l2"],
             &["r1 [label=\"1\"]", "r2 [label=\"2\"]", "r1 -> r2"],
             &[],
+            ALL_DRAWN,
         )
     );
     assert_eq!(
         told(&["picture", "-"], b"H    1    0    0    0\n", 0),
-        drawn(&["l1 [label=\"1\"]"], &[], &[])
+        drawn(&["l1 [label=\"1\"]"], &[], &[], ALL_DRAWN)
     );
 }
 
-/// Flows: 1, 2 and 3 to 4, 4 to 2 and 3; those of 2 and 3 are role 1's, and that
-/// to 3 is one to role 2.
+/// Flows by reading: 1, 2 and 3 to 4, 4 to 2 and 3; those of 2 and 3 are role
+/// 1's, and that to 3 is one to role 2. Roles 2 and 3 share what role 1 writes,
+/// which puts role 1 on a circle.
 #[test]
 fn crossed() {
     assert_eq!(
@@ -341,14 +496,59 @@ fn crossed() {
                 "l3 -> l4"
             ],
             &[
-                "r1 [label=\"1\"]",
-                "r2 [label=\"2\", color=red]",
-                "r3 [label=\"3\", color=red]",
-                "r4 [label=\"4\", color=red]",
-                "r1 -> r2",
-                "r2 -> r3"
+                "r1 [label=\"1\", color=darkorange, style=dashed]",
+                "r2 [label=\"2\", color=red, peripheries=2]",
+                "r3 [label=\"3\", color=red, peripheries=2]",
+                "r4 [label=\"4\", color=red, peripheries=2]",
+                "r1 -> r2 [color=darkorange, style=bold]",
+                "r2 -> r3 [color=darkorange, style=bold]"
             ],
-            &["r1 -> r4", "r4 -> r2 [color=red]"],
+            &["r1 -> r4 [color=darkorange]", "r4 -> r2 [color=red]"],
+            "3 of 5 by reading, 3 of 3 pairs of roles that may write one card",
+        )
+    );
+}
+
+/// Two roles that write one card; and a role that reads and writes a card, with
+/// its senior.
+#[test]
+fn circles_of_two() {
+    let file = b"\
+H    1    2    0    1
+O    1    1          
+P    1    1    2     
+P    2    1    2     
+";
+    assert_eq!(
+        told(&["picture", "-"], file, 0),
+        drawn(
+            &["l1 [label=\"1\"]"],
+            &[
+                "r1 [label=\"1\", color=darkorange, style=dashed]",
+                "r2 [label=\"2\", color=darkorange, style=dashed]",
+            ],
+            &["r1 -> r2 [color=darkorange, dir=both]"],
+            "0 of 0 by reading, 0 of 1 pairs of roles that may write one card",
+        )
+    );
+    let file = b"\
+H    1    2    0    1
+S    2    1          
+O    1    1          
+P    1    1    1     
+P    1    1    2     
+";
+    assert_eq!(
+        told(&["picture", "-"], file, 0),
+        drawn(
+            &["l1 [label=\"1\"]"],
+            &[
+                "r1 [label=\"1\", color=red, peripheries=2]",
+                "r2 [label=\"2\", color=red, peripheries=2]",
+                "r1 -> r2 [color=red, style=bold]",
+            ],
+            &[],
+            "2 of 2 by reading, 1 of 1 pairs of roles that may write one card",
         )
     );
 }
@@ -382,6 +582,7 @@ fn names_are_escaped() {
                 "r1 -> r2"
             ],
             &[],
+            ALL_DRAWN,
         )
     );
 }

@@ -34,8 +34,10 @@ pub fn flows(state: &[u8], from: u64, to: u64) -> Figure {
     let ((i, from_bit), (j, to_bit)) = (bit(from), bit(to));
     let mut cards = rows(state, WRITERS, counts.cards).zip(rows(state, READERS, counts.cards));
     let flowing = from != to
-        && cards
-            .any(|(writers, readers)| (writers[i] & from_bit != 0) & (readers[j] & to_bit != 0));
+        && cards.any(|(writers, readers)| {
+            let uses = (readers[j] & to_bit != 0) | (writers[j] & to_bit != 0);
+            (writers[i] & from_bit != 0) & uses
+        });
     done(flowing.into())
 }
 
@@ -44,9 +46,9 @@ fn flow_table(state: &State, cards: u64) -> [u128; 128] {
     let mut table = [0; 128];
     for card in 1..=cards {
         let mut writers = roles_of(state, WRITERS, card);
-        let readers = roles_of(state, READERS, card);
+        let either = roles_of(state, READERS, card) | writers;
         while writers != 0 {
-            table[writers.trailing_zeros() as usize] |= readers;
+            table[writers.trailing_zeros() as usize] |= either;
             writers &= writers - 1;
         }
     }

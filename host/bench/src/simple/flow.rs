@@ -15,7 +15,7 @@ impl Policy {
             };
         }
         let may = |role, card, mode| self.permissions.contains(&(role, card, mode));
-        let passes = |card| may(from, card, WRITE) && may(to, card, READ);
+        let passes = |card| may(from, card, WRITE) && (may(to, card, READ) || may(to, card, WRITE));
         Figure {
             number: 0,
             figure: (from != to && (1..=self.cards).any(passes)).into(),
@@ -31,10 +31,11 @@ impl Policy {
     pub fn circle(&self) -> Figure {
         let mut flows = HashSet::new();
         for card in 1..=self.cards {
-            let readers = self.roles_with(card, READ);
-            for writer in self.roles_with(card, WRITE) {
-                let others = readers.iter().filter(|&&reader| reader != writer);
-                flows.extend(others.map(|&reader| (writer, reader)));
+            let writers = self.roles_with(card, WRITE);
+            let either = [self.roles_with(card, READ), writers.clone()].concat();
+            for writer in writers {
+                let others = either.iter().filter(|&&other| other != writer);
+                flows.extend(others.map(|&other| (writer, other)));
             }
         }
         let paths = paths(&next(flows), self.roles);

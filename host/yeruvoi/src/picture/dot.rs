@@ -1,7 +1,9 @@
 //! The drawing in Graphviz' language.
 
+use super::flow::Circle;
 use super::Drawing;
 use crate::names::{Kind, Names};
+use crate::page::grouped;
 
 const HEAD: &str = "\
 digraph policy {
@@ -16,36 +18,82 @@ pub fn written(drawing: &Drawing, names: &Names) -> String {
     let mut text = HEAD.to_string();
     text += "  subgraph cluster_labels { label=\"labels\"; edge [arrowhead=none];\n";
     for label in 1..=drawing.labels {
-        text += &node("l", label, &caption(Kind::Label, label, names), false);
+        text += &node("l", label, &caption(Kind::Label, label, names), "");
     }
-    drawing
-        .dominance
-        .iter()
-        .for_each(|&pair| text += &edge("l", pair, false));
+    for &pair in &drawing.dominance {
+        text += &edge("l", pair, "");
+    }
     text += "  }\n";
     text += "  subgraph cluster_roles { label=\"roles\"; edge [arrowhead=none];\n";
+    let flow = &drawing.flow;
     for role in 1..=drawing.roles {
-        let caption = caption(Kind::Role, role, names);
-        text += &node("r", role, &caption, drawing.on_circle(role));
+        let outline = outline(flow.circle(role, role));
+        text += &node("r", role, &caption(Kind::Role, role, names), outline);
     }
-    drawing
-        .seniority
-        .iter()
-        .for_each(|&pair| text += &edge("r", pair, false));
+    for &(junior, senior) in &drawing.seniority {
+        let color = color(flow.circle_with_senior(junior));
+        let bold = color.map_or(String::new(), |color| {
+            format!(" [color={color}, style=bold]")
+        });
+        text += &edge("r", (junior, senior), &bold);
+    }
     text += FLOW;
-    let flow = drawing.flow.iter();
-    flow.for_each(|&pair| text += &edge("r", pair, drawing.returns(pair)));
-    text + "  }\n}\n"
+    for &(from, to) in &drawing.reading {
+        let color = color(flow.circle(from, to));
+        let colored = color.map_or(String::new(), |color| format!(" [color={color}]"));
+        text += &edge("r", (from, to), &colored);
+    }
+    for &pair in &drawing.sharing {
+        text += &edge("r", pair, " [color=darkorange, dir=both]");
+    }
+    text + "  }\n" + &key(drawing) + "}\n"
 }
 
-fn node(letter: &str, number: u64, caption: &str, red: bool) -> String {
-    let color = if red { ", color=red" } else { "" };
-    format!("    {letter}{number} [label=\"{caption}\"{color}];\n")
+fn node(letter: &str, number: u64, caption: &str, outline: &str) -> String {
+    format!("    {letter}{number} [label=\"{caption}\"{outline}];\n")
 }
 
-fn edge(letter: &str, (from, to): (u64, u64), red: bool) -> String {
-    let color = if red { " [color=red]" } else { "" };
-    format!("    {letter}{from} -> {letter}{to}{color};\n")
+fn edge(letter: &str, (from, to): (u64, u64), attributes: &str) -> String {
+    format!("    {letter}{from} -> {letter}{to}{attributes};\n")
+}
+
+/// The color of what lies on a circle.
+fn color(circle: Option<Circle>) -> Option<&'static str> {
+    Some(match circle? {
+        Circle::Reading => "red",
+        Circle::SharedWriting => "darkorange",
+    })
+}
+
+/// The attributes of a role's box.
+fn outline(circle: Option<Circle>) -> &'static str {
+    match circle {
+        None => "",
+        Some(Circle::Reading) => ", color=red, peripheries=2",
+        Some(Circle::SharedWriting) => ", color=darkorange, style=dashed",
+    }
+}
+
+/// The lines below the picture: what its marks mean, and what it leaves out.
+fn key(drawing: &Drawing) -> String {
+    let [reading, sharing] = drawing.all();
+    let left_out = |all: usize, drawn: usize| {
+        let (out, all) = (all - drawn, all);
+        format!("{} of {}", grouped(out as u64), grouped(all as u64))
+    };
+    let lines = [
+        "dashed arrow: the second role may read what the first may write; two heads: both may write one card".to_string(),
+        "bold line: the junior may write, and shares that with its senior".to_string(),
+        "red, double box: on a circle of flow by reading; orange, dashed box: on one that takes shared writing".to_string(),
+        "left out: a label or a role over another with a third between; flows that a junior of either role has:".to_string(),
+        format!(
+            "{} by reading, {} pairs of roles that may write one card",
+            left_out(reading, drawing.reading.len()),
+            left_out(sharing, drawing.sharing.len())
+        ),
+    ];
+    let text: String = lines.iter().map(|line| format!("{line}\\l")).collect();
+    format!("  label=\"{text}\"; labelloc=b; labeljust=l; fontname=\"sans-serif\"; fontsize=10;\n")
 }
 
 /// How long a line of a name may be, so that names do not draw the picture apart.
