@@ -46,7 +46,7 @@ module _ (σ : Settings) where
     flows-iff q r .1 (λ e. ne (sym e), inr (share-writing-symmetric r q s)),
   )
 
-  -- "Two roles that write one card now form a circle of two" (document 02, change 9): a step leads from r to q, and one from q to r
+  -- "Two roles that write one card now form a circle of two" (document 02, change 9): by these two flows r is on one, and so is q
   pub shared-writing-circle : (r q : ℕ) → Among (σ .roles) r → Among (σ .roles) q → (r ≡ q → ⊥) → ShareWriting σ r q → OnCircle (σ .roles) (flows σ) r
   shared-writing-circle r q v w ne s = let (there, back) = shared-writing-flows r q ne s in (q, w, there, step back v here)
 

@@ -64,9 +64,9 @@ fn flows_by_card(s: &[u8], o: usize, from: usize, to: usize) -> bool
     requires { ⌜ (writersAt + 16 * 512 ≤ length (now s)) × (o < 512) ⌝ }
     ensures { λ r. ⌜ r ≡ flowsByCard (now (s .entry)) from to (o + 1) ⌝ }
 {
-    let reads = roleset::has(s, layout::READERS_AT + ROW_BYTES * o, to);
-    let writes = roleset::has(s, layout::WRITERS_AT + ROW_BYTES * o, to);
-    roleset::has(s, layout::WRITERS_AT + ROW_BYTES * o, from) & (reads | writes)
+    roleset::has(s, layout::WRITERS_AT + ROW_BYTES * o, from)
+        & (roleset::has(s, layout::READERS_AT + ROW_BYTES * o, to)
+            | roleset::has(s, layout::WRITERS_AT + ROW_BYTES * o, to))
 }
 
 // Whether role `from` flows to role `to`.

@@ -10,9 +10,9 @@ returns : tie.Need-returns
 returns c =
     let a = c .before .before .before .before .args in
     rw (
-      row-tested (now (a .s)) readersAt (a .o) (a .to) _ (search needs) (c .before .before .has .ensures),
-      row-tested (now (a .s)) writersAt (a .o) (a .to) _ (search needs) (c .before .has2 .ensures),
-      row-tested (now (a .s)) writersAt (a .o) (a .from) _ (search needs) (c .has3 .ensures),
+      row-tested (now (a .s)) writersAt (a .o) (a .from) _ (search needs) (c .before .before .has .ensures),
+      row-tested (now (a .s)) readersAt (a .o) (a .to) _ (search needs) (c .before .has2 .ensures),
+      row-tested (now (a .s)) writersAt (a .o) (a .to) _ (search needs) (c .has3 .ensures),
     )
 
 pub flows-by-card-spec : {M : Type 1} → statement M
