@@ -412,7 +412,10 @@ static void order_of_numbers(void)
     free(state);
 }
 
-/* A circle of role flow: role 2 writes card 1 for 3, role 3 card 2 for 2. */
+/*
+ * Circles of role flow: role 2 writes card 1 for 3, role 3 card 2 for 2; and
+ * roles 2 and 3 write card 1, which nobody reads.
+ */
 static void role_flow(void)
 {
     uint8_t *state = bytes_of(STATE_BYTES, 0);

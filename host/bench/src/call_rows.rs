@@ -1,6 +1,6 @@
 //! The rows of session calls and reports.
 
-use crate::cases::{Case, CASES, FLOWING, REVIEW, STILL};
+use crate::cases::{Case, CASES, FLOWING, REVIEW, WITHOUT_FLOW};
 use crate::files::{flowing_by_one_card, largest, without_flow};
 use crate::table::Row;
 use crate::timing::{Three, Times};
@@ -49,12 +49,12 @@ pub fn report(rounds: usize) {
     println!("session calls and flow reports at the largest counts, a call");
     let mut missed = Missed::default();
     report_cases(CASES, &largest(), rounds, &mut missed);
-    report_cases(STILL, &without_flow(), rounds, &mut missed);
+    report_cases(WITHOUT_FLOW, &without_flow(), rounds, &mut missed);
     report_cases(FLOWING, &flowing_by_one_card(), rounds, &mut missed);
     println!(
         "aims: 20 ns for read number and write, 50 ns for other calls, ratio {RATIO_AIM}; \
          of {} calls, {} miss the time and {} the ratio",
-        CASES.len() + STILL.len() + FLOWING.len(),
+        CASES.len() + WITHOUT_FLOW.len() + FLOWING.len(),
         missed.time,
         missed.ratio,
     );

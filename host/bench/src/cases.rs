@@ -77,7 +77,7 @@ pub const CASES: &[Case] = &[
 
 /// With the file that has no flow.
 #[rustfmt::skip]
-pub const STILL: &[Case] = &[
+pub const WITHOUT_FLOW: &[Case] = &[
     case("flows, after 512 cards", Empty, Kind::Flows, 0, Draw::two_roles),
     case("circle, no flow", Empty, Kind::Circle, 0, Draw::two_roles),
 ];

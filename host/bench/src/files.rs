@@ -33,7 +33,7 @@ pub fn without_flow() -> RoleFile {
 /// writes it, flows to all others.
 pub fn flowing_by_one_card() -> RoleFile {
     let mut file = without_flow();
-    file.permissions.insert(0, (1, 512, READ));
+    file.permissions.push((1, 512, READ));
     file.permissions.sort_unstable();
     file
 }

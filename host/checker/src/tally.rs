@@ -35,7 +35,7 @@ pub struct Tally {
     with_low: usize,
     with_flow: usize,
     with_circle: usize,
-    /// With a lower role on a circle than by reading alone, or the only one.
+    /// With another lowest role on a circle than by reading alone.
     with_shared_circle: usize,
     with_undefined: usize,
 }

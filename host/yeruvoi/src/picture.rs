@@ -17,11 +17,12 @@ pub const SUBCOMMAND: Subcommand = Subcommand {
     help: "\
 The label order, the role hierarchy and the role flow as text for Graphviz, as in
 `yeruvoi picture FILE | dot -Tsvg > picture.svg`. Lines lead up to what dominates
-or is senior. A dashed arrow leads from a role to one that may read what it may
-write, and has two heads where both may write one card. Left out are a label or a
-role over another with a third between, and a flow that a junior of either role
-has; the last lines of the picture count them. A line to a senior is bold where
-the junior may write: the two share that.
+or is senior. A dashed arrow leads from a role to one that may read what the first
+may write; a line with two heads joins roles that may write one card. Left out are
+a label or a role over another with a third between, and a flow that follows from
+what a junior of either role may do: the last line of the picture counts these
+flows. A line to a senior is bold where the junior may write, for the two share
+that.
 A circle of flow is red, with double boxes, where each role may read what the one
 before it may write, and orange, with dashed boxes, where it takes shared writing.
 
@@ -41,9 +42,9 @@ struct Drawing {
     roles: u64,
     /// Junior and senior role, with nothing between.
     seniority: Vec<(u64, u64)>,
-    /// From a role to one that may read what it may write, where no junior of either has that.
+    /// From a role to one that may read what it may write, where that follows from no junior of either.
     reading: Vec<(u64, u64)>,
-    /// Two roles that may write one card, the lower number first, where no junior of either has that.
+    /// Two roles that may write one card, the lower number first, where that follows from no junior.
     sharing: Vec<(u64, u64)>,
     /// All of it, with the circles.
     flow: Flow,
@@ -85,7 +86,7 @@ impl Drawing {
     }
 }
 
-/// The pairs of two roles that no junior of either makes.
+/// The pairs of two roles that follow from no junior of either, with itself or another.
 fn own(flow: &Relation, seniors: &Relation) -> Relation {
     let by_first = seniors.turned().then(flow);
     let by_second = flow.then(seniors);

@@ -26,10 +26,10 @@ struct Expected {
     roles: usize,
     dominance: Pairs,
     seniority: Pairs,
-    /// Lines to a senior by whether the junior may read a card that it may
-    /// write, or may write at all.
-    reads_its_own: Pairs,
-    writes: Pairs,
+    /// Lines to a senior where the two flow to each other by reading, and where
+    /// they only share what the junior may write.
+    both_ways: Pairs,
+    only_shared: Pairs,
     /// Direct flows by reading, and direct pairs that share writing.
     flow: Pairs,
     sharing: Pairs,
@@ -78,15 +78,16 @@ impl Expected {
                 .collect()
         };
         let seniority = lines(counts.roles, &meaning.seniority);
-        let (reads_its_own, others): (Pairs, Pairs) = seniority
-            .iter()
-            .partition(|&&(junior, _)| writes_for(junior, junior));
+        let mutual = |&&(junior, senior): &&(usize, usize)| {
+            writes_for(junior, senior) && writes_for(senior, junior)
+        };
+        let (both_ways, others): (Pairs, Pairs) = seniority.iter().partition(mutual);
         Expected {
             labels: counts.labels,
             roles: counts.roles,
             dominance: lines(counts.labels, &meaning.dominance),
-            reads_its_own,
-            writes: others
+            both_ways,
+            only_shared: others
                 .into_iter()
                 .filter(|&(junior, _)| !meaning.may_write[junior].is_empty())
                 .collect(),
@@ -125,7 +126,7 @@ fn lines(count: usize, order: &Order) -> Pairs {
     pairs
 }
 
-/// Whether no junior of either role has the flow, to or from itself included.
+/// Whether the flow follows from no junior of either role, with itself or another.
 fn is_direct(
     policy: &Policy,
     (from, to): (usize, usize),
@@ -215,7 +216,7 @@ fn graph_holds(graph: &Graph, expected: &Expected, legend: &Legend) {
     };
     let unmarked = without(
         &expected.seniority,
-        [&expected.reads_its_own, &expected.writes],
+        [&expected.both_ways, &expected.only_shared],
     );
     let one_way = without(&expected.flow, [&expected.returning, &Pairs::new()]);
     let shared_returning = without(
@@ -226,12 +227,12 @@ fn graph_holds(graph: &Graph, expected: &Expected, legend: &Legend) {
     assert_eq!(dominance, expected.dominance);
     for (wanted, pairs) in [
         (["", "", ""], &unmarked),
-        (["bold", "red", ""], &expected.reads_its_own),
-        (["bold", "darkorange", ""], &expected.writes),
+        (["bold", "red", ""], &expected.both_ways),
+        (["bold", "darkorange", ""], &expected.only_shared),
         (["dashed", "blue", ""], &one_way),
         (["dashed", "red", ""], &expected.returning_by_reading),
         (["dashed", "darkorange", ""], &shared_returning),
-        (["dashed", "darkorange", "both"], &expected.sharing),
+        (["solid", "darkorange", "both"], &expected.sharing),
     ] {
         assert_eq!(
             &edges(graph, "cluster_roles", 'r', wanted),
@@ -243,14 +244,45 @@ fn graph_holds(graph: &Graph, expected: &Expected, legend: &Legend) {
     let drawn = order + expected.flow.len() + expected.sharing.len();
     assert_eq!(graph.edges.len(), drawn);
     for edge in &graph.edges {
-        let dashed = edge
-            .attributes
-            .get("style")
-            .is_some_and(|style| style == "dashed");
-        let arrow = if dashed { "normal" } else { "none" };
+        let style = edge.attributes.get("style").map_or("", String::as_str);
+        let flow = ["dashed", "solid"].contains(&style);
+        let arrow = if flow { "normal" } else { "none" };
         assert_eq!(edge.attributes["arrowhead"], arrow);
     }
     key_holds(graph, expected);
+}
+
+/// Every flow follows from an arrow, a line with two heads or a bold line
+/// between roles that are the two or juniors of theirs, and nothing else does.
+fn flows_follow(graph: &Graph, policy: &Policy) {
+    let seniority = &policy.meaning.seniority;
+    let style = |edge: &dot::Drawn<(String, String)>| {
+        let style = edge.attributes.get("style").map_or("", String::as_str);
+        style.to_string()
+    };
+    let mut made = Pairs::new();
+    for edge in graph
+        .edges
+        .iter()
+        .filter(|edge| edge.part == "cluster_roles")
+    {
+        let (first, second) = (number(&edge.name.0, 'r'), number(&edge.name.1, 'r'));
+        match style(edge).as_str() {
+            "dashed" => made.extend([(first, second)]),
+            "solid" => made.extend([(first, second), (second, first)]),
+            "bold" => made.extend([(first, first)]),
+            _ => {}
+        }
+    }
+    let roles = 1..=policy.counts.roles;
+    let pairs = roles
+        .clone()
+        .flat_map(|r| roles.clone().map(move |q| (r, q)));
+    let follows = |&(r, q): &(usize, usize)| {
+        let from = |&(a, b): &(usize, usize)| seniority.over(r, a) && seniority.over(q, b);
+        r != q && made.iter().any(from)
+    };
+    assert_eq!(pairs.filter(follows).collect::<Pairs>(), policy.flows);
 }
 
 /// The last line below the picture counts what is left out.
@@ -271,8 +303,7 @@ fn key_holds(graph: &Graph, expected: &Expected) {
 
 #[test]
 fn random_files() {
-    let (mut red, mut orange, mut blue, mut inherited) = (0, 0, 0, 0);
-    let (mut sharing, mut shared_lines, mut reading_lines) = (0, 0, 0);
+    let mut seen = [0; 8];
     for index in 0..FILES {
         let Drawn {
             file,
@@ -284,25 +315,24 @@ fn random_files() {
         let mut words = vec!["picture", "-"];
         words.extend(options.iter().map(String::as_str));
         let expected = Expected::of(&policy);
-        graph_holds(&dot::read(&told(&words, &file, 0)), &expected, &legend);
-        red += expected.returning_by_reading.len();
-        orange += expected.circle.len() - expected.circle_by_reading.len();
-        blue += expected.flow.len() - expected.returning.len();
-        inherited += expected.all[0] - expected.flow.len();
-        sharing += expected.sharing.len();
-        shared_lines += expected.writes.len();
-        reading_lines += expected.reads_its_own.len();
+        let graph = dot::read(&told(&words, &file, 0));
+        graph_holds(&graph, &expected, &legend);
+        flows_follow(&graph, &policy);
+        let counts = [
+            expected.flow.len() - expected.returning.len(),
+            expected.returning_by_reading.len(),
+            expected.returning.len() - expected.returning_by_reading.len(),
+            expected.all[0] - expected.flow.len(),
+            expected.sharing.len(),
+            expected.all[1] - expected.sharing.len(),
+            expected.both_ways.len(),
+            expected.only_shared.len(),
+        ];
+        for (seen, count) in seen.iter_mut().zip(counts) {
+            *seen += count;
+        }
     }
-    let seen = [
-        red,
-        orange,
-        blue,
-        inherited,
-        sharing,
-        shared_lines,
-        reading_lines,
-    ];
-    assert!(seen.iter().all(|&count| count > 20), "{seen:?}");
+    assert!(seen.iter().all(|&count| count > 100), "{seen:?}");
 }
 
 #[test]
@@ -311,12 +341,13 @@ fn two_makers() {
     let expected = Expected::of(&policy(&file));
     let graph = dot::read(&told(&["picture", "-"], &file, 0));
     graph_holds(&graph, &expected, &Legend::default());
-    // What the picture of the two makers shows: few arrows, one pair of roles
-    // that share writing and are none other's senior, and all circles made by
-    // what a senior has of its junior.
+    flows_follow(&graph, &policy(&file));
+    // Few arrows, one pair of roles that share writing though neither is senior
+    // to the other, and no arrow on a circle: lines to a senior, and that pair,
+    // make them all.
     let arrows = (expected.flow.len(), expected.returning.len());
     assert_eq!((arrows, expected.sharing.len()), ((37, 0), 1));
-    let lines = (expected.reads_its_own.len(), expected.writes.len());
+    let lines = (expected.both_ways.len(), expected.only_shared.len());
     assert_eq!(lines, (38, 5));
     assert_eq!(expected.all, [1164, 68]);
 }
@@ -367,7 +398,7 @@ fn expected_json(expected: &Expected, legend: &Legend) -> String {
     });
     let seniority = list(turned(&expected.seniority), |(upper, lower)| {
         let has = |pairs: &Pairs| pairs.contains(&(lower, upper));
-        let made_by = made_by(has(&expected.reads_its_own), has(&expected.writes));
+        let made_by = made_by(has(&expected.both_ways), has(&expected.only_shared));
         object(&[
             ("role", upper.to_string()),
             ("over", lower.to_string()),
@@ -385,7 +416,7 @@ fn expected_json(expected: &Expected, legend: &Legend) -> String {
         ])
     });
     let sharing = list(&expected.sharing, |&(first, second)| {
-        numbers(&[first, second])
+        object(&[("roles", numbers(&[first, second]))])
     });
     object(&[
         ("accepted", "true".to_string()),
@@ -447,18 +478,18 @@ digraph policy {{
 {roles}    edge [arrowhead=normal, style=dashed, color=blue, constraint=false];
 {flows}  }}
   label=\"\
-dashed arrow: the second role may read what the first may write; two heads: both may write one card\\l\
+dashed arrow: the second role may read what the first may write; line with two heads: both may write one card\\l\
 bold line: the junior may write, and shares that with its senior\\l\
 red, double box: on a circle of flow by reading; orange, dashed box: on one that takes shared writing\\l\
-left out: a label or a role over another with a third between; flows that a junior of either role has:\\l\
+left out: a label or a role over another with a third between; flows that follow from what a junior of either role may do:\\l\
 {left_out}\\l\"; labelloc=b; labeljust=l; fontname=\"sans-serif\"; fontsize=10;
 }}
 "
     )
 }
 
-/// What a picture that leaves out no flow says.
-const ALL_DRAWN: &str = "0 of 0 by reading, 0 of 0 pairs of roles that may write one card";
+/// What the picture of a file without flow says.
+const NO_FLOW: &str = "0 of 0 by reading, 0 of 0 pairs of roles that may write one card";
 
 #[test]
 fn small_files() {
@@ -468,12 +499,12 @@ fn small_files() {
             &["l1 [label=\"1\"]", "l2 [label=\"2\"]", "l1 -> l2"],
             &["r1 [label=\"1\"]", "r2 [label=\"2\"]", "r1 -> r2"],
             &[],
-            ALL_DRAWN,
+            NO_FLOW,
         )
     );
     assert_eq!(
         told(&["picture", "-"], b"H    1    0    0    0\n", 0),
-        drawn(&["l1 [label=\"1\"]"], &[], &[], ALL_DRAWN)
+        drawn(&["l1 [label=\"1\"]"], &[], &[], NO_FLOW)
     );
 }
 
@@ -509,8 +540,9 @@ fn crossed() {
     );
 }
 
-/// Two roles that write one card; and a role that reads and writes a card, with
-/// its senior.
+/// Two roles that write one card; a role that reads and writes a card, with its
+/// senior; and two, of which one is senior, that write for each other, so that
+/// only what the junior writes is shared and they flow to each other by reading.
 #[test]
 fn circles_of_two() {
     let file = b"\
@@ -527,7 +559,7 @@ P    2    1    2
                 "r1 [label=\"1\", color=darkorange, style=dashed]",
                 "r2 [label=\"2\", color=darkorange, style=dashed]",
             ],
-            &["r1 -> r2 [color=darkorange, dir=both]"],
+            &["r1 -> r2 [color=darkorange, dir=both, style=solid]"],
             "0 of 0 by reading, 0 of 1 pairs of roles that may write one card",
         )
     );
@@ -549,6 +581,55 @@ P    1    1    2
             ],
             &[],
             "2 of 2 by reading, 1 of 1 pairs of roles that may write one card",
+        )
+    );
+    let file = b"\
+H    1    2    0    2
+S    2    1          
+O    1    1          
+O    2    1          
+P    1    1    2     
+P    1    2    1     
+P    2    1    1     
+P    2    2    2     
+";
+    assert_eq!(
+        told(&["picture", "-"], file, 0),
+        drawn(
+            &["l1 [label=\"1\"]"],
+            &[
+                "r1 [label=\"1\", color=red, peripheries=2]",
+                "r2 [label=\"2\", color=red, peripheries=2]",
+                "r1 -> r2 [color=red, style=bold]",
+            ],
+            &["r1 -> r2 [color=red]", "r2 -> r1 [color=red]"],
+            "0 of 2 by reading, 1 of 1 pairs of roles that may write one card",
+        )
+    );
+}
+
+/// A junior writes what its senior reads: flow one way by reading, and both ways
+/// by shared writing.
+#[test]
+fn a_senior_reads_what_its_junior_writes() {
+    let file = b"\
+H    1    2    0    1
+S    2    1          
+O    1    1          
+P    1    1    2     
+P    2    1    1     
+";
+    assert_eq!(
+        told(&["picture", "-"], file, 0),
+        drawn(
+            &["l1 [label=\"1\"]"],
+            &[
+                "r1 [label=\"1\", color=darkorange, style=dashed]",
+                "r2 [label=\"2\", color=darkorange, style=dashed]",
+                "r1 -> r2 [color=darkorange, style=bold]",
+            ],
+            &["r1 -> r2 [color=darkorange]"],
+            "0 of 1 by reading, 1 of 1 pairs of roles that may write one card",
         )
     );
 }
@@ -582,7 +663,7 @@ fn names_are_escaped() {
                 "r1 -> r2"
             ],
             &[],
-            ALL_DRAWN,
+            NO_FLOW,
         )
     );
 }

@@ -35,8 +35,7 @@ pub fn flows(state: &[u8], from: u64, to: u64) -> Figure {
     let mut cards = rows(state, WRITERS, counts.cards).zip(rows(state, READERS, counts.cards));
     let flowing = from != to
         && cards.any(|(writers, readers)| {
-            let uses = (readers[j] & to_bit != 0) | (writers[j] & to_bit != 0);
-            (writers[i] & from_bit != 0) & uses
+            (writers[i] & from_bit != 0) & ((readers[j] & to_bit != 0) | (writers[j] & to_bit != 0))
         });
     done(flowing.into())
 }

@@ -7,8 +7,8 @@ use crate::check::{Counts, RoleFile, READ, WRITE};
 use crate::random::Random;
 
 /// An accepted file whose role flow has few pairs: one ring or none, now and
-/// then roles that share a card to write, the rest without a circle, and some
-/// roles that write only for themselves.
+/// then roles that write one card, or seniors of those that write, and some
+/// roles that write only for themselves. The rest is without a circle.
 pub fn sparse_flow(random: &mut Random) -> RoleFile {
     let most_roles = random.pick(&[4, 8, 8, 20, 128]);
     let roles = random.between(2, most_roles);
@@ -73,7 +73,7 @@ fn few_flows(random: &mut Random, roles: usize) -> Vec<(usize, usize)> {
     flows
 }
 
-/// Roles that share a card to write, which nobody reads: of few cards or none.
+/// The writers of a few cards that nobody reads, one or more of each; or none.
 fn few_shared(random: &mut Random, roles: usize) -> Vec<Vec<usize>> {
     let cards = random.pick(&[0, 0, 1, 1, 3]);
     let writers = |random: &mut Random| {

@@ -31,20 +31,20 @@ pub fn written(drawing: &Drawing, names: &Names) -> String {
         text += &node("r", role, &caption(Kind::Role, role, names), outline);
     }
     for &(junior, senior) in &drawing.seniority {
-        let color = color(flow.circle_with_senior(junior));
+        let color = color(flow.circle_of_two(junior, senior));
         let bold = color.map_or(String::new(), |color| {
             format!(" [color={color}, style=bold]")
         });
         text += &edge("r", (junior, senior), &bold);
     }
     text += FLOW;
+    for &pair in &drawing.sharing {
+        text += &edge("r", pair, " [color=darkorange, dir=both, style=solid]");
+    }
     for &(from, to) in &drawing.reading {
         let color = color(flow.circle(from, to));
         let colored = color.map_or(String::new(), |color| format!(" [color={color}]"));
         text += &edge("r", (from, to), &colored);
-    }
-    for &pair in &drawing.sharing {
-        text += &edge("r", pair, " [color=darkorange, dir=both]");
     }
     text + "  }\n" + &key(drawing) + "}\n"
 }
@@ -78,14 +78,14 @@ fn outline(circle: Option<Circle>) -> &'static str {
 fn key(drawing: &Drawing) -> String {
     let [reading, sharing] = drawing.all();
     let left_out = |all: usize, drawn: usize| {
-        let (out, all) = (all - drawn, all);
-        format!("{} of {}", grouped(out as u64), grouped(all as u64))
+        let [out, all] = [all - drawn, all].map(|count| grouped(count as u64));
+        format!("{out} of {all}")
     };
     let lines = [
-        "dashed arrow: the second role may read what the first may write; two heads: both may write one card".to_string(),
+        "dashed arrow: the second role may read what the first may write; line with two heads: both may write one card".to_string(),
         "bold line: the junior may write, and shares that with its senior".to_string(),
         "red, double box: on a circle of flow by reading; orange, dashed box: on one that takes shared writing".to_string(),
-        "left out: a label or a role over another with a third between; flows that a junior of either role has:".to_string(),
+        "left out: a label or a role over another with a third between; flows that follow from what a junior of either role may do:".to_string(),
         format!(
             "{} by reading, {} pairs of roles that may write one card",
             left_out(reading, drawing.reading.len()),

@@ -63,12 +63,13 @@ impl Flow {
         }
     }
 
-    /// The circle of two that a role and its senior are where the role may write: the senior has all
-    /// that its junior has.
-    pub fn circle_with_senior(&self, junior: u64) -> Option<Circle> {
-        if self.reading.holds(junior, junior) {
+    /// The circle of two that a role and its senior are where the role may write, which its senior then
+    /// may too.
+    pub fn circle_of_two(&self, junior: u64, senior: u64) -> Option<Circle> {
+        let both_ways = |flow: &Relation| flow.holds(junior, senior) && flow.holds(senior, junior);
+        if both_ways(&self.reading) {
             Some(Circle::Reading)
-        } else if self.sharing.holds(junior, junior) {
+        } else if both_ways(&self.sharing) {
             Some(Circle::SharedWriting)
         } else {
             None

@@ -29,7 +29,7 @@ pub fn written(drawing: &Drawing, names: &Names) -> Json {
         (
             "sharing",
             Json::list(&drawing.sharing, |&(first, second)| {
-                Json::numbers([first, second])
+                Json::Object(vec![("roles", Json::numbers([first, second]))])
             }),
         ),
         ("flows_by_reading", Json::Number(reading as u64)),
@@ -58,7 +58,10 @@ fn seniority(drawing: &Drawing) -> Json {
         Json::Object(vec![
             ("role", Json::Number(upper)),
             ("over", Json::Number(lower)),
-            ("circle_by", made_by(drawing.flow.circle_with_senior(lower))),
+            (
+                "circle_by",
+                made_by(drawing.flow.circle_of_two(lower, upper)),
+            ),
         ])
     })
 }

@@ -22,7 +22,8 @@ use temporary::Temporary;
 pub const EXAMPLES: &str = concat!(env!("CARGO_MANIFEST_DIR"), "/../../examples");
 
 /// Labels 2 and 3 between 1 and 4; role 3 over 2 over 1, with a line for each
-/// pair; roles 2 and 3 on a circle of flow with 4, which role 1 flows to.
+/// pair; roles 2 and 3 on a circle of flow by reading with 4, and role 1, whose
+/// writing they share, on one with them.
 pub const CROSSED: &str = "\
 H    4    4    2    3
 D    2    1          
