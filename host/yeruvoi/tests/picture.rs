@@ -540,29 +540,34 @@ fn crossed() {
     );
 }
 
-/// Two roles that write one card; a role that reads and writes a card, with its
-/// senior; and two, of which one is senior, that write for each other, so that
-/// only what the junior writes is shared and they flow to each other by reading.
+/// The text of a graph of one label and two roles with this outline.
+fn two_roles(outline: &str, line: Option<&str>, flows: &[&str], left_out: &str) -> String {
+    let boxes = [1, 2].map(|role| format!("r{role} [label=\"{role}\", {outline}]"));
+    let roles: Vec<&str> = boxes.iter().map(String::as_str).chain(line).collect();
+    drawn(&["l1 [label=\"1\"]"], &roles, flows, left_out)
+}
+
+const RED: &str = "color=red, peripheries=2";
+const ORANGE: &str = "color=darkorange, style=dashed";
+
 #[test]
-fn circles_of_two() {
+fn two_roles_write_one_card() {
     let file = b"\
 H    1    2    0    1
 O    1    1          
 P    1    1    2     
 P    2    1    2     
 ";
+    let line = "r1 -> r2 [color=darkorange, dir=both, style=solid]";
+    let left_out = "0 of 0 by reading, 0 of 1 pairs of roles that may write one card";
     assert_eq!(
         told(&["picture", "-"], file, 0),
-        drawn(
-            &["l1 [label=\"1\"]"],
-            &[
-                "r1 [label=\"1\", color=darkorange, style=dashed]",
-                "r2 [label=\"2\", color=darkorange, style=dashed]",
-            ],
-            &["r1 -> r2 [color=darkorange, dir=both, style=solid]"],
-            "0 of 0 by reading, 0 of 1 pairs of roles that may write one card",
-        )
+        two_roles(ORANGE, None, &[line], left_out)
     );
+}
+
+#[test]
+fn a_junior_reads_and_writes_one_card() {
     let file = b"\
 H    1    2    0    1
 S    2    1          
@@ -570,19 +575,18 @@ O    1    1
 P    1    1    1     
 P    1    1    2     
 ";
+    let line = "r1 -> r2 [color=red, style=bold]";
+    let left_out = "2 of 2 by reading, 1 of 1 pairs of roles that may write one card";
     assert_eq!(
         told(&["picture", "-"], file, 0),
-        drawn(
-            &["l1 [label=\"1\"]"],
-            &[
-                "r1 [label=\"1\", color=red, peripheries=2]",
-                "r2 [label=\"2\", color=red, peripheries=2]",
-                "r1 -> r2 [color=red, style=bold]",
-            ],
-            &[],
-            "2 of 2 by reading, 1 of 1 pairs of roles that may write one card",
-        )
+        two_roles(RED, Some(line), &[], left_out)
     );
+}
+
+/// They flow to each other by reading, though the junior reads nothing that it
+/// writes.
+#[test]
+fn a_junior_and_its_senior_write_for_each_other() {
     let file = b"\
 H    1    2    0    2
 S    2    1          
@@ -593,23 +597,16 @@ P    1    2    1
 P    2    1    1     
 P    2    2    2     
 ";
+    let line = "r1 -> r2 [color=red, style=bold]";
+    let flows = ["r1 -> r2 [color=red]", "r2 -> r1 [color=red]"];
+    let left_out = "0 of 2 by reading, 1 of 1 pairs of roles that may write one card";
     assert_eq!(
         told(&["picture", "-"], file, 0),
-        drawn(
-            &["l1 [label=\"1\"]"],
-            &[
-                "r1 [label=\"1\", color=red, peripheries=2]",
-                "r2 [label=\"2\", color=red, peripheries=2]",
-                "r1 -> r2 [color=red, style=bold]",
-            ],
-            &["r1 -> r2 [color=red]", "r2 -> r1 [color=red]"],
-            "0 of 2 by reading, 1 of 1 pairs of roles that may write one card",
-        )
+        two_roles(RED, Some(line), &flows, left_out)
     );
 }
 
-/// A junior writes what its senior reads: flow one way by reading, and both ways
-/// by shared writing.
+/// Flow one way by reading, and both ways by shared writing.
 #[test]
 fn a_senior_reads_what_its_junior_writes() {
     let file = b"\
@@ -619,18 +616,12 @@ O    1    1
 P    1    1    2     
 P    2    1    1     
 ";
+    let line = "r1 -> r2 [color=darkorange, style=bold]";
+    let flows = ["r1 -> r2 [color=darkorange]"];
+    let left_out = "0 of 1 by reading, 1 of 1 pairs of roles that may write one card";
     assert_eq!(
         told(&["picture", "-"], file, 0),
-        drawn(
-            &["l1 [label=\"1\"]"],
-            &[
-                "r1 [label=\"1\", color=darkorange, style=dashed]",
-                "r2 [label=\"2\", color=darkorange, style=dashed]",
-                "r1 -> r2 [color=darkorange, style=bold]",
-            ],
-            &["r1 -> r2 [color=darkorange]"],
-            "0 of 1 by reading, 1 of 1 pairs of roles that may write one card",
-        )
+        two_roles(ORANGE, Some(line), &flows, left_out)
     );
 }
 
