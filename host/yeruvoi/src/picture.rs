@@ -22,7 +22,7 @@ may write; a line with two heads joins roles that may write one card. Left out a
 a label or a role over another with a third between, and a flow that follows from
 what a junior of either role may do: the last line of the picture counts these
 flows. A line to a senior is bold where the junior may write, for the two share
-that.
+that: red where they flow to each other by reading too, else orange.
 A circle of flow is red, with double boxes, where each role may read what the one
 before it may write, and orange, with dashed boxes, where it takes shared writing.
 

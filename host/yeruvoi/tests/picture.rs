@@ -479,7 +479,7 @@ digraph policy {{
 {flows}  }}
   label=\"\
 dashed arrow: the second role may read what the first may write; line with two heads: both may write one card\\l\
-bold line: the junior may write, and shares that with its senior\\l\
+bold line: the junior may write, and shares that with its senior; red where the two flow to each other by reading\\l\
 red, double box: on a circle of flow by reading; orange, dashed box: on one that takes shared writing\\l\
 left out: a label or a role over another with a third between; flows that follow from what a junior of either role may do:\\l\
 {left_out}\\l\"; labelloc=b; labeljust=l; fontname=\"sans-serif\"; fontsize=10;

@@ -83,7 +83,7 @@ fn key(drawing: &Drawing) -> String {
     };
     let lines = [
         "dashed arrow: the second role may read what the first may write; line with two heads: both may write one card".to_string(),
-        "bold line: the junior may write, and shares that with its senior".to_string(),
+        "bold line: the junior may write, and shares that with its senior; red where the two flow to each other by reading".to_string(),
         "red, double box: on a circle of flow by reading; orange, dashed box: on one that takes shared writing".to_string(),
         "left out: a label or a role over another with a third between; flows that follow from what a junior of either role may do:".to_string(),
         format!(

@@ -1,4 +1,4 @@
--- The roles that may write a card, each with those that may read it, and then without itself.
+-- The roles that may write a card, each with those that may read or write it, and then without itself.
 use mathlib.Core.Path.{_≡_, _∙_}
 use native.Mathlib.Omega.{arith}
 use borrow.Author.Needs.{needs}
