@@ -77,13 +77,11 @@
  *
  * The translator, by a session call, or the server by a review call:
  *   24  no session at the place (close, take, drop, read, write, session_at)
- *   26  the label asked is above the clearance (open); clearance does not
- *       dominate the label asked (takable, can)
+ *   26  clearance does not dominate the label asked (open, takable, can)
  *   27  neither the role nor a senior of it is assigned to the user (take)
  *   28  a level of the role forbids it at this label (take)
  *   29  no role held gives this read or write (read, write)
  *   30  offset plus length above 64 (read, write)
- *   37  neither of clearance and label asked dominates the other (open)
  *
  * The server's programmer:
  *    7  state shorter than 65,536 bytes [0, 0] (load)
@@ -104,9 +102,9 @@
 
 /* The version of this header, of the library and of the programs beside it. */
 #define MONITOR_VERSION_MAJOR 1
-#define MONITOR_VERSION_MINOR 3
+#define MONITOR_VERSION_MINOR 2
 #define MONITOR_VERSION_PATCH 0
-#define MONITOR_VERSION "1.3.0"
+#define MONITOR_VERSION "1.2.0"
 
 /* Where the compiler can, it warns of an answer that is not looked at. */
 #if defined(__has_attribute)
@@ -185,9 +183,7 @@ struct monitor_verdict monitor_load(const uint8_t *file, size_t file_len,
 
 /*
  * Opens a session at a free place: a user and a label that the user's
- * clearance dominates, and no roles. Answers 21, 22, 23, 25, 26, 37 or 0. A
- * screen can grey a label that gets 26, which is above the clearance, and hide
- * one that gets 37, which cannot be compared with it.
+ * clearance dominates, and no roles. Answers 21, 22, 23, 25, 26 or 0.
  * Done, it changes the state only: the place is in use.
  */
 MONITOR_MUST_CHECK
@@ -317,8 +313,7 @@ struct monitor_figure monitor_assigned(const uint8_t *state, size_t state_len,
 
 /*
  * The set of roles that a session of the user at the label may take: those for
- * which monitor_take would answer 0. Answers 21, 25, 26 or 0; 26 also where an
- * opening answers 37.
+ * which monitor_take would answer 0. Answers 21, 25, 26 or 0.
  */
 MONITOR_MUST_CHECK
 struct monitor_set monitor_takable(const uint8_t *state, size_t state_len,
@@ -341,7 +336,7 @@ struct monitor_figure monitor_gives(const uint8_t *state, size_t state_len,
  * What a user ends up with: figure 1 where a session of the user at the label
  * could be granted the read (mode 1) or the write (mode 2) of the card, that
  * is, where monitor_gives is 1 of what monitor_takable gives; else 0. Answers
- * 21, 25, 26 or 0; 26 also where an opening answers 37.
+ * 21, 25, 26 or 0.
  */
 MONITOR_MUST_CHECK
 struct monitor_figure monitor_can(const uint8_t *state, size_t state_len,
@@ -422,9 +417,6 @@ static inline const char *monitor_words(uint64_t number)
         return "offset plus length is above 64";
     case 31:
         return "the store is shorter than 64 bytes for each card";
-    case 37:
-        return "neither of the clearance and the label asked dominates the "
-               "other";
     default:
         return "this is none of the monitor's numbers";
     }

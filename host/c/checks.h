@@ -37,7 +37,6 @@ void accepted(const char *text, uint8_t *state, const char *what);
 
 /* The parts of the test that stand in files of their own. */
 void header_tests(void);
-void opening_tests(const char *two_makers_file);
 void review_tests(void);
 
 #endif

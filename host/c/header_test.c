@@ -25,11 +25,11 @@ _Static_assert(sizeof(struct monitor_verdict) == 3 * 8 &&
                    sizeof(struct monitor_set) == 3 * 8,
                "answers without gaps");
 
-/* Whether the documents list the number. */
+/* Whether document 01 lists the number. */
 static int listed(uint64_t number)
 {
     return number <= 7 || (11 <= number && number <= 16) ||
-           (21 <= number && number <= 31) || number == 37;
+           (21 <= number && number <= 31);
 }
 
 /* What can be asked of a sentence that stands after a colon. */
@@ -71,11 +71,6 @@ static void words(void)
           "16 speaks of no label");
     check(strstr(monitor_words(24), "no session") != NULL,
           "24 speaks of no session");
-    check(strstr(monitor_words(26), "does not dominate the label") != NULL,
-          "26 says what opening, takable and can have in common");
-    check(strstr(monitor_words(37), "neither of the clearance and the label") !=
-              NULL,
-          "37 speaks of neither");
 }
 
 static void version(void)

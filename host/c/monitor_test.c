@@ -6,7 +6,6 @@
  */
 #include "checks.h"
 
-#include <stdio.h>
 #include <stdlib.h>
 #include <string.h>
 
@@ -298,7 +297,7 @@ static void numbers_without_a_role(uint8_t *state, uint8_t *store)
     number(read_number(state, store, 1, 3, 0, 1), 25, "25: card 3");
     figure(monitor_flows(state, STATE_BYTES, 1, 0), 25, 0,
            "25: flows to role 0, figure 0");
-    /* Label 2 is above clearance 1. */
+    /* Clearance 1 doesn't dominate label 2. */
     number(monitor_open(state, STATE_BYTES, 2, 1, 2), 26,
            "26: user 1, cleared to 1, at label 2");
     /* Role 2 would give the write; it isn't held yet. */
@@ -350,8 +349,7 @@ static void numbers_of_taking(uint8_t *state)
     number(monitor_take(state, STATE_BYTES, 2, 2), 0, "takes the role there");
 }
 
-/* Every number of the list that doesn't come from a file, once; opening_test.c
-   has 37. */
+/* Every number of the list that doesn't come from a file, once. */
 static void every_number(void)
 {
     uint8_t *state = bytes_of(STATE_BYTES, 0);
@@ -590,13 +588,8 @@ static void short_and_long_buffers(void)
     free(store);
 }
 
-/* The file of the two makers is named. */
-int main(int count, char **arguments)
+int main(void)
 {
-    if (count != 2) {
-        fputs("usage: monitor_test examples/two-makers.role\n", stderr);
-        return 2;
-    }
     files();
     writing_up(example, "the example");
     writing_up(cleared_to_1, "user 1 cleared to 1 instead");
@@ -609,7 +602,6 @@ int main(int count, char **arguments)
     what_a_user_can();
     short_and_long_buffers();
     header_tests();
-    opening_tests(arguments[1]);
     review_tests();
     return outcome();
 }

@@ -17,15 +17,13 @@ KNOWN(reading_at_1_and_2)
 KNOWN(writing_at_2_and_3)
 KNOWN(writing_1_too)
 KNOWN(only_counts)
-KNOWN(a_label_below_both)
 
 static const struct {
     const uint8_t *start, *end;
 } known[] = {
     ENTRY(document),           ENTRY(reading_at_1_and_2),
     ENTRY(writing_at_2_and_3), ENTRY(writing_1_too),
-    ENTRY(only_counts),        ENTRY(a_label_below_both),
-    ENTRY(two_makers),
+    ENTRY(only_counts),        ENTRY(two_makers),
 };
 
 enum { KNOWN_FILES = sizeof known / sizeof known[0], LARGE = 255 };

@@ -8,7 +8,6 @@
 #include <stdio.h>
 #include <stdlib.h>
 #include <string.h>
-#include <unistd.h>
 
 #define MOST_WRITE 256
 
@@ -23,31 +22,6 @@ struct run {
     /* The state was changed by hand: the model can't tell what calls do. */
     int spoiled;
 };
-
-/* How many inputs were run, and how often openings got each number. */
-static unsigned long inputs, openings[64];
-
-/* Told at the end. A long run that hardly meets 37 shows little of it. */
-static void tell_openings(void)
-{
-    fputs("openings:", stderr);
-    for (unsigned number = 0; number < 64; number++)
-        if (openings[number] > 0)
-            fprintf(stderr, " %lu answered %u", openings[number], number);
-    fputs("\n", stderr);
-    if (inputs > 10000 && openings[37] < inputs / 100) {
-        fputs("FAILED: 37 is rare\n", stderr);
-        _exit(1);
-    }
-}
-
-int LLVMFuzzerInitialize(int *count, char ***arguments);
-int LLVMFuzzerInitialize(int *count, char ***arguments)
-{
-    (void)count;
-    (void)arguments;
-    return atexit(tell_openings);
-}
 
 const char *__asan_default_options(void);
 const char *__asan_default_options(void)
@@ -283,8 +257,6 @@ static void call(struct run *run, enum kind kind, unsigned lending)
         same(memcmp(bytes[side].bytes, content, length) == 0, "bytes", side);
         give_back(side, bytes[side]);
     }
-    if (kind == OPEN && answer.number < 64)
-        openings[answer.number]++;
     compare(run, answer.number == 0 && kind <= DROP);
 }
 
@@ -326,7 +298,6 @@ int LLVMFuzzerTestOneInput(const uint8_t *data, size_t size);
 int LLVMFuzzerTestOneInput(const uint8_t *data, size_t size)
 {
     static struct run run;
-    inputs++;
     memset(&run, 0, sizeof run);
     begin(&run);
     size_t records = whole_records(data, size);

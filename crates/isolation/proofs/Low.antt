@@ -12,7 +12,6 @@ use lib.Seq.{length-take-le, get_or-take, get_or-drop, ext_get_or}
 use Rattle.search.specs.Search.{Among}
 use Rattle.search.proofs.Truth.{untrue, both, other_iff}
 use Rattle.order.specs.Closure.{PartialOrder}
-use Rattle.order.specs.Comparison.{compare, at_least}
 use Rattle.policy.specs.Settings.{Settings, Bounded}
 use Rattle.policy.specs.Policy.{may}
 use Rattle.monitor.specs.Calls.{if_done, written}
@@ -24,7 +23,7 @@ use Rattle.monitor.proofs.Frames.{written_in, written_out}
 use Rattle.monitor.proofs.Orderly.{Orderly, admitted, gives_iff, part_done}
 use Rattle.monitor.proofs.Places.{put_at}
 use Rattle.isolation.specs.TwoRuns.{Open, track, under, shared}
-use Rattle.isolation.proofs.Levels.{compared_order, reads_below, writes_above}
+use Rattle.isolation.proofs.Levels.{reads_below, writes_above}
 use Rattle.isolation.proofs.Tracking.{label_of, Fits, free, place_of, next_other, track_other, grants_iff}
 
 -- ---- numbers
@@ -134,19 +133,19 @@ module _ (σ : Settings) (bounded : Bounded σ) (order : PartialOrder σ.labels 
       let (r, w, holds, gives) = (gives_iff σ mode x o).0 u.used in
       record { card = u.card; level = x.label; inside = adm.label; tracked = fits p ∙ ap label_of u.found; role = (r, gives, (adm.roles r holds).1) }
 
-  pub read_under : (size p o k n : ℕ) → part_rule σ 1 s size p o k n ≡ 0 → under σ L (t p) ≡ true → at_least (compare σ.dominates L (σ.card_label o)) ≡ true
+  pub read_under : (size p o k n : ℕ) → part_rule σ 1 s size p o k n ≡ 0 → under σ L (t p) ≡ true → σ.dominates L (σ.card_label o) ≡ true
   read_under size p o k n z h =
       let u = use_of_lem 1 size p o k n z in
       let (r, gives, suited) = u.role in
-      (compared_order σ order).transitive L u.level (σ.card_label o) label u.inside (bounded.card_labels o u.card)
+      order.transitive L u.level (σ.card_label o) label u.inside (bounded.card_labels o u.card)
       (rw u.tracked at h) (reads_below σ bounded order u.level r o u.inside u.card suited gives)
 
-  pub write_over : (size p o k n : ℕ) → part_rule σ 2 s size p o k n ≡ 0 → under σ L (t p) ≡ false → at_least (compare σ.dominates L (σ.card_label o)) ≡ false
+  pub write_over : (size p o k n : ℕ) → part_rule σ 2 s size p o k n ≡ 0 → under σ L (t p) ≡ false → σ.dominates L (σ.card_label o) ≡ false
   write_over size p o k n z h =
       let u = use_of_lem 2 size p o k n z in
       let (r, gives, suited) = u.role in
-      untrue (at_least (compare σ.dominates L (σ.card_label o))) (λ d.
+      untrue (σ.dominates L (σ.card_label o)) (λ d.
       both
-      ((compared_order σ order).transitive L (σ.card_label o) u.level label (bounded.card_labels o u.card) u.inside
+      (order.transitive L (σ.card_label o) u.level label (bounded.card_labels o u.card) u.inside
       d (writes_above σ bounded order u.level r o u.inside u.card suited gives))
       (rw u.tracked at h))

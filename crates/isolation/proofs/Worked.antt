@@ -9,7 +9,6 @@ use lib.ListN.{length, get_or, replicate, get_or-replicate, get_or-append, lengt
 use Rattle.search.specs.Search.{some, every, first}
 use Rattle.search.proofs.Truth.{both}
 use Rattle.order.specs.Closure.{via}
-use Rattle.order.specs.Comparison.{compare, at_least}
 use Rattle.order.specs.Bound.{upper, is_least, least_of, lub, pair_without_bound, partner_without_bound, lowest_without_bound}
 use Rattle.rolefile.specs.Field.{column, columns}
 use Rattle.rolefile.specs.Line.{letter_of, fields, formed, line_of, line_at}
@@ -38,7 +37,7 @@ accepted_file : verdict file ≡ fine
 unfolding file bytes
     column columns letter_of fields formed line_of line_at
     sized good_counts first_limit second_limit ranged rises head_verdict body_verdict line_verdict scan count unlabelled unlabelled_verdict lines_verdict form_verdict
-    says last label_by some every first via upper is_least least_of lub pair_without_bound partner_without_bound lowest_without_bound compare
+    says last label_by some every first via upper is_least least_of lub pair_without_bound partner_without_bound lowest_without_bound
     dominates senior may may_at level r_level w_level order_verdict label_verdict role_verdict assign_verdict assignment_verdict policy_verdict verdict
 accepted_file = refl
 
@@ -49,7 +48,7 @@ accepted = (accepted_fine file).0 accepted_file
 computed : (answers_by 2 first_store first_run ≡ low) × (answers_by 2 second_store second_run ≡ low)
     × (answers_by 4 first_store first_run ≡ high_first) × (answers_by 4 second_store second_run ≡ high_second)
 unfolding file bytes first_store second_store first_run second_run low high_first high_second
-    column columns letter_of fields formed line_of line_at says last label_by some every first via upper is_least least_of lub compare
+    column columns letter_of fields formed line_of line_at says last label_by some every first via upper is_least least_of lub
     dominates senior may may_at level r_level w_level
     unless if_done entitled_by fitting_by gives_by open_rule close_rule take_rule drop_rule part_rule rule sessions_after
     grants track shared part_of store_of shown_by
@@ -58,15 +57,15 @@ computed = (refl, refl, refl, refl)
 -- ---- the pair falls under demand 3 for label 2
 
 one_list : shared_calls (settings file) 2 none_open first_run ≡ shared_calls (settings file) 2 none_open second_run
-unfolding file bytes first_run second_run column columns letter_of fields formed line_of line_at says last label_by some first via compare dominates grants track shared shared_calls
+unfolding file bytes first_run second_run column columns letter_of fields formed line_of line_at says last label_by some first via dominates grants track shared shared_calls
 one_list = refl
 
 one_length : (length first_store ≡ 192) × (length second_store ≡ 192)
 unfolding first_store second_store
 one_length = (refl, refl)
 
-three_cards : (cards file ≡ 3) × (at_least (compare (dominates file) 2 (card_label file 3)) ≡ false)
-unfolding file bytes column columns letter_of fields formed line_of line_at says last label_by some first via compare dominates
+three_cards : (cards file ≡ 3) × (dominates file 2 (card_label file 3) ≡ false)
+unfolding file bytes column columns letter_of fields formed line_of line_at says last label_by some first via dominates
 three_cards = (refl, refl)
 
 same_cards : SameCards (settings file) 2 first_store second_store

@@ -2,7 +2,6 @@
 use Rattle.std.specs.Prelude.{ℕ, ◌<◌, ◌≡◌, List, [], ◌∷◌, Bool, true, false, ◌&&◌, cond, length, get_or}
 use Rattle.std.proofs.Math.Option.{Option, none, some}
 use Rattle.search.specs.Search.{among, Among}
-use Rattle.order.specs.Comparison.{compare, at_least}
 use Rattle.rolefile.specs.Said.{labels}
 use Rattle.policy.specs.Settings.{Settings, settings}
 use Rattle.policy.specs.Accepted.{Accepted}
@@ -29,7 +28,7 @@ none_open = all_free
 
 -- "an opening that the rules grant (place 1 to 64 and not open, user and label in range, clearance dominating the label)"
 unfoldable pub grants : Settings → Open → ℕ → ℕ → ℕ → Bool
-grants σ t p u l = among 64 p && (is_free (t p) && (among σ.users u && (among σ.labels l && at_least (compare σ.dominates (σ.clearance u) l))))
+grants σ t p u l = among 64 p && (is_free (t p) && (among σ.users u && (among σ.labels l && σ.dominates (σ.clearance u) l)))
 
 -- "A place is open from an opening that the rules grant" "to the next closing of that place. The label of its session is the one that this opening named"
 unfoldable pub track : Settings → Open → Call → Open
@@ -45,7 +44,7 @@ track σ t (writes p o k bytes) = t
 -- the place is open with a label that L dominates
 abbrev pub under : Settings → ℕ → Option ℕ → Bool
 under σ L none = false
-under σ L (some l) = at_least (compare σ.dominates L l)
+under σ L (some l) = σ.dominates L l
 
 unfoldable pub shared : Settings → ℕ → Open → Call → Bool
 shared σ L t (opens p u l) = true
@@ -79,7 +78,7 @@ shown σ L t m (c ∷ cs) = keep (shared σ L t c) (record { answer = answer m c
 -- "The cards under L are those whose label L dominates; of a store shorter than 64 × cards, the bytes it has of them". Stores of one length, which no call changes
 -- (`store_length` under monitor/proofs): a byte that neither has is 0 in both
 abbrev pub SameCards : Settings → ℕ → List ℕ → List ℕ → Type 0
-SameCards σ L s t = (o i : ℕ) → Among σ.cards o → at_least (compare σ.dominates L (σ.card_label o)) ≡ true → i < 64 → get_or s (part_at o i) 0 ≡ get_or t (part_at o i) 0
+SameCards σ L s t = (o i : ℕ) → Among σ.cards o → σ.dominates L (σ.card_label o) ≡ true → i < 64 → get_or s (part_at o i) 0 ≡ get_or t (part_at o i) 0
 
 -- one by one: the same number and bytes, and the same cards under L
 abbrev pub Alike : Settings → ℕ → List Shown → List Shown → Type 0

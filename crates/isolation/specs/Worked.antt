@@ -1,5 +1,5 @@
 -- Two runs worked out: a file of two rival makers, the calls of two runs that differ only in what the second maker's translator does, and what each label is shown. The
--- numbers and bytes are written by hand from documents 01 and 02. Assumes nothing.
+-- numbers and bytes are written by hand from document 01. Assumes nothing.
 use Rattle.std.specs.Prelude.{ℕ, List, [], ◌∷◌, ◌++◌, replicate}
 use Rattle.monitor.specs.Runs.{Call, opens, closes, takes, drops, reads, writes}
 use Rattle.monitor.specs.Cases.{bytes}
@@ -37,8 +37,7 @@ first_store = replicate 192 46
 unfoldable pub second_store : List ℕ
 second_store = replicate 128 46 ++ replicate 64 47
 
--- user 1 is at place 1, for the first maker; user 2 at place 2, for the second, and writes one wording in the first run and another in the second. User 1 also asks for label 3, the
--- second maker's, and for label 4, above her clearance
+-- user 1 is at place 1, for the first maker; user 2 at place 2, for the second, and writes one wording in the first run and another in the second
 unfoldable pub first_run : List Call
 first_run =
     opens 1 1 2
@@ -51,8 +50,6 @@ first_run =
     ∷ reads 1 2 0 2
     ∷ reads 1 1 0 1
     ∷ reads 1 3 0 1
-    ∷ opens 3 1 3
-    ∷ opens 3 1 4
     ∷ closes 2
     ∷ []
 
@@ -69,8 +66,6 @@ second_run =
     ∷ reads 1 2 0 2
     ∷ reads 1 1 0 1
     ∷ reads 1 3 0 1
-    ∷ opens 3 1 3
-    ∷ opens 3 1 4
     ∷ closes 2
     ∷ []
 
@@ -83,14 +78,13 @@ done = gave []
 abbrev pub refused : ℕ → Answer
 refused n = record { number = n; bytes = [] }
 
--- what label 2, the first maker's, is shown in either run: the openings, user 1's role, write and reads, of which the one of card 3 is refused, what she asked for beside and above
--- her clearance, and the closing
+-- what label 2, the first maker's, is shown in either run: the openings, user 1's role, write and reads, of which the one of card 3 is refused, and the closing
 unfoldable pub low : List Answer
-low = done ∷ done ∷ done ∷ done ∷ gave (65 ∷ 46 ∷ []) ∷ gave (46 ∷ []) ∷ refused 29 ∷ refused 37 ∷ refused 26 ∷ done ∷ []
+low = done ∷ done ∷ done ∷ done ∷ gave (65 ∷ 46 ∷ []) ∷ gave (46 ∷ []) ∷ refused 29 ∷ done ∷ []
 
 -- what label 4 is shown: all calls, and so what user 2 wrote and read
 unfoldable pub high_first : List Answer
-high_first = done ∷ done ∷ done ∷ done ∷ done ∷ done ∷ gave (66 ∷ 46 ∷ []) ∷ gave (65 ∷ 46 ∷ []) ∷ gave (46 ∷ []) ∷ refused 29 ∷ refused 37 ∷ refused 26 ∷ done ∷ []
+high_first = done ∷ done ∷ done ∷ done ∷ done ∷ done ∷ gave (66 ∷ 46 ∷ []) ∷ gave (65 ∷ 46 ∷ []) ∷ gave (46 ∷ []) ∷ refused 29 ∷ done ∷ []
 
 unfoldable pub high_second : List Answer
-high_second = done ∷ done ∷ done ∷ done ∷ done ∷ done ∷ gave (67 ∷ 47 ∷ []) ∷ done ∷ gave (65 ∷ 46 ∷ []) ∷ gave (46 ∷ []) ∷ refused 29 ∷ refused 37 ∷ refused 26 ∷ done ∷ []
+high_second = done ∷ done ∷ done ∷ done ∷ done ∷ done ∷ gave (67 ∷ 47 ∷ []) ∷ done ∷ gave (65 ∷ 46 ∷ []) ∷ gave (46 ∷ []) ∷ refused 29 ∷ done ∷ []

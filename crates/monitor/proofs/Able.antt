@@ -15,7 +15,6 @@ use Rattle.search.proofs.Found.{some_agree, some_both}
 use Rattle.roleset.specs.Row.{member, row_of}
 use Rattle.rolefile.specs.Said.{cards, assigned}
 use Rattle.order.specs.Closure.{Relation}
-use Rattle.order.specs.Comparison.{compare, at_least}
 use Rattle.policy.specs.Settings.{Settings, settings, Bounded}
 use Rattle.policy.specs.Policy.{may}
 use Rattle.policy.specs.Accepted.{Accepted}
@@ -51,7 +50,7 @@ module _ (σ : Settings) (bounded : Bounded σ) (α : Relation) (t : Sessions) (
       test_same (among (labels_in xs) l) (among σ.labels l) 25 (rw stands.tables.counted.labels) (λ label.
       test_same (among (cards_in xs) o) (among σ.cards o) 25 (rw stands.tables.counted.cards) (λ card.
       test_same (among 2 m) (among 2 m) 25 refl (λ mode.
-      test_same (cleared xs u l) (at_least (compare σ.dominates (σ.clearance u) l)) 26
+      test_same (cleared xs u l) (σ.dominates (σ.clearance u) l) 26
       (cleared_by σ bounded α t xs stands u l ((among_iff σ.users u).0 user) ((among_iff σ.labels l).0 label)) (λ dominated. refl)))))
 
   pub could_by_lem : (u l o m : ℕ) → Among σ.users u → Among σ.cards o → Among 2 m → could xs u l o (table_of m) ≡ could_by σ α u l o m
@@ -69,7 +68,7 @@ pub record Able (σ : Settings) (u l o m : ℕ) : Type 0 where
   pub label : Among σ.labels l
   pub card : Among σ.cards o
   pub mode : Among 2 m
-  pub cleared : at_least (compare σ.dominates (σ.clearance u) l) ≡ true
+  pub cleared : σ.dominates (σ.clearance u) l ≡ true
 
 can_done : (σ : Settings) (u l o m : ℕ) → can_rule σ u l o m ≡ 0 → Able σ u l o m
 unfolding can_rule
@@ -78,7 +77,7 @@ can_done σ u l o m h =
     let (b, y) = unless_done (among σ.labels l) 25 _ (omega arith) x in
     let (c, z) = unless_done (among σ.cards o) 25 _ (omega arith) y in
     let (d, v) = unless_done (among 2 m) 25 _ (omega arith) z in
-    let (e, w) = unless_done (at_least (compare σ.dominates (σ.clearance u) l)) 26 _ (omega arith) v in
+    let (e, w) = unless_done (σ.dominates (σ.clearance u) l) 26 _ (omega arith) v in
     record {
       user = (among_iff σ.users u).0 a;
       label = (among_iff σ.labels l).0 b;

@@ -49,15 +49,11 @@ module _ (t rest : Bool) {r : Bool} (e : r ≡ t) where
 
 pub ruleset tests = (fails, holds)
 
--- where a row of tests has a number that is not the first test's, that test has passed
-pub unless_past : (t : Bool) (n rest : ℕ) {m : ℕ} → (n ≡ m → ⊥) → unless t n rest ≡ m → (t ≡ true) × (rest ≡ m)
-unfolding unless
-unless_past true n rest other h = (refl, h)
-unless_past false n rest other h = absurd (other h)
-
 -- done, each test has passed
 pub unless_done : (t : Bool) (n rest : ℕ) → 0 < n → unless t n rest ≡ 0 → (t ≡ true) × (rest ≡ 0)
-unless_done t n rest l = unless_past t n rest (λ e. omega arith)
+unfolding unless
+unless_done true n rest l h = (refl, h)
+unless_done false n rest l h = absurd (omega arith)
 
 -- ---- what a call leaves
 

@@ -17,15 +17,14 @@ use Rattle.roleset.specs.Row.{member, row_of, common}
 use Rattle.roleset.proofs.Rows.{whole_true}
 use Rattle.rolefile.proofs.Within.{some_within}
 use Rattle.order.specs.Closure.{Relation}
-use Rattle.order.specs.Comparison.{compare, at_least}
 use Rattle.policy.specs.Settings.{Settings, Bounded}
 use Rattle.policy.specs.Policy.{may}
 use Rattle.policy.specs.Tables.{seniors_at, assigned_at}
 use Rattle.policy.proofs.Assigning.{reads_test, writes_test}
-use Rattle.policy.proofs.Meaning.{role_few, user_few, card_few, compare_by}
+use Rattle.policy.proofs.Meaning.{role_few, user_few, card_few, marked_by}
 use Rattle.policy.specs.Image.{Allows}
-use Rattle.monitor.specs.Session.{sound, labels_in, roles_in, users_in, cards_in, place_at, held_at, in_use, user_at, label_at, clearance_compared, cleared, entitled, fitting, gives}
-use Rattle.monitor.specs.Calls.{unless, at_session, clearance_number, open_number, close_number, take_number, drop_number, part_number}
+use Rattle.monitor.specs.Session.{sound, labels_in, roles_in, users_in, cards_in, place_at, held_at, in_use, user_at, label_at, cleared, entitled, fitting, gives}
+use Rattle.monitor.specs.Calls.{unless, at_session, open_number, close_number, take_number, drop_number, part_number}
 use Rattle.monitor.specs.Places.{is_free}
 use Rattle.monitor.specs.Rules.{Session, Sessions, session_rule, at_session_by, entitled_by, fitting_by, gives_by, open_rule, close_rule, take_rule, drop_rule, part_rule}
 use Rattle.monitor.proofs.Answers.{sound_iff}
@@ -71,14 +70,10 @@ module _ (σ : Settings) (bounded : Bounded σ) (α : Relation) (t : Sessions) (
       by none e = rw e
       by (some s) a = rw a.used
 
-  clearance_by : (u l : ℕ) → Among σ.users u → Among σ.labels l → clearance_compared xs u l ≡ compare σ.dominates (σ.clearance u) l
-  unfolding clearance_compared
-  clearance_by u l v w =
-      rw (stands.tables.labelled.users u (user_few σ bounded u v)) (compare_by σ bounded xs stands.tables (σ.clearance u) l (inr w))
-
-  pub cleared_by : (u l : ℕ) → Among σ.users u → Among σ.labels l → cleared xs u l ≡ at_least (compare σ.dominates (σ.clearance u) l)
+  pub cleared_by : (u l : ℕ) → Among σ.users u → Among σ.labels l → cleared xs u l ≡ σ.dominates (σ.clearance u) l
   unfolding cleared
-  cleared_by u l v w = ap at_least (clearance_by u l v w)
+  cleared_by u l v w =
+      rw (stands.tables.labelled.users u (user_few σ bounded u v)) (marked_by σ bounded xs stands.tables (σ.clearance u) l (inr w))
 
   -- two rows with a role in common, where both together say g
   common_by : (a b n : ℕ) (g : ℕ → Bool) → a + 16 ≤ length xs → b + 16 ≤ length xs → n ≤ 128
@@ -119,7 +114,8 @@ module _ (σ : Settings) (bounded : Bounded σ) (α : Relation) (t : Sessions) (
       test_same (not (in_use xs p)) (is_free (t p)) 23 (free_by p ((among_iff 64 p).0 place)) (λ free.
       test_same (among (users_in xs) u) (among σ.users u) 25 (rw stands.tables.counted.users) (λ user.
       test_same (among (labels_in xs) l) (among σ.labels l) 25 (rw stands.tables.counted.labels) (λ label.
-      ap clearance_number (clearance_by u l ((among_iff σ.users u).0 user) ((among_iff σ.labels l).0 label))))))
+      test_same (cleared xs u l) (σ.dominates (σ.clearance u) l) 26
+      (cleared_by u l ((among_iff σ.users u).0 user) ((among_iff σ.labels l).0 label)) (λ dominated. refl)))))
 
   -- where the rules have seen to every session
   module _ (known : Orderly σ t) where

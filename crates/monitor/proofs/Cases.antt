@@ -12,7 +12,6 @@ use Rattle.rolefile.specs.Said.{says, last, label_by}
 use Rattle.policy.specs.Settings.{dominates, senior}
 use Rattle.policy.specs.Policy.{may, may_at, level, r_level, w_level}
 use Rattle.policy.specs.Verdict.{order_verdict, label_verdict, role_verdict, assign_verdict, assignment_verdict, policy_verdict, verdict}
-use Rattle.order.specs.Comparison.{compare}
 use Rattle.policy.specs.Flow.{flows, flow_circle}
 use Rattle.monitor.specs.Calls.{unless, if_done}
 use Rattle.monitor.specs.Rules.{entitled_by, fitting_by, gives_by, open_rule, take_rule, part_rule, rule, sessions_after}
@@ -26,7 +25,7 @@ computed : map given cases ≡ map (λ c. c.expected) cases
 unfolding cases findings bytes
     column columns letter_of fields formed line_of line_at
     sized good_counts first_limit second_limit ranged rises head_verdict body_verdict line_verdict scan count unlabelled unlabelled_verdict lines_verdict form_verdict
-    says last label_by some every first via upper is_least least_of lub pair_without_bound partner_without_bound lowest_without_bound compare
+    says last label_by some every first via upper is_least least_of lub pair_without_bound partner_without_bound lowest_without_bound
     dominates senior may may_at level r_level w_level order_verdict label_verdict role_verdict assign_verdict assignment_verdict policy_verdict verdict flows flow_circle
     unless if_done entitled_by fitting_by gives_by open_rule take_rule part_rule rule sessions_after numbered
 computed = refl

@@ -10,10 +10,7 @@ use lib.ListN.{length}
 use Rattle.search.specs.Search.{among, Among}
 use Rattle.search.proofs.Truth.{among_iff, either}
 use Rattle.rolefile.specs.Said.{roles, assigned}
-use Rattle.order.specs.declared.compare.Comparison.{Comparison}
-use Rattle.order.specs.declared.compare.Comparison.TheVariants.{Equal, Above, Below, Neither}
 use Rattle.order.specs.Closure.{Relation}
-use Rattle.order.specs.Comparison.{compare}
 use Rattle.policy.specs.Settings.{Settings, settings, Bounded}
 use Rattle.policy.specs.Tables.{readers_at, writers_at}
 use Rattle.policy.specs.Accepted.{Accepted}
@@ -23,7 +20,7 @@ use Rattle.policy.proofs.Inside.{file_bounded}
 use Rattle.policy.proofs.Meaning.{role_few, flow_by, circle_by}
 use Rattle.policy.proofs.Loads.{load_iff}
 use Rattle.monitor.specs.Session.{sound}
-use Rattle.monitor.specs.Calls.{unless, if_done, written, part_at, clearance_number, opened, closed, taken, dropped, write_number}
+use Rattle.monitor.specs.Calls.{unless, if_done, written, part_at, opened, closed, taken, dropped, write_number}
 use Rattle.monitor.specs.Calls.{flows_number, state_number, Flows, Circles}
 use Rattle.monitor.specs.Runs.{Call, opens, closes, takes, drops, reads, writes, Memory, Start, loaded, number, state_after, store_of, store_after, after, run, left}
 use Rattle.monitor.specs.Places.{put}
@@ -148,17 +145,11 @@ part_not_21 σ m size t p o k n =
     session_not_21 t p _ (λ s. other_than_21 _ 25 _ (λ e. omega arith)
     (other_than_21 _ 29 _ (λ e. omega arith) (other_than_21 _ 30 _ (λ e. omega arith) (other_than_21 _ 31 _ (λ e. omega arith) (λ e. omega arith)))))
 
-clearance_not_21 : (c : Comparison) → clearance_number c ≡ 21 → ⊥
-clearance_not_21 Equal e = omega arith
-clearance_not_21 Above e = omega arith
-clearance_not_21 Below e = omega arith
-clearance_not_21 Neither e = omega arith
-
 rule_not_21 : (σ : Settings) (size : ℕ) (now : Standing) (c : Call) → rule σ size now c ≡ 21 → ⊥
 unfolding rule open_rule close_rule take_rule drop_rule part_rule
 rule_not_21 σ size now (opens p u l) =
     other_than_21 _ 22 _ (λ e. omega arith) (other_than_21 _ 23 _ (λ e. omega arith) (other_than_21 _ 25 _ (λ e. omega arith)
-    (other_than_21 _ 25 _ (λ e. omega arith) (clearance_not_21 (compare σ.dominates (σ.clearance u) l)))))
+    (other_than_21 _ 25 _ (λ e. omega arith) (other_than_21 _ 26 _ (λ e. omega arith) (λ e. omega arith)))))
 rule_not_21 σ size now (closes p) = session_not_21 now.sessions p _ (λ s e. omega arith)
 rule_not_21 σ size now (takes p r) =
     session_not_21 now.sessions p _ (λ s. other_than_21 _ 25 _ (λ e. omega arith)

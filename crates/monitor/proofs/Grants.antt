@@ -52,7 +52,7 @@ module _ (σ : Settings) (α : Relation) (cs : List Call) where
 
   -- ---- open
 
-  pub free_iff : (p : ℕ) → (is_free (now p) ≡ true) ↔ ((u l : ℕ) → OpenFor σ α cs p u l → ⊥)
+  free_iff : (p : ℕ) → (is_free (now p) ≡ true) ↔ ((u l : ℕ) → OpenFor σ α cs p u l → ⊥)
   free_iff p = (
     λ free u l h. let (s, e, g) = session_with (Opened σ α cs p u l) (now p) ((open_for_iff σ α cs p u l).1 h) in false≢true (rw e at free),
     λ free. by (now p) refl free,
@@ -66,10 +66,10 @@ module _ (σ : Settings) (α : Relation) (cs : List Call) where
   open_iff p u l = (
     λ h.
         let o = opening σ now p u l h in
-        record { openable = record { place = o.place; free = (free_iff p).0 o.free; user = o.user; label = o.label }; cleared = o.cleared },
+        record { place = o.place; free = (free_iff p).0 o.free; user = o.user; label = o.label; cleared = o.cleared },
     λ g.
-        let o = g.openable in
-        opening_done σ now p u l (record { place = o.place; free = (free_iff p).1 o.free; user = o.user; label = o.label; cleared = g.cleared }),
+        opening_done σ now p u l
+        (record { place = g.place; free = (free_iff p).1 g.free; user = g.user; label = g.label; cleared = g.cleared }),
   )
 
   close_iff : (p : ℕ) → (close_rule now p ≡ 0) ↔ OpenPlace σ α cs p

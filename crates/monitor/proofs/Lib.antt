@@ -11,7 +11,6 @@ pub mod ByRules
 pub mod Demand2
 pub mod History
 pub mod Grants
-pub mod Openings
 pub mod Takes
 pub mod Cases
 pub mod Able

@@ -10,13 +10,10 @@ use borrow.Author.Tests.{eqb-true, leb-true}
 use Rattle.search.specs.Search.{among, Among}
 use Rattle.search.proofs.Truth.{or_iff, and-iff, among_iff}
 use Rattle.search.proofs.Found.{some_both}
-use Rattle.order.specs.declared.compare.Comparison.{Comparison}
-use Rattle.order.specs.declared.compare.Comparison.TheVariants.{Equal, Above, Below, Neither}
 use Rattle.order.specs.Closure.{Relation}
-use Rattle.order.specs.Comparison.{compare, at_least}
 use Rattle.policy.specs.Settings.{Settings}
 use Rattle.policy.specs.Policy.{may}
-use Rattle.monitor.specs.Calls.{unless, clearance_number}
+use Rattle.monitor.specs.Calls.{unless}
 use Rattle.monitor.specs.Runs.{Call, opens, closes, takes, drops, reads, writes}
 use Rattle.monitor.specs.Places.{is_free, put}
 use Rattle.monitor.specs.Rules.{Session, Sessions, no_sessions, session_rule, at_session_by, entitled_by, fitting_by, gives_by, open_rule, close_rule, take_rule, drop_rule, part_rule, session_of, holding, without, stand, sessions_after}
@@ -44,18 +41,12 @@ orderly_put σ t p s known new = put_everywhere (Known σ) t p s new (λ q n. kn
 
 -- ---- what a rule that is done tells
 
-clearance_zero : (c : Comparison) → (clearance_number c ≡ 0) ↔ (at_least c ≡ true)
-clearance_zero Equal = (λ e. refl, λ e. refl)
-clearance_zero Above = (λ e. refl, λ e. refl)
-clearance_zero Below = (λ e. absurd (omega arith), λ e. absurd (false≢true e))
-clearance_zero Neither = (λ e. absurd (omega arith), λ e. absurd (false≢true e))
-
 pub record Opening (σ : Settings) (t : Sessions) (p u l : ℕ) : Type 0 where
   pub place : Among 64 p
   pub free : is_free (t p) ≡ true
   pub user : Among σ.users u
   pub label : Among σ.labels l
-  pub cleared : at_least (compare σ.dominates (σ.clearance u) l) ≡ true
+  pub cleared : σ.dominates (σ.clearance u) l ≡ true
 
 pub opening : (σ : Settings) (t : Sessions) (p u l : ℕ) → open_rule σ t p u l ≡ 0 → Opening σ t p u l
 unfolding open_rule
@@ -64,25 +55,20 @@ opening σ t p u l h =
     let b = unless_done (is_free (t p)) 23 _ (omega arith) a.1 in
     let c = unless_done (among σ.users u) 25 _ (omega arith) b.1 in
     let d = unless_done (among σ.labels l) 25 _ (omega arith) c.1 in
+    let e = unless_done (σ.dominates (σ.clearance u) l) 26 _ (omega arith) d.1 in
     record {
       place = (among_iff 64 p).0 a.0;
       free = b.0;
       user = (among_iff σ.users u).0 c.0;
       label = (among_iff σ.labels l).0 d.0;
-      cleared = (clearance_zero (compare σ.dominates (σ.clearance u) l)).0 d.1;
+      cleared = e.0;
     }
 
 -- the converse
 pub opening_done : (σ : Settings) (t : Sessions) (p u l : ℕ) → Opening σ t p u l → open_rule σ t p u l ≡ 0
 unfolding open_rule unless
 opening_done σ t p u l o =
-    rw (
-      (among_iff 64 p).1 o.place,
-      o.free,
-      (among_iff σ.users u).1 o.user,
-      (among_iff σ.labels l).1 o.label,
-      (clearance_zero (compare σ.dominates (σ.clearance u) l)).1 o.cleared,
-    )
+    rw ((among_iff 64 p).1 o.place, o.free, (among_iff σ.users u).1 o.user, (among_iff σ.labels l).1 o.label, o.cleared)
 
 -- the place has a session
 pub record At (t : Sessions) (p : ℕ) (rule : Session → ℕ) : Type 0 where

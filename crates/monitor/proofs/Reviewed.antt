@@ -19,12 +19,11 @@ use Rattle.roleset.specs.Set.{in_set, low_of, high_of}
 use Rattle.roleset.proofs.Sets.{in_set_of, in_no_set}
 use Rattle.rolefile.specs.Said.{assigned}
 use Rattle.order.specs.Closure.{Relation}
-use Rattle.order.specs.Comparison.{compare, at_least}
 use Rattle.policy.specs.Settings.{Settings, settings, Bounded}
 use Rattle.policy.specs.Policy.{may, r_level, w_level, level_number}
 use Rattle.policy.specs.Accepted.{Accepted}
 use Rattle.policy.specs.Tables.{table_of, byte_of}
-use Rattle.policy.proofs.Meaning.{role_few, user_few, card_few, compare_by}
+use Rattle.policy.proofs.Meaning.{role_few, user_few, card_few, marked_by}
 use Rattle.policy.proofs.Relating.{by_mode_lem}
 use Rattle.monitor.specs.Session.{sound, labels_in, roles_in, users_in, cards_in, cleared, entitled, fitting}
 use Rattle.monitor.specs.Calls.{unless, if_done, state_number, close_number, take_number, Figured}
@@ -206,10 +205,10 @@ module _ {f : List ℕ} (accepted : Accepted f) (a : Start f) (store : List ℕ)
       (runs.stands.tables.levelled.reads r few) (runs.stands.tables.levelled.writes r few) m ((among_iff 2 m).0 mode))
 
   pub dominates_answers : (b c : ℕ) {n figure : ℕ} → Dominates xs b c n figure
-      → Figured (unless (among σ.labels b && among σ.labels c) 25 0) (cond (at_least (compare σ.dominates b c)) 1 0) n figure
+      → Figured (unless (among σ.labels b && among σ.labels c) 25 0) (cond (σ.dominates b c) 1 0) n figure
   dominates_answers b c =
       figure_as (rw (labels_as b, labels_as c)) (λ e.
-      rw (compare_by σ runs.bounded xs runs.stands.tables b c (inl ((among_iff σ.labels b).0 ((and-iff (among σ.labels b) (among σ.labels c)).0 e).0))))
+      rw (marked_by σ runs.bounded xs runs.stands.tables b c (inl ((among_iff σ.labels b).0 ((and-iff (among σ.labels b) (among σ.labels c)).0 e).0))))
 
   -- role r is a senior of role q, or the same
   pub senior_answers : (r q : ℕ) {n figure : ℕ} → SeniorTo xs r q n figure
@@ -258,7 +257,7 @@ module _ {f : List ℕ} (accepted : Accepted f) (a : Start f) (store : List ℕ)
       test_passed 21 is_sound
       ∙ test_same (among (users_in xs) u) (among σ.users u) 25 (users_as u) (λ user.
       test_same (among (labels_in xs) l) (among σ.labels l) 25 (labels_as l) (λ label.
-      test_same (cleared xs u l) (at_least (compare σ.dominates (σ.clearance u) l)) 26
+      test_same (cleared xs u l) (σ.dominates (σ.clearance u) l) 26
       (cleared_by σ runs.bounded α t xs runs.stands u l ((among_iff σ.users u).0 user) ((among_iff σ.labels l).0 label)) (λ dominated. refl)))
 
   takable_role : (u l r : ℕ) → Among σ.users u → takable_in xs u l r ≡ takable_by σ α u l r

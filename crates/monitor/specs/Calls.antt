@@ -5,10 +5,8 @@ use Rattle.std.specs.Borrow.{Bor}
 use Rattle.std.specs.Int.Bits.{bit_or, bit_xor}
 use Rattle.search.specs.Search.{among}
 use Rattle.roleset.specs.Row.{role_byte, role_bit, member}
-use Rattle.order.specs.declared.compare.Comparison.{Comparison}
-use Rattle.order.specs.declared.compare.Comparison.TheVariants.{Equal, Above, Below, Neither}
 use Rattle.policy.specs.Tables.{readers_at, writers_at, flows_in, circle_in}
-use Rattle.monitor.specs.Session.{sound, labels_in, roles_in, users_in, cards_in, place_at, held_at, in_use, user_at, label_at, clearance_compared, entitled, fitting, gives}
+use Rattle.monitor.specs.Session.{sound, labels_in, roles_in, users_in, cards_in, place_at, held_at, in_use, user_at, label_at, cleared, entitled, fitting, gives}
 
 -- the number n unless the test holds; then what the tests after it say. Form has the same of verdicts; this one stays shut, so that a row of tests stays a row
 unfoldable pub unless : Bool → ℕ → ℕ → ℕ
@@ -33,14 +31,6 @@ at_session xs p rest =
 
 -- ---- open: "gives it a user and a label that the clearance dominates, and no roles"
 
--- by how the clearance compares with the label asked: "Number 26 stays for a label above the clearance", and "37, directly after 26, where neither dominates the other" (document 02,
--- change 8)
-abbrev pub clearance_number : Comparison → ℕ
-clearance_number Equal = 0
-clearance_number Above = 0
-clearance_number Below = 26
-clearance_number Neither = 37
-
 unfoldable pub open_number : List ℕ → ℕ → ℕ → ℕ → ℕ
 open_number xs p u l =
     unless (sound xs) 21
@@ -48,7 +38,8 @@ open_number xs p u l =
     (unless (not (in_use xs p)) 23
     (unless (among (users_in xs) u) 25
     (unless (among (labels_in xs) l) 25
-    (clearance_number (clearance_compared xs u l))))))
+    (unless (cleared xs u l) 26
+    0)))))
 
 -- the bytes of a place with a session that holds no role
 abbrev pub session_bytes : ℕ → ℕ → List ℕ

@@ -231,25 +231,6 @@ cases =
       expected = record { verdict = fine; rows = []; circle = some 1; flows = (1, 2, true) ∷ (2, 1, true) ∷ []; calls = [] };
     }
     ∷ record {
-      -- labels 2 and 3 of two makers, 1 under both and 4 over both, user 1 cleared to 2: at 4, "a label above the clearance", 26; at 3, "where neither dominates the other", 37 (document 02,
-      -- change 8); a place in use and a label that the file does not have come before both
-      file =
-          "H    4    0    1    0"
-          ∷ "D    2    1          "
-          ∷ "D    3    1          "
-          ∷ "D    4    2          "
-          ∷ "D    4    3          "
-          ∷ "U    1    2          "
-          ∷ [];
-      expected = record {
-        verdict = fine;
-        rows = [];
-        circle = none;
-        flows = [];
-        calls = (opens 1 1 4, 26) ∷ (opens 1 1 3, 37) ∷ (opens 1 1 2, 0) ∷ (opens 1 1 3, 23) ∷ (opens 2 1 5, 25) ∷ (opens 2 1 1, 0) ∷ [];
-      };
-    }
-    ∷ record {
       -- "D 1 1 in front: 11 at [1, 0]"
       file =
           "H    2    2    1    2"

@@ -1,10 +1,8 @@
 -- Demand 2's session half as properties: when a call is done, by the settings, the assignments at the load and the calls cs since. `done_iff` under proofs/ shows that these are exactly
--- the calls that the rules, and so the exported functions, answer with 0; and when the clearance alone bars an opening. Assumes nothing.
+-- the calls that the rules, and so the exported functions, answer with 0. Assumes nothing.
 use Rattle.std.specs.Prelude.{ℕ, ◌+◌, ◌*◌, ◌≤◌, ◌≡◌, List, [], ◌∷◌, ◌++◌, Bool, true, false, ◌&&◌, eqb, length}
 use Rattle.search.specs.Search.{Among}
-use Rattle.order.specs.declared.compare.Comparison.{Comparison}
 use Rattle.order.specs.Closure.{Relation}
-use Rattle.order.specs.Comparison.{compare, at_least, Compares}
 use Rattle.policy.specs.Settings.{Settings}
 use Rattle.policy.specs.Policy.{may}
 use Rattle.policy.specs.Accepted.{ReadsUnder, WritesOver}
@@ -49,16 +47,12 @@ Holds σ α cs p r = Since σ (begun α) p (λ q. eqb q r) (takes p r) cs
 abbrev pub assigned_by : Settings → Relation → List Call → Relation
 assigned_by σ α cs = (standing σ (begun α) cs).assigned
 
--- the place is one of the 64 and has no session, and user and label are in range
-pub record Openable (σ : Settings) (α : Relation) (cs : List Call) (p u l : ℕ) : Type 0 where
+pub record MayOpen (σ : Settings) (α : Relation) (cs : List Call) (p u l : ℕ) : Type 0 where
   pub place : Among 64 p
   pub free : (v m : ℕ) → OpenFor σ α cs p v m → ⊥
   pub user : Among σ.users u
   pub label : Among σ.labels l
-
-pub record MayOpen (σ : Settings) (α : Relation) (cs : List Call) (p u l : ℕ) : Type 0 where
-  pub openable : Openable σ α cs p u l
-  pub cleared : at_least (compare σ.dominates (σ.clearance u) l) ≡ true
+  pub cleared : σ.dominates (σ.clearance u) l ≡ true
 
 -- the place has a session
 pub record OpenPlace (σ : Settings) (α : Relation) (cs : List Call) (p : ℕ) : Type 0 where
@@ -92,9 +86,3 @@ Granted σ α size cs (takes p r) = MayTake σ α cs p r
 Granted σ α size cs (drops p r) = MayDrop σ α cs p r
 Granted σ α size cs (reads p o k n) = MayUse σ α cs 1 size p o k n
 Granted σ α size cs (writes p o k bytes) = MayUse σ α cs 2 size p o k (length bytes)
-
--- ---- an opening that nothing but the clearance bars: c is how the clearance compares with the label asked
-
-pub record Barred (σ : Settings) (α : Relation) (cs : List Call) (p u l : ℕ) (c : Comparison) : Type 0 where
-  pub openable : Openable σ α cs p u l
-  pub compares : Compares σ.dominates (σ.clearance u) l c

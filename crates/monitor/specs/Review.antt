@@ -7,7 +7,6 @@ use Rattle.search.specs.Search.{among}
 use Rattle.roleset.specs.Row.{member, row_of}
 use Rattle.roleset.specs.Set.{in_set, low_of, high_of}
 use Rattle.order.specs.Closure.{Relation}
-use Rattle.order.specs.Comparison.{compare, at_least}
 use Rattle.policy.specs.Settings.{Settings}
 use Rattle.policy.specs.Policy.{may}
 use Rattle.policy.specs.Tables.{byte_of, marked, clearances_at, card_labels_at, r_levels_at, w_levels_at, seniors_at, assigned_at, table_of}
@@ -54,7 +53,7 @@ LevelOf xs r m = Figured (review_number xs (among (roles_in xs) r && among 2 m))
 
 -- label a dominates label b
 abbrev pub Dominates : List ℕ → ℕ → ℕ → ℕ → ℕ → Type 0
-Dominates xs a b = Figured (review_number xs (among (labels_in xs) a && among (labels_in xs) b)) (cond (at_least (compare (marked xs) a b)) 1 0)
+Dominates xs a b = Figured (review_number xs (among (labels_in xs) a && among (labels_in xs) b)) (cond (marked xs a b) 1 0)
 
 -- role r is a senior of role q, or the same
 abbrev pub SeniorTo : List ℕ → ℕ → ℕ → ℕ → ℕ → Type 0
@@ -103,7 +102,7 @@ unfoldable pub takable_rule : Settings → ℕ → ℕ → ℕ
 takable_rule σ u l =
     unless (among σ.users u) 25
     (unless (among σ.labels l) 25
-    (unless (at_least (compare σ.dominates (σ.clearance u) l)) 26
+    (unless (σ.dominates (σ.clearance u) l) 26
     0))
 
 unfoldable pub takable_by : Settings → Relation → ℕ → ℕ → ℕ → Bool

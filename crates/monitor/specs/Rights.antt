@@ -4,7 +4,6 @@ use Rattle.std.specs.Prelude.{ℕ, ◌≡◌, List, [], Bool, ◌&&◌, cond, eq
 use Rattle.search.specs.Search.{among, some}
 use Rattle.roleset.specs.Row.{member, row_of}
 use Rattle.order.specs.Closure.{Relation}
-use Rattle.order.specs.Comparison.{compare, at_least}
 use Rattle.policy.specs.Settings.{Settings}
 use Rattle.policy.specs.Policy.{may}
 use Rattle.policy.specs.Tables.{table_of}
@@ -47,7 +46,7 @@ can_rule σ u l o m =
     (unless (among σ.labels l) 25
     (unless (among σ.cards o) 25
     (unless (among 2 m) 25
-    (unless (at_least (compare σ.dominates (σ.clearance u) l)) 26
+    (unless (σ.dominates (σ.clearance u) l) 26
     0))))
 
 -- a role that the user may take at the label may read (m = 1) or write (m = 2) the card

@@ -5,10 +5,9 @@ use Rattle.std.proofs.Math.Option.{Option, none, some, map}
 use Rattle.search.specs.Search as search
 use Rattle.search.specs.Search.{among}
 use Rattle.order.specs.Closure.{Relation}
-use Rattle.order.specs.Comparison.{compare, at_least}
 use Rattle.policy.specs.Settings.{Settings}
 use Rattle.policy.specs.Policy.{may, r_level, w_level, passes}
-use Rattle.monitor.specs.Calls.{unless, if_done, clearance_number}
+use Rattle.monitor.specs.Calls.{unless, if_done}
 use Rattle.monitor.specs.Runs.{Call, opens, closes, takes, drops, reads, writes}
 use Rattle.monitor.specs.Places.{Places, all_free, is_free, put}
 
@@ -56,7 +55,7 @@ entitled_by σ α u r = search.some σ.roles (λ q. α u q && σ.senior q r)
 
 -- "the session's label dominates its r-level, and its w-level dominates the session's label"
 unfoldable pub fitting_by : Settings → ℕ → ℕ → Bool
-fitting_by σ l r = passes (λ a. at_least (compare σ.dominates l a)) (r_level σ r) && passes (λ a. at_least (compare σ.dominates a l)) (w_level σ r)
+fitting_by σ l r = passes (σ.dominates l) (r_level σ r) && passes (λ a. σ.dominates a l) (w_level σ r)
 
 -- "A session may use the permissions of all roles it holds, inherited ones included": to read (m = 1) or write (m = 2) card o
 unfoldable pub gives_by : Settings → ℕ → Session → ℕ → Bool
@@ -70,7 +69,8 @@ open_rule σ t p u l =
     (unless (is_free (t p)) 23
     (unless (among σ.users u) 25
     (unless (among σ.labels l) 25
-    (clearance_number (compare σ.dominates (σ.clearance u) l)))))
+    (unless (σ.dominates (σ.clearance u) l) 26
+    0))))
 
 unfoldable pub close_rule : Sessions → ℕ → ℕ
 close_rule t p = at_session_by t p (λ s. 0)

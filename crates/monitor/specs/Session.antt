@@ -1,8 +1,6 @@
 -- The places of a state, and what the calls read of a state. Every accessor is total: a byte past the end is 0. Assumes nothing.
 use Rattle.std.specs.Prelude.{ℕ, ◌+◌, ◌*◌, ◌-◌, List, Bool, ◌&&◌, eqb, get_or}
 use Rattle.roleset.specs.Row.{row_of, common}
-use Rattle.order.specs.declared.compare.Comparison.{Comparison}
-use Rattle.order.specs.Comparison.{compare, at_least}
 use Rattle.rolefile.specs.Form.{within_limits}
 use Rattle.policy.specs.Tables.{label_count_at, role_count_at, user_count_at, card_count_at, word, byte_of, marked, is_state, passes_in, clearances_at, r_levels_at, w_levels_at, seniors_at, assigned_at}
 
@@ -46,13 +44,9 @@ held_at p = place_at p + 4
 
 -- ---- what the rules ask
 
--- how the clearance of user u compares with label l
-unfoldable pub clearance_compared : List ℕ → ℕ → ℕ → Comparison
-clearance_compared xs u l = compare (marked xs) (byte_of xs clearances_at u) l
-
 -- "a label that the clearance dominates"
 unfoldable pub cleared : List ℕ → ℕ → ℕ → Bool
-cleared xs u l = at_least (clearance_compared xs u l)
+cleared xs u l = marked xs (byte_of xs clearances_at u) l
 
 -- "the user is assigned to it or to a senior of it"
 unfoldable pub entitled : List ℕ → ℕ → ℕ → Bool

@@ -78,7 +78,7 @@ pub extern "C" fn monitor_load(file: &[u8], state: &mut [u8]) -> LoadAnswer
     }
 }
 
-// Opens a place for a user at a label: 21, 22, 23, 25, 26, 37.
+// Opens a place for a user at a label: 21, 22, 23, 25, 26.
 #[unsafe(no_mangle)]
 pub extern "C" fn monitor_open(state: &mut [u8], place: u64, user: u64, label: u64) -> u64
     ensures { Opens state.old place user label result state.new }

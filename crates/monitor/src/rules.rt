@@ -6,27 +6,18 @@ ghost use Rattle.policy.specs.Tables as tables;
 ghost use Rattle.monitor.specs.Session as session;
 
 use super::state;
-use order::compare::Comparison;
 use policy::{layout, tables};
 use roleset::ROW_BYTES;
 
 // The bytes of a card of the store.
 pub const CARD_BYTES: u64 = 64;
 
-// How the user's clearance compares with the label.
-pub fn clearance_compared(s: &[u8], user: u64, label: u64) -> Comparison
-    requires { Among 256 user }
-    ensures { result ≡ session.clearance_compared s.now user label }
-{
-    tables::compare(s, state::byte_of(s, layout::CLEARANCES_AT, user), label)
-}
-
 // Whether the user's clearance dominates the label.
 pub fn cleared(s: &[u8], user: u64, label: u64) -> bool
     requires { Among 256 user }
     ensures { result ≡ session.cleared s.now user label }
 {
-    order::compare::at_least(clearance_compared(s, user, label))
+    tables::dominates(s, state::byte_of(s, layout::CLEARANCES_AT, user), label)
 }
 
 // Whether the user is assigned to the role or to a senior of it.

@@ -1,9 +1,8 @@
 // Sessions: opening and closing a place, taking and dropping a role.
 ghost use Rattle.std.specs.Prelude.{◌≡◌, ◌+◌, ◌≤◌, length};
-ghost use Rattle.monitor.specs.Calls.{written, clearance_number, open_number, opened, Opens, close_number, closed, Closes, take_number, taken, Takes, drop_number, dropped, Drops};
+ghost use Rattle.monitor.specs.Calls.{written, open_number, opened, Opens, close_number, closed, Closes, take_number, taken, Takes, drop_number, dropped, Drops};
 
 use super::{rules, state};
-use order::compare::Comparison;
 use policy::layout;
 
 // Puts the bytes of b into s, from `at` on.
@@ -15,18 +14,6 @@ pub fn put(s: &mut [u8], at: usize, b: &[u8])
     while i < b.len() {
         s[at + i] = b[i];
         i += 1;
-    }
-}
-
-// The number that an opening gets by how the clearance compares with the label asked.
-fn clearance_number(c: Comparison) -> u64
-    ensures { result ≡ clearance_number c }
-{
-    match c {
-        Comparison::Equal => 0,
-        Comparison::Above => 0,
-        Comparison::Below => 26,
-        Comparison::Neither => 37,
     }
 }
 
@@ -49,7 +36,10 @@ fn open_number(s: &[u8], place: u64, user: u64, label: u64) -> u64
     if !state::within_count(s, layout::LABEL_COUNT_AT, label) {
         return 25;
     }
-    clearance_number(rules::clearance_compared(s, user, label))
+    if !rules::cleared(s, user, label) {
+        return 26;
+    }
+    0
 }
 
 // Puts a session at a place: a user, a label and no roles.

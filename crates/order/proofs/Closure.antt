@@ -14,11 +14,6 @@ use Rattle.order.specs.Table.{Rows}
 use Rattle.order.specs.Bound.{converse}
 use Rattle.order.specs.Closure.{Relation, Agree, via, path, closure, to_itself, loop, circle, Reach, here, step, HasPath, OnCircle, PartialOrder, Irreflexive, round}
 
--- an order that may have circles
-pub record Preorder (n : ℕ) (ge : Relation) : Type 0 where
-  pub reflexive : (a : ℕ) → Among n a → ge a a ≡ true
-  pub transitive : (a b c : ℕ) → Among n a → Among n b → Among n c → ge a b ≡ true → ge b c ≡ true → ge a c ≡ true
-
 -- a path past one thing more: one that was there, or two that meet in it
 pub ways : (e : Relation) (k a b : ℕ)
     → (via e (suc k) a b ≡ true) ↔ ((via e k a b ≡ true) ⊎ ((via e k a (suc k) ≡ true) × (via e k (suc k) b ≡ true)))
@@ -97,12 +92,11 @@ module _ (e : Relation) where
     pub circle_misses : (a : ℕ) → Among n a → (path n e a a ≡ false) ↔ (OnCircle n e a → ⊥)
     circle_misses a w = other_iff false (path_iff a a w)
 
-    -- a closure is reflexive and transitive, with circles too
-    pub closure_preorder : Preorder n (closure n e)
-    closure_preorder = record {
-      reflexive = λ a w. (closure_iff a a w).1 here;
-      transitive = λ a b c u v w p q. (closure_iff a c w).1 (onward ((closure_iff a b v).0 p) ((closure_iff b c w).0 q));
-    }
+    closure_reflexive : (a : ℕ) → Among n a → closure n e a a ≡ true
+    closure_reflexive a w = (closure_iff a a w).1 here
+
+    closure_transitive : (a b c : ℕ) → Among n b → Among n c → closure n e a b ≡ true → closure n e b c ≡ true → closure n e a c ≡ true
+    closure_transitive a b c v w p q = (closure_iff a c w).1 (onward ((closure_iff a b v).0 p) ((closure_iff b c w).0 q))
 
     closure_step : (a b : ℕ) → Among n b → e a b ≡ true → closure n e a b ≡ true
     closure_step a b w p = (closure_iff a b w).1 (step p w here)
@@ -114,8 +108,8 @@ module _ (e : Relation) where
         to : None (to_itself (path n e)) n → PartialOrder n (closure n e) × Irreflexive n e
         to none = (
           record {
-            reflexive = closure_preorder.reflexive;
-            transitive = closure_preorder.transitive;
+            reflexive = closure_reflexive;
+            transitive = λ a b c u v w p q. closure_transitive a b c v w p q;
             antisymmetric = λ a b v w p q. ⊎_elim
                 (λ i. i)
                 (λ r. ⊎_elim (λ i. sym i) (λ s. absurd (both (meeting n a b a w r s) (none a v))) ((same_or_path b a).0 q))

@@ -1,5 +1,4 @@
 pub mod Closure
-pub mod Compared
 pub mod Bound
 pub mod Lattice
 pub mod Left

@@ -1,5 +1,4 @@
 pub mod Closure
-pub mod Comparison
 pub mod Bound
 pub mod Table
 pub mod inner

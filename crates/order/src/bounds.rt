@@ -8,7 +8,7 @@ ghost use Rattle.search.specs.Search.{some, every, implies};
 ghost use Rattle.order.specs.Closure.{Agree};
 ghost use Rattle.order.specs.Bound.{upper, least_of, converse, partner_without_bound, FirstWithoutBound};
 ghost use Rattle.order.specs.Table.{marks, mark};
-ghost use Rattle.order.specs.inner.Members.{holds, Has, FirstThings, row_holds};
+ghost use Rattle.order.specs.inner.Members.{holds, Has, FirstThings, row_holds, in_row};
 
 use super::marks;
 use super::marks::{Set, THINGS, Table};
@@ -108,11 +108,28 @@ pub fn columns(t: &Table, n: usize) -> MemberRows
     r
 }
 
+// The row of thing a, empty where it is none of the 32.
+pub fn row(t: &MemberRows, a: usize) -> Members
+    ensures { Has (in_row t.now a) result }
+{
+    if !search::among(THINGS as u64, a as u64) {
+        return 0;
+    }
+    t[a - 1]
+}
+
 // Whether the set has a thing.
 pub fn any(s: Members) -> bool
     ensures { result ≡ some 32 (holds s) }
 {
     s != 0
+}
+
+// Whether some thing is in all three sets.
+pub fn meet(s: Members, t: Members, u: Members) -> bool
+    ensures { result ≡ some 32 (λ a. holds s a && (holds t a && holds u a)) }
+{
+    s & (t & u) != 0
 }
 
 // Whether all of s is in t.

@@ -104,7 +104,7 @@ module _ (σ : Settings) (o : PartialOrder σ.labels σ.dominates) (inside : Ins
       unless_decides (reads_under_iff σ o (σ.clearance u) r) (refusal 15 u r) (omega arith) (λ p.
       test_decides (within_iff σ o u r) (refusal 16 u r) (omega arith)))) (
         λ (d, (p, q)). q,
-        λ q. (passing_bounded σ.labels (converse σ.dominates) (may_at σ 2 r) _ q.1.writes, (clearance_reads σ o u r inside q, q)),
+        λ q. (passing_bounded σ.labels (converse σ.dominates) (may_at σ 2 r) (λ l. σ.dominates l q.0) q.1.writes, (clearance_reads σ o u r inside q, q)),
       )
       (λ v. (to v, λ (n, b, e). of b v e))
     where
@@ -136,7 +136,7 @@ pub assign_clean : (σ : Settings) (u r : ℕ) → Clean (assign_verdict σ u r)
 unfolding assign_verdict
 assign_clean σ u r =
     unless_clean (is_defined (w_level σ r)) (refusal 14 u r) (omega arith)
-    (unless_clean (passes _ (r_level σ r)) (refusal 15 u r) (omega arith)
+    (unless_clean (passes (λ l. σ.dominates (σ.clearance u) l) (r_level σ r)) (refusal 15 u r) (omega arith)
     (unless_clean (some σ.labels (serves σ u r)) (refusal 16 u r) (omega arith) (λ e. refl)))
 
 pub assignment_clean : (f : List ℕ) (i : ℕ) → Clean (assignment_verdict f i)

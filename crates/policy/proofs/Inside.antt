@@ -7,14 +7,14 @@ use mathlib.Core.Bool.{true}
 use native.Mathlib.Omega.{arith}
 use Rattle.search.specs.Search.{Among}
 use Rattle.order.specs.Closure.{Relation, via, closure}
-use Rattle.order.proofs.Closure.{Preorder, ways, same_or_path, closure_preorder}
-use Rattle.rolefile.specs.Line.{H, D, S, U, O, line_at, lines}
+use Rattle.order.proofs.Closure.{ways, same_or_path}
+use Rattle.rolefile.specs.Line.{H, D, S, O, line_at, lines}
 use Rattle.rolefile.specs.Form.{header, first_limit, second_limit, about}
-use Rattle.rolefile.specs.Said.{labels, roles, users, says, over, above, label_by, clearance, card_label}
+use Rattle.rolefile.specs.Said.{labels, roles, users, says, over, above, label_by, card_label}
 use Rattle.rolefile.specs.WellFormed.{One, GoodLines, WellFormed}
 use Rattle.rolefile.proofs.Formed.{header_counts}
 use Rattle.policy.specs.Settings.{dominates, senior, settings, Inside, Bounded}
-use Rattle.policy.proofs.Readying.{numbers_known, limits_d, limits_s, limits_u, limits_o}
+use Rattle.policy.proofs.Readying.{numbers_known, limits_d, limits_s, limits_o}
 use Rattle.policy.proofs.Said.{says_iff, last_of, about_iff}
 
 -- a relation between the things 1 to n alone
@@ -55,9 +55,6 @@ module _ (f : List ℕ) (good : GoodLines f) where
   pub card_label_known : (o : ℕ) → One f O o → Among (labels f) (card_label f o)
   card_label_known o one = rw (limits_o (header f)).1 at (label_known O o (omega arith) one)
 
-  pub clearance_known : (u : ℕ) → One f U u → Among (labels f) (clearance f u)
-  clearance_known u one = rw (limits_u (header f)).1 at (label_known U u (omega arith) one)
-
   pub dominates_inside : Inside (labels f) (dominates f)
   unfolding dominates
   dominates_inside = closure_between (labels f) (over f) over_between
@@ -65,10 +62,6 @@ module _ (f : List ℕ) (good : GoodLines f) where
   pub senior_inside : Inside (roles f) (senior f)
   unfolding senior
   senior_inside = closure_between (roles f) (above f) above_between
-
-pub dominates_preorder : (f : List ℕ) → Preorder (labels f) (dominates f)
-unfolding dominates
-dominates_preorder f = closure_preorder (over f) (labels f)
 
 pub file_bounded : (f : List ℕ) → WellFormed f → Bounded (settings f)
 file_bounded f form = let c = header_counts f form.sized form.good in record {

@@ -1,6 +1,6 @@
 -- A label that serves a user in a role serves the user in each of its juniors, and a clearance that lies between the levels is itself a label that serves. Assumes nothing.
 use Prim.Native.Nat.{ℕ}
-use mathlib.Core.Path.{◌≡◌, refl, ◌∙◌}
+use mathlib.Core.Path.{◌≡◌, refl}
 use mathlib.Core.Logic.{inl, inr, ⊎_elim}
 use mathlib.Core.Bool.{Bool, true, false}
 use lib.Dec.{eqb}
@@ -9,35 +9,31 @@ use Rattle.search.proofs.Truth.{other_iff}
 use Rattle.search.proofs.Found.{some_iff, some_both}
 use Rattle.order.specs.Closure.{Relation, PartialOrder}
 use Rattle.order.specs.Bound.{converse, Upper, IsLub}
-use Rattle.order.specs.Comparison.{compare, at_least}
-use Rattle.order.proofs.Compared.{at_least_lem, at_least_has}
 use Rattle.order.proofs.Lattice.{lub_of_set, glb_iff_lower}
 use Rattle.policy.specs.Settings.{Settings}
 use Rattle.policy.specs.Policy.{may, may_at}
 use Rattle.policy.specs.Accepted.{Passing, ReadsUnder, WritesOver, Serves, WithinLevels, Lawful}
+use Rattle.policy.proofs.Levels.{converse_order}
 
--- a level of fewer labels passes a test wherever that of more does, if a set with a bound has a least one and the test holds of what is under a label of which it does
-module _ (n : ℕ) (ge : Relation) (s t : ℕ → Bool) (fewer : (x : ℕ) → Among n x → s x ≡ true → t x ≡ true)
-    (bound : (x : ℕ) → Among n x → s x ≡ true → (d : ℕ) → Among n d → Upper n ge s d → (c : ℕ) × IsLub n ge s c) where
-  fewer_pass : (p : ℕ → Bool) → ((d c : ℕ) → Among n d → Among n c → ge d c ≡ true → p d ≡ true → p c ≡ true) → Passing n ge t p → Passing n ge s p
-  fewer_pass p under h = go (some n s) refl
+-- a level of fewer labels passes wherever that of more does, if a set with a bound has a least one
+module _ (n : ℕ) (ge : Relation) (o : PartialOrder n ge) (s t : ℕ → Bool) (fewer : (x : ℕ) → Among n x → s x ≡ true → t x ≡ true)
+    (bound : (x : ℕ) → Among n x → s x ≡ true → (d : ℕ) → Among n d → Upper n ge s d → (c : ℕ) × IsLub n ge s c) (y : ℕ) (known : Among n y) where
+  fewer_pass : Passing n ge t (ge y) → Passing n ge s (ge y)
+  fewer_pass h = go (some n s) refl
     where
-      go : (b : Bool) → some n s ≡ b → Passing n ge s p
+      go : (b : Bool) → some n s ≡ b → Passing n ge s (ge y)
       go false e = inl ((other_iff false (some_iff s n)).0 e)
       go true e =
-          let (x, w, q) = (some_iff s n).0 e in
+          let (x, w, p) = (some_iff s n).0 e in
           ⊎_elim
-          (λ none. absurd (none (x, w, fewer x w q)))
-          (λ (d, b, r).
+          (λ none. absurd (none (x, w, fewer x w p)))
+          (λ (d, b, q).
           let over : Upper n ge s d = λ z v i. b.over z v (fewer z v i) in
-          let (c, l) = bound x w q d b.inside over in
-          inr (c, l, under d c b.inside l.inside (l.least d b.inside over) r))
+          let (c, l) = bound x w p d b.inside over in
+          inr (c, l, o.transitive y d c known b.inside l.inside q (l.least d b.inside over)))
           h
 
 module _ (σ : Settings) (lawful : Lawful σ) where
-  order : PartialOrder σ.labels (λ a b. at_least (compare σ.dominates a b))
-  order = at_least_has (PartialOrder σ.labels) lawful.dominance
-
   module _ (q r : ℕ) (senior : Among σ.roles q) (junior : Among σ.roles r) (over : σ.senior q r ≡ true) where
     -- what a junior may do, its senior may
     pub junior_may : (m o : ℕ) → may σ m r o ≡ true → may σ m q o ≡ true
@@ -57,15 +53,13 @@ module _ (σ : Settings) (lawful : Lawful σ) where
       label = s.label;
       cleared = s.cleared;
       reads =
-          fewer_pass σ.labels σ.dominates (may_at σ 1 r) (may_at σ 1 q) (λ l w. junior_may_at 1 l)
-          (λ x w p d v up. lub_of_set σ.labels σ.dominates lawful.dominance lawful.joins (may_at σ 1 r) x w p)
-          (λ c. at_least (compare σ.dominates y c)) (λ d c v w p e. order.transitive y d c s.label v w e (at_least_lem σ.dominates d c ∙ p)) s.reads;
+          fewer_pass σ.labels σ.dominates lawful.dominance (may_at σ 1 r) (may_at σ 1 q) (λ l w. junior_may_at 1 l)
+          (λ x w p d v up. lub_of_set σ.labels σ.dominates lawful.dominance lawful.joins (may_at σ 1 r) x w p) y s.label s.reads;
       writes =
-          fewer_pass σ.labels (converse σ.dominates) (may_at σ 2 r) (may_at σ 2 q) (λ l w. junior_may_at 2 l)
-          (λ x w p d v low. (glb_iff_lower σ.labels σ.dominates lawful.dominance lawful.joins (may_at σ 2 r)).1 (d, v, low))
-          (λ c. at_least (compare σ.dominates c y)) (λ d c v w p e. order.transitive c d y w v s.label (at_least_lem σ.dominates c d ∙ p) e) s.writes;
+          fewer_pass σ.labels (converse σ.dominates) (converse_order lawful.dominance) (may_at σ 2 r) (may_at σ 2 q) (λ l w. junior_may_at 2 l)
+          (λ x w p d v low. (glb_iff_lower σ.labels σ.dominates lawful.dominance lawful.joins (may_at σ 2 r)).1 (d, v, low)) y s.label s.writes;
     }
 
   -- 003, Theorem 3: what it asks of an assignment is enough
   pub theorem_3_within : (u r : ℕ) → Among σ.labels (σ.clearance u) → ReadsUnder σ (σ.clearance u) r → WritesOver σ (σ.clearance u) r → WithinLevels σ u r
-  theorem_3_within u r w reads writes = (σ.clearance u, record { label = w; cleared = order.reflexive (σ.clearance u) w; reads = reads; writes = writes })
+  theorem_3_within u r w reads writes = (σ.clearance u, record { label = w; cleared = lawful.dominance.reflexive (σ.clearance u) w; reads = reads; writes = writes })

@@ -11,16 +11,14 @@ use Rattle.search.proofs.Truth.{and_both, other_iff}
 use Rattle.search.proofs.Found.{some_iff}
 use Rattle.order.specs.Closure.{Relation, PartialOrder}
 use Rattle.order.specs.Bound.{lub, converse, IsLub}
-use Rattle.order.specs.Comparison.{compare, at_least}
 use Rattle.order.proofs.Bound.{lub_none, lub_is, lub_iff}
-use Rattle.order.proofs.Compared.{at_least_has}
 use Rattle.policy.specs.Policy.{Level, Free, Label, Undefined}
 use Rattle.policy.specs.Settings.{Inside, Settings}
 use Rattle.policy.specs.Policy.{may_at, level_at, level, r_level, w_level, passes, is_defined}
 use Rattle.policy.specs.Verdict.{serves}
 use Rattle.policy.specs.Accepted.{Some, UndefinedLevel, Passing, ReadsUnder, WritesOver, WithinLevels}
 
-converse_order : {n : ℕ} {ge : Relation} → PartialOrder n ge → PartialOrder n (converse ge)
+pub converse_order : {n : ℕ} {ge : Relation} → PartialOrder n ge → PartialOrder n (converse ge)
 converse_order o = record {
   reflexive = o.reflexive;
   transitive = λ a b c u v w p q. o.transitive c b a w v u q p;
@@ -92,17 +90,17 @@ module _ (n : ℕ) (ge : Relation) (s : ℕ → Bool) where
 
 -- a role's level limits at label l, by its levels
 module _ (σ : Settings) (o : PartialOrder σ.labels σ.dominates) (l r : ℕ) where
-  pub reads_under_iff : (passes (λ a. at_least (compare σ.dominates l a)) (r_level σ r) ≡ true) ↔ ReadsUnder σ l r
+  pub reads_under_iff : (passes (σ.dominates l) (r_level σ r) ≡ true) ↔ ReadsUnder σ l r
   unfolding r_level
-  reads_under_iff = passes_iff σ.labels σ.dominates (may_at σ 1 r) o (λ a. at_least (compare σ.dominates l a))
+  reads_under_iff = passes_iff σ.labels σ.dominates (may_at σ 1 r) o (σ.dominates l)
 
-  pub writes_over_iff : (passes (λ a. at_least (compare σ.dominates a l)) (w_level σ r) ≡ true) ↔ WritesOver σ l r
+  pub writes_over_iff : (passes (λ a. σ.dominates a l) (w_level σ r) ≡ true) ↔ WritesOver σ l r
   unfolding w_level
-  writes_over_iff = passes_iff σ.labels (converse σ.dominates) (may_at σ 2 r) (converse_order o) (λ a. at_least (compare σ.dominates a l))
+  writes_over_iff = passes_iff σ.labels (converse σ.dominates) (may_at σ 2 r) (converse_order o) (λ a. σ.dominates a l)
 
 -- the labels that serve an assignment
 module _ (σ : Settings) (o : PartialOrder σ.labels σ.dominates) (u r : ℕ) where
-  serves_iff : (y : ℕ) → (serves σ u r y ≡ true) ↔ ((at_least (compare σ.dominates (σ.clearance u) y) ≡ true) × (ReadsUnder σ y r × WritesOver σ y r))
+  serves_iff : (y : ℕ) → (serves σ u r y ≡ true) ↔ ((σ.dominates (σ.clearance u) y ≡ true) × (ReadsUnder σ y r × WritesOver σ y r))
   serves_iff y = and_both (λ e. e, λ e. e) (and_both (reads_under_iff σ o y r) (writes_over_iff σ o y r))
 
   pub within_iff : (some σ.labels (serves σ u r) ≡ true) ↔ WithinLevels σ u r
@@ -113,8 +111,7 @@ module _ (σ : Settings) (o : PartialOrder σ.labels σ.dominates) (u r : ℕ) w
 
   -- where one does, the clearance dominates the r-level
   pub clearance_reads : Inside σ.labels σ.dominates → WithinLevels σ u r → ReadsUnder σ (σ.clearance u) r
-  clearance_reads inside (y, s) =
-      ⊎_elim inl (λ (c, b, e). inr (c, b, (at_least_has (PartialOrder σ.labels) o).transitive (σ.clearance u) y c known s.label b.inside s.cleared e)) s.reads
+  clearance_reads inside (y, s) = ⊎_elim inl (λ (c, b, e). inr (c, b, o.transitive (σ.clearance u) y c known s.label b.inside s.cleared e)) s.reads
     where
       known : Among σ.labels (σ.clearance u)
-      known = ⊎_elim (λ i. rw i s.label) (λ (v, w). v) (at_least_has (Inside σ.labels) inside (σ.clearance u) y s.cleared)
+      known = ⊎_elim (λ i. rw i s.label) (λ (v, w). v) (inside (σ.clearance u) y s.cleared)

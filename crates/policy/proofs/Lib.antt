@@ -13,7 +13,6 @@ pub mod Ranks
 pub mod Finishes
 pub mod Said
 pub mod Inside
-pub mod Comparing
 pub mod Closing
 pub mod Granting
 pub mod Labelling

@@ -11,15 +11,15 @@ use borrow.Author.Tests.{eq-eqb}
 use Rattle.search.specs.Search.{Among}
 use Rattle.search.proofs.Found.{wider, some_agree, first_none_of, first_lowest_of}
 use Rattle.order.specs.Closure.{Agree, path, OnCircle, to_itself}
-use Rattle.order.specs.Comparison.{compare}
 use Rattle.order.proofs.Closure.{path_iff, circle_misses, circle_agree}
-use Rattle.policy.specs.Settings.{Bounded, Settings}
+use Rattle.rolefile.specs.Said.{labels, roles, users, cards}
+use Rattle.policy.specs.Settings.{Bounded, Settings, dominates}
 use Rattle.policy.specs.Policy.{may}
 use Rattle.policy.specs.Flow.{flows, flow_circle}
 use Rattle.policy.specs.Tables.{state_size, marked, flows_by_card, flowing, roles_up_to, cards_up_to, role_count, flows_in, circle_in}
 use Rattle.policy.specs.Accepted.{LowestOnCircle}
 use Rattle.policy.specs.Image.{Describes}
-use Rattle.policy.proofs.Assigning.{compare_is}
+use Rattle.policy.proofs.Assigning.{marked_is}
 use Rattle.policy.proofs.Flowing.{a_state}
 
 module _ (σ : Settings) (bounded : Bounded σ) where
@@ -33,8 +33,8 @@ module _ (σ : Settings) (bounded : Bounded σ) where
   card_few o w = wider σ.cards 512 bounded.cards w
 
   module _ (xs : List ℕ) (tables : Describes σ xs) where
-    pub compare_by : (a b : ℕ) → Among σ.labels a ⊎ Among σ.labels b → compare (marked xs) a b ≡ compare σ.dominates a b
-    compare_by = compare_is σ xs bounded.labels.1 bounded.dominance tables.dominating
+    pub marked_by : (a b : ℕ) → Among σ.labels a ⊎ Among σ.labels b → marked xs a b ≡ σ.dominates a b
+    marked_by = marked_is σ xs bounded.labels.1 bounded.dominance tables.dominating
 
     -- ---- "Role flow"
 

@@ -4,7 +4,6 @@ use Rattle.std.specs.Prelude.{ℕ, ◌<◌, ◌≡◌, ◌⊎◌, List, Bool, tr
 use Rattle.search.specs.Search.{Among, LowestOf}
 use Rattle.order.specs.Closure.{Relation, OnCircle, PartialOrder, Irreflexive}
 use Rattle.order.specs.Bound.{converse, IsLub, AllJoined, FirstPair}
-use Rattle.order.specs.Comparison.{compare, at_least}
 use Rattle.rolefile.specs.declared.Verdict.{Verdict}
 use Rattle.rolefile.specs.Line.{U, O, A, line_at, lines}
 use Rattle.rolefile.specs.Form.{fine, refusal}
@@ -29,11 +28,11 @@ Passing n ge s p = (Some n s → ⊥) ⊎ ((c : ℕ) × IsLub n ge s c × (p c �
 
 -- label l dominates the r-level of r: a bound of the labels read
 abbrev pub ReadsUnder : Settings → ℕ → ℕ → Type 0
-ReadsUnder σ l r = Passing σ.labels σ.dominates (may_at σ 1 r) (λ c. at_least (compare σ.dominates l c))
+ReadsUnder σ l r = Passing σ.labels σ.dominates (may_at σ 1 r) (σ.dominates l)
 
 -- the w-level of r dominates label l: a bound of the labels written, in the order turned round
 abbrev pub WritesOver : Settings → ℕ → ℕ → Type 0
-WritesOver σ l r = Passing σ.labels (converse σ.dominates) (may_at σ 2 r) (λ c. at_least (compare σ.dominates c l))
+WritesOver σ l r = Passing σ.labels (converse σ.dominates) (may_at σ 2 r) (λ c. σ.dominates c l)
 
 -- 14: an undefined w-level: there are writes and no greatest lower bound
 abbrev pub NoWriteLevel : Settings → ℕ → Type 0
@@ -42,7 +41,7 @@ NoWriteLevel σ r = UndefinedLevel σ.labels (converse σ.dominates) (may_at σ 
 -- label y is "dominated by the clearance" of user u and "lies at or above the r-level and at or below the w-level" of role r, "free levels passing" (document 02, change 1)
 pub record Serves (σ : Settings) (u r y : ℕ) : Type 0 where
   pub label : Among σ.labels y
-  pub cleared : at_least (compare σ.dominates (σ.clearance u) y) ≡ true
+  pub cleared : σ.dominates (σ.clearance u) y ≡ true
   pub reads : ReadsUnder σ y r
   pub writes : WritesOver σ y r
 

@@ -3,7 +3,6 @@ use Rattle.std.specs.Prelude.{ℕ, ◌+◌, ◌*◌, ◌-◌, min, List, Bool, n
 use Rattle.search.specs.Search.{among, some}
 use Rattle.roleset.specs.Row.{member, row_of}
 use Rattle.order.specs.Closure.{Relation, circle}
-use Rattle.order.specs.Comparison.{compare, at_least}
 
 -- ---- where the counts and the tables start
 
@@ -121,4 +120,4 @@ circle_in xs = cond (is_state xs) (circle (roles_up_to xs) (flowing xs (cards_up
 
 -- label a dominates label b, one of which is a level: 0, a free one, always passes; 99, an undefined one, is no label and never does
 abbrev pub passes_in : List ℕ → ℕ → ℕ → ℕ → Bool
-passes_in xs level a b = eqb level 0 || at_least (compare (marked xs) a b)
+passes_in xs level a b = eqb level 0 || marked xs a b

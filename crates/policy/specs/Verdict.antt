@@ -3,7 +3,6 @@ use Rattle.std.specs.Prelude.{ℕ, List, Bool, ◌&&◌, cond, eqb}
 use Rattle.search.specs.Search.{some}
 use Rattle.order.specs.Closure.{Relation, path, loop}
 use Rattle.order.specs.Bound.{lowest_without_bound, partner_without_bound}
-use Rattle.order.specs.Comparison.{compare, at_least}
 use Rattle.rolefile.specs.declared.Verdict.{Verdict}
 use Rattle.rolefile.specs.Line.{A, line_at, lines}
 use Rattle.rolefile.specs.Form.{fine, refusal, unless, ◌then◌, scan, found, form_verdict}
@@ -31,15 +30,13 @@ role_verdict f = circle_verdict 13 (roles f) (path (roles f) (above f))
 
 -- label y is "dominated by the clearance" of user u and "lies at or above the r-level and at or below the w-level" of role r, "free levels passing" (document 02, change 1)
 abbrev pub serves : Settings → ℕ → ℕ → ℕ → Bool
-serves σ u r y =
-    at_least (compare σ.dominates (σ.clearance u) y)
-    && (passes (λ l. at_least (compare σ.dominates y l)) (r_level σ r) && passes (λ l. at_least (compare σ.dominates l y)) (w_level σ r))
+serves σ u r y = σ.dominates (σ.clearance u) y && (passes (λ l. σ.dominates y l) (r_level σ r) && passes (λ l. σ.dominates l y) (w_level σ r))
 
 -- 14 to 16, of the assignment of user u to role r: "the w-level must not be undefined, the clearance must dominate the r-level", and some label must serve
 unfoldable pub assign_verdict : Settings → ℕ → ℕ → Verdict
 assign_verdict σ u r =
     unless (is_defined (w_level σ r)) (refusal 14 u r)
-    (unless (passes (λ l. at_least (compare σ.dominates (σ.clearance u) l)) (r_level σ r)) (refusal 15 u r)
+    (unless (passes (λ l. σ.dominates (σ.clearance u) l) (r_level σ r)) (refusal 15 u r)
     (unless (some σ.labels (serves σ u r)) (refusal 16 u r) fine))
 
 -- of line i, where it is an assignment

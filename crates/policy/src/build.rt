@@ -145,14 +145,21 @@ fn grant_all(
     gather::put_levels(s, &g, under, over, h.a as usize, h.b as usize);
 }
 
-// 14 to 16, by the tables in the state.
-fn check_assignments(f: &[u8], s: &[u8], q: Parts, h: Line) -> Verdict
-    requires { Ready f.now q h × (state_size ≤ length s.now) × Labelled (settings f.now) s.now × Dominating (settings f.now) s.now × Levelled (settings f.now) s.now }
+// 14 to 16, by the tables in the state and the rows of dominance.
+fn check_assignments(
+    f: &[u8],
+    s: &[u8],
+    q: Parts,
+    h: Line,
+    under: &MemberRows,
+    over: &MemberRows,
+) -> Verdict
+    requires { Ready f.now q h × (state_size ≤ length s.now) × Labelled (settings f.now) s.now × Dominating (settings f.now) s.now × Levelled (settings f.now) s.now × Closed f.now (row_holds under.now) × Closed f.now (converse (row_holds over.now)) }
     ensures { result ≡ scan (lines f.now) (assignment_verdict f.now) }
 {
     let a = q.a;
     let p = read::part(f, a.start);
-    assign::assign_lines(s, h.a, p, a.count)
+    assign::assign_lines(s, under, over, p, a.count)
 }
 
 // The lower and the upper byte of a count at `at`.
@@ -216,7 +223,7 @@ pub fn build(f: &[u8], s: &mut [u8]) -> Verdict
     let under = order::bounds::rows(&down, n);
     let over = order::bounds::columns(&down, n);
     grant_all(f, s, q, h, &down, &under, &over);
-    let v = check_assignments(f, s, q, h);
+    let v = check_assignments(f, s, q, h, &under, &over);
     if v.number != 0 {
         return v;
     }

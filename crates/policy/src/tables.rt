@@ -1,11 +1,9 @@
 // How the tables of a state are read. Every function takes any slice; a byte past its end reads
 // as 0.
 ghost use Rattle.std.specs.Prelude.{◌≡◌, ◌<◌, get_or};
-ghost use Rattle.order.specs.Comparison.{compare, at_least};
 ghost use Rattle.policy.specs.Tables.{word, marked, passes_in};
 
 use super::layout;
-use order::compare::Comparison;
 
 // The byte at i.
 pub fn byte(s: &[u8], i: usize) -> u8
@@ -22,8 +20,8 @@ pub fn word(s: &[u8], at: u16) -> u64
     number::two(byte(s, i), byte(s, i + 1))
 }
 
-// The mark of label a over label b.
-fn marked(s: &[u8], a: u64, b: u64) -> bool
+// Whether label a dominates label b.
+pub fn dominates(s: &[u8], a: u64, b: u64) -> bool
     ensures { result ≡ marked s.now a b }
 {
     if !search::among(layout::LABELS as u64, a) {
@@ -34,22 +32,6 @@ fn marked(s: &[u8], a: u64, b: u64) -> bool
     }
     let i = layout::LABELS * (a as usize - 1) + (b as usize - 1);
     byte(s, layout::DOMINANCE_AT + i) == layout::MARK
-}
-
-// How label a compares with label b.
-pub fn compare(s: &[u8], a: u64, b: u64) -> Comparison
-    ensures { result ≡ compare (marked s.now) a b }
-{
-    let over = marked(s, a, b);
-    let under = marked(s, b, a);
-    order::compare::by_marks(over, under)
-}
-
-// Whether label a dominates label b: compared, it is equal or above.
-pub fn dominates(s: &[u8], a: u64, b: u64) -> bool
-    ensures { result ≡ at_least (compare (marked s.now) a b) }
-{
-    order::compare::at_least(compare(s, a, b))
 }
 
 // Whether label a dominates label b, one of which is a level: a free level always passes.

@@ -1,7 +1,7 @@
 //! The rows of session calls and reports.
 
-use crate::cases::{Case, CASES, FLOWING, OPENINGS, REVIEW, SIDE_BY_SIDE, WITHOUT_FLOW};
-use crate::files::{flowing_by_one_card, largest, side_by_side, without_flow};
+use crate::cases::{Case, CASES, FLOWING, REVIEW, WITHOUT_FLOW};
+use crate::files::{flowing_by_one_card, largest, without_flow};
 use crate::table::Row;
 use crate::timing::{Three, Times};
 use crate::versions::measure;
@@ -48,20 +48,13 @@ fn report_cases(cases: &[Case], file: &RoleFile, rounds: usize, missed: &mut Mis
 pub fn report(rounds: usize) {
     println!("session calls and flow reports at the largest counts, a call");
     let mut missed = Missed::default();
-    let parts = [
-        (OPENINGS, largest()),
-        (SIDE_BY_SIDE, side_by_side()),
-        (CASES, largest()),
-        (WITHOUT_FLOW, without_flow()),
-        (FLOWING, flowing_by_one_card()),
-    ];
-    for (cases, file) in &parts {
-        report_cases(cases, file, rounds, &mut missed);
-    }
+    report_cases(CASES, &largest(), rounds, &mut missed);
+    report_cases(WITHOUT_FLOW, &without_flow(), rounds, &mut missed);
+    report_cases(FLOWING, &flowing_by_one_card(), rounds, &mut missed);
     println!(
         "aims: 20 ns for read number and write, 50 ns for other calls, ratio {RATIO_AIM}; \
          of {} calls, {} miss the time and {} the ratio",
-        parts.iter().map(|(cases, _)| cases.len()).sum::<usize>(),
+        CASES.len() + WITHOUT_FLOW.len() + FLOWING.len(),
         missed.time,
         missed.ratio,
     );

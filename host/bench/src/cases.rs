@@ -40,21 +40,10 @@ pub const fn case(
 
 /// At the largest counts.
 #[rustfmt::skip]
-pub const OPENINGS: &[Case] = &[
+pub const CASES: &[Case] = &[
     case("open and close in turn", Empty, Kind::OpenClose, 0, Draw::opening),
     case("open", Holding(1), Kind::Open, 23, Draw::opening),
     case("open", Empty, Kind::Open, 26, Draw::high_opening),
-];
-
-/// With the file in which no clearance can be compared with label 32.
-#[rustfmt::skip]
-pub const SIDE_BY_SIDE: &[Case] = &[
-    case("open", Empty, Kind::Open, 37, Draw::high_opening),
-];
-
-/// At the largest counts.
-#[rustfmt::skip]
-pub const CASES: &[Case] = &[
     case("close", Empty, Kind::Close, 24, Draw::place_only),
     case("take a role held", Holding(1), Kind::Take, 0, Draw::role_held),
     case("take a role held", Holding(16), Kind::Take, 0, Draw::role_held),

@@ -47,7 +47,7 @@ impl Draw {
         self.opening_at(1, 29)
     }
 
-    /// A user and one of the three highest labels.
+    /// A user and a label that no clearance dominates.
     pub fn high_opening(&mut self) -> Arguments {
         self.opening_at(30, 32)
     }

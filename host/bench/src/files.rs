@@ -64,23 +64,13 @@ fn bar_the_last_assignment(file: &mut RoleFile) {
     *file.assignments.last_mut().expect("there are assignments") = (256, 128);
 }
 
-/// The largest file with every user cleared to a label.
-fn all_cleared_to(label: usize) -> RoleFile {
-    let mut file = largest();
-    for line in &mut file.clearances {
-        line.1 = label;
-    }
-    file
-}
-
 /// The largest file with every clearance above the w-levels of the roles that its user has.
 pub fn high_clearances() -> RoleFile {
-    all_cleared_to(30)
-}
-
-/// The largest file with every user cleared to label 31, which cannot be compared with label 32.
-pub fn side_by_side() -> RoleFile {
-    all_cleared_to(31)
+    let mut file = largest();
+    for line in &mut file.clearances {
+        line.1 = 30;
+    }
+    file
 }
 
 /// Edits of the largest file, each refused at the end of a stage of the load: what the stage does,

@@ -141,7 +141,7 @@ mod tests {
     use super::*;
     use crate::check::{check, read, Level, Meaning, Outcome, REFUSALS, WRITE};
     use crate::line::{has_assignments, MOST_BYTES};
-    use crate::order::{lowest_on_circle, Comparison, Order};
+    use crate::order::{lowest_on_circle, Order};
 
     /// The assignments of an accepted file whose role is for low sessions alone.
     fn low_assignments(bytes: &[u8]) -> Vec<(usize, usize)> {
@@ -225,11 +225,7 @@ mod tests {
             let meaning = Meaning::of(&read(&bytes).expect("the form is good"));
             let [_, role] = check(&bytes).place();
             let way = match (meaning.read_level[role], meaning.write_level[role]) {
-                (Level::Label(r), Level::Label(w)) => match meaning.dominance.compare(r, w) {
-                    Comparison::Above => 0,
-                    Comparison::Neither => 1,
-                    comparison => panic!("seed {seed}: {r} {w} {comparison:?}"),
-                },
+                (Level::Label(r), Level::Label(w)) => usize::from(!meaning.dominance.over(r, w)),
                 (Level::Free, Level::Label(_)) => 2,
                 levels => panic!("seed {seed}: {levels:?}"),
             };

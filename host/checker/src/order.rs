@@ -1,6 +1,5 @@
-//! Graphs of things numbered from 1, their circles, their closures, and in an
-//! order how two things compare and what bounds a set has. Used for labels, for
-//! roles and for role flow.
+//! Graphs of things numbered from 1, their circles, their closures, and the
+//! bounds in an order. Used for labels, for roles and for role flow.
 
 use std::collections::BTreeSet;
 use std::ops::RangeInclusive;
@@ -36,30 +35,6 @@ pub fn lowest_on_circle(size: usize, pairs: &[(usize, usize)]) -> Option<usize> 
     (1..=size).find(|&thing| reached(&steps, thing).contains(&thing))
 }
 
-/// How a label compares with another, or a role. Document 02: "comparing two
-/// labels must tell four outcomes: equal, above, below, neither."
-#[derive(Clone, Copy, Debug, PartialEq, Eq)]
-pub enum Comparison {
-    /// It is the same label.
-    Equal,
-    /// It is another label and dominates the other.
-    Above,
-    /// It is another label, and the other dominates it.
-    Below,
-    /// "neither dominates the other"
-    Neither,
-}
-
-impl Comparison {
-    /// Whether the first dominates the second; every label dominates itself.
-    pub fn dominates(self) -> bool {
-        match self {
-            Comparison::Equal | Comparison::Above => true,
-            Comparison::Below | Comparison::Neither => false,
-        }
-    }
-}
-
 /// The reflexive, transitive closure of pairs over things 1 to `size`.
 #[derive(Clone, Debug)]
 pub struct Order {
@@ -87,19 +62,9 @@ impl Order {
         1..=self.size
     }
 
-    /// How one thing compares with another.
-    pub fn compare(&self, one: usize, other: usize) -> Comparison {
-        match (self.over[one][other], self.over[other][one]) {
-            _ if one == other => Comparison::Equal,
-            (true, _) => Comparison::Above,
-            (false, true) => Comparison::Below,
-            (false, false) => Comparison::Neither,
-        }
-    }
-
     /// Whether `upper` stands over `lower` or is the same thing.
     pub fn over(&self, upper: usize, lower: usize) -> bool {
-        self.compare(upper, lower).dominates()
+        self.over[upper][lower]
     }
 
     /// The thing over all of `things` that every other such thing is over.

@@ -1,10 +1,9 @@
-//! The cases of document 01 about files, what document 02 says of number 16 and
-//! of comparing labels, and more on the edges. The expected values are worked out by hand from the
+//! The cases of document 01 about files, what document 02 says of number 16, and
+//! more on the edges. The expected values are worked out by hand from the
 //! documents.
 
 use second_checker::example::{example, role_file, single_blanks};
 use second_checker::example::{BESIDE, DOWNWARDS, EXAMPLE, REVIEWER, TWO_MAKERS};
-use second_checker::order::{Comparison, Order};
 use second_checker::{check, report, Level, Outcome};
 
 fn text(bytes: &[u8]) -> String {
@@ -748,28 +747,6 @@ fn role_flow_by_inheritance() {
         "H 1 3 0 1\nS 2 1\nO 1 1\nP 1 1 1\nP 3 1 2",
         "V 0 0 0\nR 1 1 0\nR 2 1 0\nR 3 0 1\nF 3 1\nF 3 2\nC 0",
     );
-}
-
-// ---------------------------------------------------------------------------
-// Two labels compared
-
-/// "equal, above, below, neither": labels 2 and 3 over 1 and under 4.
-#[test]
-fn two_labels_compare_in_four_ways() {
-    let order = Order::closure(4, &[(2, 1), (3, 1), (4, 2), (4, 3)]);
-    let sign = |comparison| match comparison {
-        Comparison::Equal => '=',
-        Comparison::Above => '>',
-        Comparison::Below => '<',
-        Comparison::Neither => '|',
-    };
-    let row = |one: usize| -> String {
-        let others = order.things();
-        others
-            .map(|other| sign(order.compare(one, other)))
-            .collect()
-    };
-    assert_eq!([1, 2, 3, 4].map(row), ["=<<<", ">=|<", ">|=<", ">>>="]);
 }
 
 // ---------------------------------------------------------------------------

@@ -1,6 +1,5 @@
-//! An independent model of the monitor, written from documents 01 and 02 alone.
-//! The policy of an accepted file comes from the second checker, and with it how
-//! two labels compare.
+//! An independent model of the monitor, written from document 01 alone. The
+//! policy of an accepted file comes from the second checker.
 //!
 //! "Other calls check in order of number, each as far as it applies to that
 //! call." So each call below is a row of checks, left at the first that fails.
@@ -11,7 +10,6 @@ pub mod review;
 
 use answer::{Figure, Verdict};
 use second_checker::check::{read, Counts, Meaning, RoleFile, READ, WRITE};
-use second_checker::order::Comparison;
 use second_checker::{check, Outcome};
 use std::collections::BTreeSet;
 use std::ops::Range;
@@ -64,18 +62,10 @@ impl Policy {
         }
     }
 
-    /// How a label compares with the user's clearance.
-    pub fn compared_with_clearance(&self, user: usize, label: usize) -> Comparison {
-        let clearance = self.meaning.clearance[user];
-        self.meaning.dominance.compare(label, clearance)
-    }
-
     /// "a label that the clearance dominates"
     fn is_cleared(&self, user: usize, label: usize) -> bool {
-        match self.compared_with_clearance(user, label) {
-            Comparison::Equal | Comparison::Below => true,
-            Comparison::Above | Comparison::Neither => false,
-        }
+        let clearance = self.meaning.clearance[user];
+        self.meaning.dominance.over(clearance, label)
     }
 
     /// The labels that the user's clearance dominates.
@@ -200,7 +190,7 @@ impl Model {
     // -----------------------------------------------------------------------
     // What each call comes to, without doing it
 
-    /// 21, 22, 23, 25, 26, 37
+    /// 21, 22, 23, 25, 26
     pub fn opening(
         &self,
         state_length: usize,
@@ -216,13 +206,9 @@ impl Model {
         }
         let user = in_range(user, policy.counts.users)?;
         let label = in_range(label, policy.counts.labels)?;
-        // Document 02: "Number 26 stays for a label above the clearance.
-        // Opening refuses with 37, directly after 26, where neither dominates
-        // the other".
-        match policy.compared_with_clearance(user, label) {
-            Comparison::Above => return Err(26),
-            Comparison::Neither => return Err(37),
-            Comparison::Equal | Comparison::Below => {}
+        // "26: clearance doesn't dominate the label asked"
+        if !policy.is_cleared(user, label) {
+            return Err(26);
         }
         let session = Session {
             user,
@@ -331,8 +317,7 @@ impl Model {
         let label = in_range(label, policy.counts.labels)?;
         let card = in_range(card, policy.counts.cards)?;
         let mode = mode_in_range(mode)?;
-        // "26 where the clearance doesn't dominate the label", whether it is
-        // above or neither: "every other answer stays".
+        // "26 where the clearance doesn't dominate the label"
         if !policy.is_cleared(user, label) {
             return Err(26);
         }

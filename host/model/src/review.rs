@@ -102,7 +102,7 @@ impl Model {
         figure(self.usable(state_length).and_then(|policy| {
             let a = in_range(a, policy.counts.labels)?;
             let b = in_range(b, policy.counts.labels)?;
-            Ok(policy.meaning.dominance.compare(a, b).dominates().into())
+            Ok(policy.meaning.dominance.over(a, b).into())
         }))
     }
 

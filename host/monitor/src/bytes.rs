@@ -1,8 +1,7 @@
-//! What the review calls and openings answer by docs/LAYOUT.md, whatever the
-//! bytes are: "A mark counts where it is 1, a label that is 0 or above 32
-//! dominates nothing and is dominated by nothing, and a place is in use where
-//! its first byte is 1." So two labels compare by the marks of each over the
-//! other. What it leaves open is as crates/monitor/specs/Review.antt has it: bits of
+//! What the review calls answer by docs/LAYOUT.md, whatever the bytes are: "A
+//! mark counts where it is 1, a label that is 0 or above 32 dominates nothing
+//! and is dominated by nothing, and a place is in use where its first byte is
+//! 1." What it leaves open is as crates/monitor/specs/Review.antt has it: bits of
 //! a row past the number of roles count for what a set gives and for who may
 //! take a role. No load leaves such bits.
 
@@ -29,12 +28,6 @@ struct Bytes<'a> {
 pub fn answer(review: Review, state: &[u8]) -> Answer {
     let answer = Bytes::of(state).and_then(|bytes| bytes.answer(review));
     answer.unwrap_or_else(|number| Answer::refused(review.kind(), number))
-}
-
-/// The number that an opening answers on these bytes.
-pub fn opening(state: &[u8], place: u64, user: u64, label: u64) -> u64 {
-    let refused = Bytes::of(state).and_then(|bytes| bytes.opening(place, user, label));
-    refused.err().unwrap_or(0)
 }
 
 /// 25 where a number is not one from 1 to its count.
@@ -128,34 +121,10 @@ impl Bytes<'_> {
         }
     }
 
-    /// The bytes of a place, and whether it is in use; 22.
-    fn place(&self, place: u64) -> Result<(&[u8], bool), u64> {
+    fn session(&self, place: u64) -> Result<SessionAnswer, u64> {
         in_range(&[(place, 64)]).map_err(|_| 22u64)?;
         let entry = &self.state[PLACES.entry(place as usize)];
-        Ok((entry, entry[0] == 1))
-    }
-
-    fn opening(&self, place: u64, user: u64, label: u64) -> Result<(), u64> {
-        let (_, in_use) = self.place(place)?;
-        if in_use {
-            return Err(23);
-        }
-        in_range(&[(user, self.users), (label, self.labels)])?;
-        let clearance = self.byte(&CLEARANCES, user);
-        let marks = (
-            self.dominates(clearance, label),
-            self.dominates(label, clearance),
-        );
-        match marks {
-            (true, _) => Ok(()),
-            (false, true) => Err(26),
-            (false, false) => Err(37),
-        }
-    }
-
-    fn session(&self, place: u64) -> Result<SessionAnswer, u64> {
-        let (entry, in_use) = self.place(place)?;
-        if !in_use {
+        if entry[0] != 1 {
             return Err(24);
         }
         let (low, high) = halves(&roles_in(&entry[4..]));

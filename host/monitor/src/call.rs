@@ -156,7 +156,7 @@ impl Kind {
     pub fn numbers(self) -> &'static [u64] {
         match self {
             Kind::Load => &[0, 7, 1, 2, 3, 4, 5, 6, 11, 12, 13, 14, 15, 16],
-            Kind::Open => &[0, 21, 22, 23, 25, 26, 37],
+            Kind::Open => &[0, 21, 22, 23, 25, 26],
             Kind::Close => &[0, 21, 22, 24],
             Kind::Take => &[0, 21, 22, 24, 25, 27, 28],
             Kind::Drop => &[0, 21, 22, 24, 25],

@@ -6,46 +6,36 @@ pub mod review;
 use crate::call::{Call, Kind};
 use crate::review::Review;
 use monitor_model::{Mode, Model, Part, Policy, CARD_BYTES, PLACES, STATE_BYTES};
-use second_checker::check::{RoleFile, REFUSALS};
+use second_checker::check::REFUSALS;
 use second_checker::generate::{
     accepted, bent, bent_small, mixed, sparse_flow, write, Size, LIMITS,
 };
-use second_checker::order::{Comparison, Order};
+use second_checker::line::has_assignments;
 use second_checker::random::Random;
 use std::collections::BTreeSet;
 
-/// An accepted role file of any size, mostly a small one, mostly one with
-/// assignments, and often one with labels beside a clearance.
+/// An accepted role file of any size, mostly a small one, and mostly one with
+/// assignments.
 pub fn accepted_file(random: &mut Random) -> Vec<u8> {
     let any = random.percent(10);
-    let beside = random.percent(50);
     loop {
         let file = accepted_file_of_any_size(random);
-        let fits = !file.assignments.is_empty() && (!beside || has_labels_beside(&file));
-        if any || fits {
-            return write(&file);
+        if any || has_assignments(&file) {
+            return file;
         }
     }
 }
 
-fn accepted_file_of_any_size(random: &mut Random) -> RoleFile {
+fn accepted_file_of_any_size(random: &mut Random) -> Vec<u8> {
     let size = match random.below(100) {
         0..=19 => Size::Tiny,
         20..=61 => Size::Small,
         62..=81 => Size::Middle,
         82..=87 => Size::Large,
         88..=91 => Size::Full,
-        _ => return sparse_flow(random),
+        _ => return write(&sparse_flow(random)),
     };
-    accepted(random, size)
-}
-
-/// Whether a user's clearance cannot be compared with some label.
-fn has_labels_beside(file: &RoleFile) -> bool {
-    let dominance = Order::closure(file.counts.labels, &file.dominance);
-    let beside = |clearance, label| dominance.compare(clearance, label) == Comparison::Neither;
-    let mut clearances = file.clearances.iter().map(|line| line.1);
-    clearances.any(|clearance| dominance.things().any(|label| beside(clearance, label)))
+    write(&accepted(random, size))
 }
 
 /// A role file of any kind: accepted, bent or torn. Most are bent, each number
@@ -222,11 +212,10 @@ impl Caller {
             let file = any_file(random);
             return (Call::Load { file }, lending);
         }
-        let wish = match random.below(100) {
-            0..=64 => 0,
-            // Many files have no label for one of them.
-            65..=71 if kind == Kind::Open => random.pick(&[26, 37]),
-            _ => random.pick(kind.numbers()),
+        let wish = if random.percent(65) {
+            0
+        } else {
+            random.pick(kind.numbers())
         };
         if wish == 21 && random.percent(30) {
             lending.state = if random.percent(25) {
@@ -390,33 +379,15 @@ fn user(random: &mut Random, policy: &Policy, wish: u64) -> u64 {
     }
 }
 
-/// A label, rather one that gets the number wished for.
+/// A label, rather one that the user's clearance dominates.
 fn label(random: &mut Random, policy: &Policy, user: u64, wish: u64) -> u64 {
     if wish == 25 {
         return wild_number(random, policy.counts.labels);
     }
-    let is_user = (1..=policy.counts.users as u64).contains(&user);
-    let wished = match wish {
-        0 if is_user => Some(label_to_open(random, policy, user as usize)),
-        26 | 37 if is_user => label_barred(random, policy, user as usize, wish),
-        _ => None,
-    };
-    wished.map_or_else(
-        || number(random, policy.counts.labels),
-        |label| label as u64,
-    )
-}
-
-/// A label that the user's clearance does not dominate; for 37 one that cannot
-/// be compared with it.
-fn label_barred(random: &mut Random, policy: &Policy, user: usize, wish: u64) -> Option<usize> {
-    let mut labels: BTreeSet<usize> = (1..=policy.counts.labels).collect();
-    labels.retain(|&label| match policy.compared_with_clearance(user, label) {
-        Comparison::Equal | Comparison::Below => false,
-        Comparison::Above => wish == 26,
-        Comparison::Neither => true,
-    });
-    some(random, &labels)
+    if wish == 0 && (1..=policy.counts.users as u64).contains(&user) {
+        return label_to_open(random, policy, user as usize) as u64;
+    }
+    number(random, policy.counts.labels)
 }
 
 /// A label that the user's clearance dominates: the clearance itself, any, or

@@ -50,7 +50,11 @@ pub fn check(call: &Call, answer: Answer, state: Change, store: Change) -> Resul
     if let Answer::Figure(figure) = answer {
         made.figure(figure.figure)?;
     }
-    made.by_the_bytes()
+    if let Call::Review(review) = *call {
+        let expected = bytes::answer(review, state.before);
+        made.holds(answer == expected, &format!("{expected:?} by the bytes"))?;
+    }
+    Ok(())
 }
 
 /// A call that was made.
@@ -71,19 +75,6 @@ impl Made<'_> {
 
     fn state_is_short(&self) -> bool {
         self.state.before.len() < STATE_BYTES
-    }
-
-    /// Review calls and openings answer what the state's bytes say.
-    fn by_the_bytes(&self) -> Result<(), String> {
-        let expected = match *self.call {
-            Call::Review(review) => bytes::answer(review, self.state.before),
-            Call::Open { place, user, label } => {
-                Answer::Number(bytes::opening(self.state.before, place, user, label))
-            }
-            _ => return Ok(()),
-        };
-        let law = format!("{expected:?} by the bytes");
-        self.holds(self.answer == expected, &law)
     }
 
     /// The number is one that the call can get.

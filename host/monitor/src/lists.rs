@@ -17,7 +17,7 @@ pub const CALLS: usize = 200;
 
 /// The numbers that a run must see: done, and all that calls with a good file
 /// can get.
-const WANTED: [u64; 14] = [0, 7, 21, 22, 23, 24, 25, 26, 27, 28, 29, 30, 31, 37];
+const WANTED: [u64; 13] = [0, 7, 21, 22, 23, 24, 25, 26, 27, 28, 29, 30, 31];
 
 /// How often each number was seen.
 #[derive(Default)]
@@ -33,11 +33,6 @@ pub struct Tally {
 }
 
 impl Tally {
-    /// How many openings got this number.
-    pub fn openings(&self, number: u64) -> u64 {
-        self.seen.number(&[Kind::Open], number)
-    }
-
     /// Counts a call that got this number on what the model holds.
     fn count(&mut self, call: &Call, answer: Answer, model: &Model) {
         self.seen.count(call.kind(), answer);
@@ -66,8 +61,8 @@ impl Totals for Tally {
     }
 
     /// Of each number that must be seen, of each number of each call but a load's
-    /// numbers about the file, of all that reports and review calls tell, of what
-    /// a w-level does to takings, and often of how a label compares at openings.
+    /// numbers about the file, of all that reports and review calls tell, and of
+    /// what a w-level does to takings.
     fn unseen(&self) -> Vec<String> {
         let mut unseen: Vec<String> = WANTED
             .into_iter()
@@ -82,11 +77,6 @@ impl Totals for Tally {
             }
         }
         unseen.extend(self.seen.rarely_told(&Kind::ALL, 1));
-        for number in [26, 37] {
-            if self.openings(number) < self.lists / 4 {
-                unseen.push(format!("opening {number} in one list of four"));
-            }
-        }
         if self.low_taken == 0 {
             unseen.push("a role for low sessions alone taken".to_string());
         }

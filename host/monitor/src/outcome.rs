@@ -3,7 +3,7 @@
 
 use crate::call::{Answer, Kind};
 use second_checker::differential::add_counts;
-use std::collections::{BTreeMap, BTreeSet};
+use std::collections::BTreeMap;
 
 const YES_OR_NO: &[&str] = &["1", "0"];
 const ROLES: &[&str] = &["no roles", "roles up to 64", "roles above 64"];
@@ -101,9 +101,8 @@ impl Seen {
         for kind in kinds {
             table.push_str(&format!("{:>11}", kind.name()));
         }
-        let of_kinds = self.numbers.keys().filter(|(kind, _)| kinds.contains(kind));
-        let numbers: BTreeSet<u64> = of_kinds.map(|&(_, number)| number).collect();
-        for number in numbers {
+        let seen = |number: &u64| self.number(kinds, *number) > 0;
+        for number in (0..=31).filter(seen) {
             table.push_str(&format!("\n{number:>6} {:>8}", self.number(kinds, number)));
             for &kind in kinds {
                 match self.numbers.get(&(kind, number)) {

@@ -6,7 +6,6 @@ use crate::library::{Figure, SetAnswer};
 use crate::review::Review;
 use monitor_model::review::halves;
 use monitor_model::{Model, Policy, STATE_BYTES};
-use second_checker::order::Comparison;
 
 /// A copy with one fault.
 pub struct Wrong {
@@ -83,11 +82,6 @@ pub const ALL: &[Wrong] = &[
     wrong(Kind::Level, "undefined as free", level_undefined),
     wrong(Kind::Dominates, "the other way round", dominates_turned),
     wrong(Kind::Dominates, "never itself", dominates_itself),
-    wrong(
-        Kind::Dominates,
-        "where it cannot be compared",
-        dominates_neither,
-    ),
     wrong(Kind::Senior, "the other way round", senior_turned),
     wrong(Kind::Senior, "never itself", senior_itself),
     wrong(Kind::Assigned, "inherited roles too", assigned_inherited),
@@ -97,7 +91,6 @@ pub const ALL: &[Wrong] = &[
         "the clearance for the label",
         takable_clearance,
     ),
-    wrong(Kind::Takable, "37 as an opening", takable_neither),
     wrong(Kind::Takable, "assigned roles alone", takable_assigned),
     wrong(Kind::Takable, "levels not asked", takable_levels),
     wrong(Kind::Takable, "w-level not asked", takable_write_level),
@@ -220,17 +213,6 @@ fn dominates_itself(asked: &Asked, answer: Answer) -> Answer {
     }
 }
 
-fn dominates_neither(asked: &Asked, answer: Answer) -> Answer {
-    match asked.review {
-        Review::Dominates { a, b } if answer.number() == 0 => {
-            let dominance = &asked.policy.meaning.dominance;
-            let compared = dominance.compare(a as usize, b as usize);
-            done((compared != Comparison::Below).into())
-        }
-        _ => answer,
-    }
-}
-
 fn senior_turned(asked: &Asked, answer: Answer) -> Answer {
     match asked.review {
         Review::Senior { r, q } => asked.instead(Review::Senior { r: q, q: r }),
@@ -288,19 +270,6 @@ fn takable_clearance(asked: &Asked, answer: Answer) -> Answer {
         let clearance = policy.meaning.clearance[user];
         policy.is_member(user, role) && policy.levels_allow(role, clearance)
     })
-}
-
-fn takable_neither(asked: &Asked, answer: Answer) -> Answer {
-    match asked.review {
-        Review::Takable { user, label } if answer.number() == 26 => {
-            let (user, label) = (user as usize, label as usize);
-            match asked.policy.compared_with_clearance(user, label) {
-                Comparison::Neither => Answer::refused(Kind::Takable, 37),
-                _ => answer,
-            }
-        }
-        _ => answer,
-    }
 }
 
 fn takable_assigned(asked: &Asked, answer: Answer) -> Answer {

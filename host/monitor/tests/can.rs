@@ -7,7 +7,6 @@ use monitor_tests::library::{self, Figure};
 use monitor_tests::loaded::Loaded;
 use second_checker::differential::show;
 use second_checker::example::{EXAMPLE, REVIEWER};
-use second_checker::order::Comparison;
 use second_checker::random::Random;
 
 const FILES: u64 = 60;
@@ -34,11 +33,6 @@ impl Question {
     fn to_model(self, model: &Model, state_length: usize) -> Figure {
         model.can(state_length, self.user, self.label, self.card, self.mode)
     }
-
-    /// How the label compares with the clearance.
-    fn compared(self, policy: &Policy) -> Comparison {
-        policy.compared_with_clearance(self.user as usize, self.label as usize)
-    }
 }
 
 /// The library's answer, which is the model's; the state stays as it is.
@@ -58,23 +52,16 @@ struct Seen {
     figure_1: usize,
     figure_0: usize,
     number_25: usize,
-    /// 26 for a label above the clearance.
-    above: usize,
-    /// 26 for a label that cannot be compared with the clearance.
-    neither: usize,
+    number_26: usize,
 }
 
 impl Seen {
-    fn count(&mut self, question: Question, answer: Figure, policy: &Policy) {
+    fn count(&mut self, answer: Figure) {
         match (answer.number, answer.figure) {
             (0, 1) => self.figure_1 += 1,
             (0, 0) => self.figure_0 += 1,
             (25, 0) => self.number_25 += 1,
-            (26, 0) => match question.compared(policy) {
-                Comparison::Above => self.above += 1,
-                Comparison::Neither => self.neither += 1,
-                compared => panic!("{question:?}: 26 where the label is {compared:?}"),
-            },
+            (26, 0) => self.number_26 += 1,
             _ => panic!("{answer:?}"),
         }
     }
@@ -210,14 +197,13 @@ fn can_agrees_with_the_model() {
         whole += usize::from(size_of_all(loaded.policy()) <= ALL);
         let lent = &mut loaded.state.clone();
         for question in questions(random, loaded.policy()) {
-            seen.count(question, answer(&loaded, lent, question), loaded.policy());
+            seen.count(answer(&loaded, lent, question));
         }
     }
     show(&format!("{whole} files of {FILES} asked all: {seen:?}"));
     assert!(whole > 20 && whole < 50, "{whole}");
     assert!(seen.figure_1 > 2_000 && seen.figure_0 > 2_000, "{seen:?}");
-    assert!(seen.number_25 > 2_000, "{seen:?}");
-    assert!(seen.above > 2_000 && seen.neither > 2_000, "{seen:?}");
+    assert!(seen.number_25 > 2_000 && seen.number_26 > 2_000, "{seen:?}");
 }
 
 /// What user 1 can at label 1 and at label 2 of a file: read card 1, write it, read
@@ -289,7 +275,7 @@ fn can_agrees_with_the_calls() {
             if let Some(mut state) = used {
                 assert_eq!(question.to_library(&mut state), answer, "{question:?}");
             }
-            seen.count(question, answer, loaded.policy());
+            seen.count(answer);
         }
     }
     show(&format!("tried with every role: {seen:?}"));

@@ -1,11 +1,11 @@
-//! Document 01's cases about sessions and document 02's senior reviewer and two
-//! makers, worked out by hand, on the library and on the model alike.
+//! Document 01's cases about sessions and document 02's senior reviewer, worked
+//! out by hand, on the library and on the model alike.
 
 use monitor_model::{Model, STATE_BYTES};
 use monitor_tests::call::{Answer, Call};
 use monitor_tests::generate::reading;
 use monitor_tests::library::{Figure, Verdict};
-use second_checker::example::{example, role_file, single_blanks, BESIDE, REVIEWER, TWO_MAKERS};
+use second_checker::example::{example, role_file, single_blanks, BESIDE, REVIEWER};
 use second_checker::random::Random;
 
 /// Both sides with the same file loaded.
@@ -203,59 +203,6 @@ fn a_role_that_no_session_could_take() {
     both.open(3, 1, 2, 0);
     both.take(3, 1, 0);
     both.write(3, 1, 0, b"valve", 0);
-}
-
-/// "Number 26 stays for a label above the clearance. Opening refuses with 37,
-/// directly after 26, where neither dominates the other": labels 1 and 2 under
-/// 3, user 1 cleared to 1 and user 2 to 3.
-#[test]
-fn a_label_above_the_clearance_and_one_beside_it() {
-    let text = "H 3 0 2 0
-        D 3 1
-        D 3 2
-        U 1 1
-        U 2 3";
-    let mut both = Both::loaded(text, 0);
-    both.open(65, 1, 2, 22);
-    both.open(1, 3, 2, 25);
-    both.open(1, 1, 4, 25);
-    both.open(1, 1, 2, 37);
-    both.open(1, 1, 3, 26);
-    both.open(1, 1, 1, 0);
-    both.open(1, 1, 2, 23);
-    for label in 1..=3 {
-        both.open(1 + label, 2, label, 0);
-    }
-}
-
-/// "Our screen greys a label above one's clearance and hides one that can't be
-/// compared with it." Labels 3 to 5 are maker A's and 6 to 8 maker B's, each
-/// over the one before and 3 and 6 over 2; 9 is over 3 and 6, 10 over 4, 7 and
-/// 9; 11 is over none, and 12 over all.
-#[test]
-fn two_makers_side_by_side() {
-    let mut both = Both::loaded(&single_blanks(TWO_MAKERS), 391);
-    #[rustfmt::skip]
-    let rows = [
-        // A guest, cleared to 1.
-        (6, [0, 26, 26, 26, 26, 26, 26, 26, 26, 26, 37, 26]),
-        // Maker A's translators: published, 3, and unannounced, 5.
-        (17, [0, 0, 0, 26, 26, 37, 37, 37, 26, 26, 37, 26]),
-        (29, [0, 0, 0, 0, 0, 37, 37, 37, 37, 37, 37, 26]),
-        // Maker B's translator of drafts, 7.
-        (40, [0, 0, 37, 37, 37, 0, 0, 26, 37, 26, 37, 26]),
-        // A comparer of what both published, 9.
-        (14, [0, 0, 0, 37, 37, 0, 37, 37, 0, 26, 37, 26]),
-        // The office clerk, 11, and an owner, 12.
-        (12, [37, 37, 37, 37, 37, 37, 37, 37, 37, 37, 0, 26]),
-        (1, [0; 12]),
-    ];
-    for (user, numbers) in rows {
-        for (label, number) in (1..).zip(numbers) {
-            both.open(7, user, label, number);
-            both.close(7, if number == 0 { 0 } else { 24 });
-        }
-    }
 }
 
 /// "27: neither the role nor a senior of it is assigned to the user"

@@ -25,9 +25,6 @@ fn assert_rich(tally: &Tally) {
             assert!(tally.granted(shared, kind) > 2_000, "{shared} {kind:?}");
         }
     }
-    for number in [0, 26, 37] {
-        assert!(tally.openings(number) > 1_500, "openings answered {number}");
-    }
 }
 
 #[test]

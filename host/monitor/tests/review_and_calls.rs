@@ -12,7 +12,6 @@ use second_checker::check::Counts;
 use second_checker::differential::show;
 use second_checker::generate::LIMITS;
 use second_checker::random::Random;
-use std::collections::BTreeMap;
 
 const STATES: u64 = 80;
 const ASKED: usize = 20;
@@ -32,12 +31,11 @@ fn free_first_place(state: &mut [u8]) {
     state[PLACES_TABLE.entry(1)].fill(0);
 }
 
-/// `monitor_takable` has the number of an opening, but 26 for 37 too, and the
-/// roles that may be taken after it.
+/// `monitor_takable` has the number of an opening and the roles that may be
+/// taken after it.
 #[test]
 fn takable_is_what_may_be_taken() {
-    let (mut taken, mut refused) = (0, 0);
-    let mut not_open: BTreeMap<u64, usize> = BTreeMap::new();
+    let (mut taken, mut refused, mut not_open) = (0, 0, 0);
     for index in 0..STATES {
         let random = &mut Random::for_file(24, index);
         let (mut state, counts) = state(random, index);
@@ -47,10 +45,9 @@ fn takable_is_what_may_be_taken() {
             let set = library::takable(&mut state, user, label);
             let mut opened = state.clone();
             let number = library::open(&mut opened, 1, user, label);
-            let expected = if number == 37 { 26 } else { number };
-            assert_eq!(set.number, expected, "{index}: user {user} label {label}");
+            assert_eq!(set.number, number, "{index}: user {user} label {label}");
             if number != 0 {
-                *not_open.entry(number).or_default() += 1;
+                not_open += 1;
                 continue;
             }
             let roles = roles_of(set.low, set.high);
@@ -63,12 +60,9 @@ fn takable_is_what_may_be_taken() {
         }
     }
     show(&format!(
-        "takable: {taken} roles taken, {refused} refused, not opened {not_open:?}"
+        "takable: {taken} roles taken, {refused} refused, {not_open} not opened"
     ));
-    assert!(taken > 1_000 && refused > 1_000);
-    for number in [25, 26, 37] {
-        assert!(not_open[&number] > 50, "not opened by {number}");
-    }
+    assert!(taken > 1_000 && refused > 1_000 && not_open > 300);
 }
 
 /// `monitor_gives` of the roles that `monitor_session_at` tells is 1 where the

@@ -1,6 +1,6 @@
 -- Sets of the things 1 to 32 as numbers, thing a being bit a - 1; and a relation among them as such a number for each. Assumes nothing.
-use Rattle.std.specs.Prelude.{ℕ, ◌-◌, ◌≡◌, Bool, List, leb, get_or}
-use Rattle.search.specs.Search.{Among}
+use Rattle.std.specs.Prelude.{ℕ, ◌-◌, ◌≡◌, Bool, ◌&&◌, List, leb, get_or}
+use Rattle.search.specs.Search.{among, Among}
 use Rattle.roleset.specs.Row.{bit}
 use Rattle.order.specs.Closure.{Relation}
 
@@ -19,3 +19,7 @@ FirstThings n = Has (λ a. leb a n)
 -- row a of the numbers has thing b
 abbrev pub row_holds : List ℕ → Relation
 row_holds xs a b = holds (get_or xs (a - 1) 0) b
+
+-- the same of any number a: what is none of the 32 has an empty row
+abbrev pub in_row : List ℕ → Relation
+in_row xs a b = among 32 a && row_holds xs a b

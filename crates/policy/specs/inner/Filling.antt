@@ -4,11 +4,11 @@ use Rattle.search.specs.Search.{among, some, Among}
 use Rattle.roleset.specs.Row.{member, row_of, Kept}
 use Rattle.order.specs.Closure.{Relation, Agree}
 use Rattle.order.specs.Table.{mark, related}
-use Rattle.order.specs.Comparison.{compare, at_least}
+use Rattle.order.specs.inner.Members.{in_row}
 use Rattle.rolefile.specs.declared.Verdict.{Verdict}
 use Rattle.rolefile.specs.Form.{fine, refusal, unless}
 use Rattle.rolefile.specs.inner.Section.{one, two, three, pairs}
-use Rattle.policy.specs.Tables.{dominance_at, clearances_at, card_labels_at, r_levels_at, w_levels_at, seniors_at, readers_at, writers_at, table_of, byte_of, mark_at, marked, flows_by_card, passes_in}
+use Rattle.policy.specs.Tables.{dominance_at, clearances_at, card_labels_at, r_levels_at, w_levels_at, seniors_at, readers_at, writers_at, table_of, byte_of, mark_at, flows_by_card, passes_in}
 
 -- ---- what the first m lines of a part put into the tables
 
@@ -115,25 +115,21 @@ past_card t xs o r q = related t 0 r q || flows_by_card xs r q o
 abbrev pub without_loops : List ℕ → Relation
 without_loops t r q = related t 0 r q && not (eqb q r)
 
--- ---- 14 to 16 by the tables of a state with n labels
+-- ---- 14 to 16 by the tables of a state and by rows of labels: under has the labels under each label, over those over it
 
--- label y is under the clearance and under the w-level
-abbrev pub under_both : List ℕ → ℕ → ℕ → ℕ → Bool
-under_both xs clearance writes y = at_least (compare (marked xs) clearance y) && passes_in xs writes writes y
+-- y is in the row of a level; where the level is 0, free, every label is
+abbrev pub level_row : List ℕ → ℕ → ℕ → Bool
+level_row t level y = eqb level 0 || in_row t level y
 
--- some label is
-unfoldable pub some_under_both : List ℕ → ℕ → ℕ → ℕ → Bool
-some_under_both xs n clearance writes = some n (under_both xs clearance writes)
+-- some label is under the clearance, over the r-level and under the w-level
+unfoldable pub some_serves : List ℕ → List ℕ → ℕ → ℕ → ℕ → Bool
+some_serves under over clearance reads writes = some 32 (λ y. in_row under clearance y && (level_row over reads y && level_row under writes y))
 
--- some label serves, where 15 has passed: where the r-level is a label, that one does if any does; where it is free, each label that is under the other two
-unfoldable pub some_serves : List ℕ → ℕ → ℕ → ℕ → ℕ → Bool
-some_serves xs n clearance reads writes = cond (eqb reads 0) (some_under_both xs n clearance writes) (passes_in xs writes writes reads)
-
-unfoldable pub assign_by_tables : List ℕ → ℕ → ℕ → ℕ → Verdict
-assign_by_tables xs n u r =
+unfoldable pub assign_by_tables : List ℕ → List ℕ → List ℕ → ℕ → ℕ → Verdict
+assign_by_tables xs under over u r =
     let c = byte_of xs clearances_at u in
     let reads = byte_of xs r_levels_at r in
     let writes = byte_of xs w_levels_at r in
     unless (not (eqb writes 99)) (refusal 14 u r)
     (unless (passes_in xs reads c reads) (refusal 15 u r)
-    (unless (some_serves xs n c reads writes) (refusal 16 u r) fine))
+    (unless (some_serves under over c reads writes) (refusal 16 u r) fine))

@@ -91,7 +91,7 @@ pub fn build(file: &[u8], state: &mut [u8]) -> Result<(), Verdict> {
     let dominance = closed_dominance(d, labels)?;
     rank_roles(state, s, roles)?;
     grant_all(state, &n, &dominance, p);
-    tables::judge_assignments(state.first_chunk().expect("a whole state"), labels, a)?;
+    tables::judge_assignments(state.first_chunk().expect("a whole state"), &dominance, a)?;
     tables::note_assigned(state, ASSIGNED, a);
     put_counts(state, &head);
     Ok(())

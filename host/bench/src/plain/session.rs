@@ -1,9 +1,7 @@
 //! Opening and closing a place, taking and dropping a role.
 
 use super::roleset::{add, remove, ROW};
-use super::state::{
-    among, compare, passes, place_at, roles_of, session_at, sound_mut, Comparison, State,
-};
+use super::state::{among, dominates, place_at, roles_of, session_at, sound_mut, State};
 use super::{ASSIGNED, CLEARANCES, READ_LEVELS, SENIORS, WRITE_LEVELS};
 
 #[inline(never)]
@@ -22,10 +20,8 @@ pub fn open(state: &mut [u8], place: u64, user: u64, label: u64) -> u64 {
         return 25;
     }
     let clearance = state[CLEARANCES + user as usize - 1];
-    match compare(state, clearance.into(), label) {
-        Comparison::Equal | Comparison::Above => {}
-        Comparison::Below => return 26,
-        Comparison::Neither => return 37,
+    if !dominates(state, clearance.into(), label) {
+        return 26;
     }
     let mut bytes = [0; 20];
     bytes[..3].copy_from_slice(&[1, (user - 1) as u8, label as u8]);
@@ -68,7 +64,7 @@ pub fn entitled(state: &State, user: u64, role: u64) -> bool {
 pub fn fitting(state: &State, label: u64, role: u64) -> bool {
     let read = state[READ_LEVELS + role as usize - 1].into();
     let write = state[WRITE_LEVELS + role as usize - 1].into();
-    passes(state, read, label, read) && passes(state, write, write, label)
+    (read == 0 || dominates(state, label, read)) && (write == 0 || dominates(state, write, label))
 }
 
 #[inline(never)]

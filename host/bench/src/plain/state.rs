@@ -74,35 +74,7 @@ pub fn roles_of(state: &State, at: usize, x: u64) -> u128 {
     roles_at(state, at + ROW * (x as usize - 1))
 }
 
-/// The mark of label a over label b.
-fn marked(state: &State, a: u64, b: u64) -> bool {
-    among(32, a) && among(32, b) && state[DOMINANCE + 32 * (a as usize - 1) + (b as usize - 1)] == 1
-}
-
-/// How a label compares with another.
-pub enum Comparison {
-    Equal,
-    Above,
-    Below,
-    Neither,
-}
-
-/// How label a compares with label b, by the marks of each over the other.
-pub fn compare(state: &State, a: u64, b: u64) -> Comparison {
-    match (marked(state, a, b), marked(state, b, a)) {
-        (true, true) => Comparison::Equal,
-        (true, false) => Comparison::Above,
-        (false, true) => Comparison::Below,
-        (false, false) => Comparison::Neither,
-    }
-}
-
 /// Whether label a dominates label b.
 pub fn dominates(state: &State, a: u64, b: u64) -> bool {
-    matches!(compare(state, a, b), Comparison::Equal | Comparison::Above)
-}
-
-/// The same, one of the two being a level: a free level always passes.
-pub fn passes(state: &State, level: u64, a: u64, b: u64) -> bool {
-    level == 0 || dominates(state, a, b)
+    among(32, a) && among(32, b) && state[DOMINANCE + 32 * (a as usize - 1) + (b as usize - 1)] == 1
 }

@@ -1,9 +1,9 @@
 //! The tables that the lines of each letter fill.
 
-use super::order::Table;
+use super::order::{Dominance, Members, Rows, Table};
 use super::read::Part;
 use super::roleset::{add, row, row_mut, taken, unite};
-use super::state::{dominates, passes, State};
+use super::state::{dominates, State};
 use super::{
     CLEARANCES, DOMINANCE, READERS, READ_LEVELS, SENIORS, UNDEFINED, WRITERS, WRITE_LEVELS,
 };
@@ -66,29 +66,28 @@ pub fn grant(state: &mut [u8], part: Part) {
     }
 }
 
-/// Whether some of the n labels serves, where the clearance dominates the r-level: that level itself,
-/// or where it is free any label under the clearance and the w-level.
-fn some_serves(state: &State, n: usize, clearance: u64, read: u64, write: u64) -> bool {
-    let lower = |y| dominates(state, clearance, y) & passes(state, write, write, y);
-    match read {
-        0 => (1..=n as u64).any(lower),
-        label => passes(state, write, write, label),
+/// The row of a level: every label where it is free, 0.
+fn level_row(rows: &Rows, level: u8) -> Members {
+    match level {
+        0 => Members::MAX,
+        label => rows[label as usize - 1],
     }
 }
 
-/// 14 to 16: each assignment against the levels of its role, of a state with n labels.
-pub fn judge_assignments(state: &State, n: usize, part: Part) -> Result<(), Verdict> {
+/// 14 to 16: each assignment against the levels of its role.
+pub fn judge_assignments(state: &State, order: &Dominance, part: Part) -> Result<(), Verdict> {
     for (user, role, _) in part.numbers() {
-        let clearance = state[CLEARANCES + user - 1].into();
-        let read = state[READ_LEVELS + role - 1].into();
+        let clearance = state[CLEARANCES + user - 1];
+        let read = state[READ_LEVELS + role - 1];
         let write = state[WRITE_LEVELS + role - 1];
         if write == UNDEFINED {
             return Err(refused(14, user, role));
         }
-        if !passes(state, read, clearance, read) {
+        if read != 0 && !dominates(state, clearance.into(), read.into()) {
             return Err(refused(15, user, role));
         }
-        if !some_serves(state, n, clearance, read, write.into()) {
+        let lower = order.under[clearance as usize - 1];
+        if lower & level_row(&order.over, read) & level_row(&order.under, write) == 0 {
             return Err(refused(16, user, role));
         }
     }

@@ -2,7 +2,7 @@
 
 use super::file::{labels, lines, numbers, pairs};
 use super::order::{bound, lowest_on_circle, next, paths, Pairs};
-use super::{levels, Comparison, Level, Policy};
+use super::{levels, Level, Policy};
 use crate::verdict::{refused, Verdict};
 use std::collections::{HashMap, HashSet};
 
@@ -42,21 +42,8 @@ impl Policy {
         }
     }
 
-    /// How label a compares with label b.
-    pub(super) fn compare(&self, a: u64, b: u64) -> Comparison {
-        if a == b {
-            Comparison::Equal
-        } else if self.dominance.contains(&(a, b)) {
-            Comparison::Above
-        } else if self.dominance.contains(&(b, a)) {
-            Comparison::Below
-        } else {
-            Comparison::Neither
-        }
-    }
-
     pub fn dominates(&self, a: u64, b: u64) -> bool {
-        matches!(self.compare(a, b), Comparison::Equal | Comparison::Above)
+        self.dominance.contains(&(a, b))
     }
 
     /// 14 to 16 for an assignment.

@@ -23,14 +23,6 @@ enum Level {
     Undefined,
 }
 
-/// How a label compares with another.
-enum Comparison {
-    Equal,
-    Above,
-    Below,
-    Neither,
-}
-
 /// What a file says.
 pub struct Policy {
     labels: u64,

@@ -1,6 +1,6 @@
 //! The session calls.
 
-use super::{Comparison, Level, Policy, Session, Simple, READ, WRITE};
+use super::{Level, Policy, Session, Simple, READ, WRITE};
 use crate::monitor::{Figure, Monitor};
 use std::collections::{HashMap, HashSet};
 
@@ -50,11 +50,7 @@ impl Simple {
         require(!self.sessions.contains_key(&place), 23)?;
         require((1..=policy.users).contains(&user), 25)?;
         require((1..=policy.labels).contains(&label), 25)?;
-        match policy.compare(policy.clearances[&user], label) {
-            Comparison::Equal | Comparison::Above => {}
-            Comparison::Below => return Err(26),
-            Comparison::Neither => return Err(37),
-        }
+        require(policy.dominates(policy.clearances[&user], label), 26)?;
         let roles = HashSet::new();
         self.sessions.insert(place, Session { user, label, roles });
         Ok(())

@@ -4,7 +4,7 @@ use super::form::{bend_lines, split};
 use super::{accepted, any_size, arrange, lines_of, small_size, write, Size, LIMITS};
 use crate::check::{check, Meaning, RoleFile, READ, WRITE};
 use crate::line::{LINE_LENGTH, MOST_BYTES, MOST_LINES};
-use crate::order::{Comparison, Order};
+use crate::order::Order;
 use crate::random::Random;
 
 /// An accepted file with one rule broken, so that it gets this number.
@@ -296,8 +296,11 @@ fn part_levels(random: &mut Random, file: &mut RoleFile) {
     let way = random.below(10);
     match way {
         // Above what is written.
-        0 => read.retain(|&(_, label)| dominance.compare(label, at) == Comparison::Above),
-        1..=3 => read.retain(|&(_, label)| dominance.compare(label, at) == Comparison::Neither),
+        0 => read.retain(|&(_, label)| label != at && dominance.over(label, at)),
+        // Neither above nor below it.
+        1..=3 => {
+            read.retain(|&(_, label)| !dominance.over(label, at) && !dominance.over(at, label))
+        }
         _ => read.clear(),
     }
     if way > 0 {

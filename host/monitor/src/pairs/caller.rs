@@ -105,7 +105,7 @@ impl Caller<'_> {
         let clearances = &self.policy.meaning.clearance;
         let clearance = clearances.get(user as usize).copied().unwrap_or(0);
         let mut label = number(random, self.policy.counts.labels);
-        if clearance > 0 && random.percent(75) {
+        if clearance > 0 && random.percent(90) {
             let dominated: Vec<usize> = self.policy.labels_to_open(user as usize).collect();
             label = match random.below(3) {
                 0 => clearance as u64,

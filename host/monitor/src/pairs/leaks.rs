@@ -30,12 +30,10 @@ pub enum Leak {
     PastTheCard,
     /// All places together hold four roles at most.
     FourRoles,
-    /// Opening answers 26 for 37 while a role is held at some place.
-    HeldAnywhere,
 }
 
 impl Leak {
-    pub const ALL: [Leak; 9] = [
+    pub const ALL: [Leak; 8] = [
         Leak::WriteLevel,
         Leak::Clearance,
         Leak::RolesKept,
@@ -44,7 +42,6 @@ impl Leak {
         Leak::StaysOpen,
         Leak::PastTheCard,
         Leak::FourRoles,
-        Leak::HeldAnywhere,
     ];
 }
 
@@ -81,7 +78,6 @@ impl Monitor for Leaky {
                 self.write_on(store, call.part(), bytes)
             }
             (Leak::FourRoles, Call::Take { .. }, 0) if self.roles_held() >= 4 => 28,
-            (Leak::HeldAnywhere, Call::Open { .. }, 37) if self.roles_held() > 0 => 26,
             _ => self.model.number(call, store),
         }
     }

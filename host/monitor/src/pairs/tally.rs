@@ -15,8 +15,6 @@ pub struct Tally {
     /// Calls in both runs, by whether they are shared.
     calls: BTreeMap<bool, u64>,
     granted: BTreeMap<(bool, Kind), u64>,
-    /// Openings in both runs, which are all shared, by their numbers.
-    openings: BTreeMap<u64, u64>,
 }
 
 impl Tally {
@@ -25,9 +23,6 @@ impl Tally {
         let empty = call.part().is_some_and(|part| part.length == 0);
         if number == 0 && !empty {
             *self.granted.entry((shared, call.kind())).or_default() += 1;
-        }
-        if call.kind() == Kind::Open {
-            *self.openings.entry(number).or_default() += 1;
         }
     }
 
@@ -39,11 +34,6 @@ impl Tally {
     /// byte or more.
     pub fn granted(&self, shared: bool, kind: Kind) -> u64 {
         self.granted.get(&(shared, kind)).copied().unwrap_or(0)
-    }
-
-    /// How many openings got this number.
-    pub fn openings(&self, number: u64) -> u64 {
-        self.openings.get(&number).copied().unwrap_or(0)
     }
 
     pub fn table(&self) -> String {
@@ -59,10 +49,6 @@ impl Tally {
                 let granted = self.granted(shared, kind);
                 table.push_str(&format!(" {granted} {}s", kind.name()));
             }
-        }
-        table.push_str("\nopenings:");
-        for (number, count) in &self.openings {
-            table.push_str(&format!(" {count} answered {number}"));
         }
         table
     }

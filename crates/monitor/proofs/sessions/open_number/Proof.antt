@@ -1,8 +1,6 @@
 -- Each number goes by the test that gave it and those before it.
-use mathlib.Core.Path.{◌≡◌, ◌∙◌}
 use borrow.Author.Rules.{rules}
-use Rattle.monitor.specs.Session.{clearance_compared}
-use Rattle.monitor.specs.Calls.{clearance_number, open_number}
+use Rattle.monitor.specs.Calls.{open_number}
 use Rattle.search.proofs.Truth.{one_of}
 use Rattle.monitor.proofs.Answers.{row, user_known}
 use Rattle.monitor.proofs.sessions.open_number.Statement.{statement}
@@ -28,17 +26,16 @@ returns_5 : tie.Need-returns-5
 unfolding open_number
 returns_5 c = search row depth 9 fits 5000
 
--- what the comparison answers
-compared : (c : tie.After-clearance-number) → let a = c.before.before.before.before.before.before.before.before.before.before.before.before.before.args in
-    c.clearance-number.result ≡ clearance_number (clearance_compared a.s.now a.user a.label)
-compared c = c.clearance-number.ensures ∙ rw c.before.clearance-compared.ensures
-
 returns_6 : tie.Need-returns-6
 unfolding open_number
-returns_6 c = search (row, compared c) depth 9 fits 5000
+returns_6 c = search row depth 9 fits 5000
 
-clearance_compared_requires : tie.Need-clearance-compared-requires
-clearance_compared_requires c κs =
+returns_7 : tie.Need-returns-7
+unfolding open_number
+returns_7 c = search row depth 9 fits 5000
+
+cleared_requires : tie.Need-cleared-requires
+cleared_requires c κs =
     let t = c.before.before.before in
     let s = t.before.before.before.before.before.before in
     user_known _ s.sound.ensures t.before.before.before.before.before.if1.false _ t.within_count.ensures c.before.before.if4.false
@@ -57,6 +54,6 @@ open_number_spec =
     returns_4
     (λ c κs. search rules)
     returns_5
-    clearance_compared_requires
-    (λ c κs. search rules)
-    returns_6)
+    cleared_requires
+    returns_6
+    returns_7)

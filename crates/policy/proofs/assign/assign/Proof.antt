@@ -17,7 +17,7 @@ reading c = c.passes.ensures
 
 serving : (c : tie.After-some-serves) → let a = c.before.before.before.before.before.before.before.before.args in
     c.some_serves_lem.result
-    ≡ some_serves a.s.now a.n (byte_of a.s.now clearances_at a.u) (byte_of a.s.now r_levels_at a.r) (byte_of a.s.now w_levels_at a.r)
+    ≡ some_serves a.under.now a.over.now (byte_of a.s.now clearances_at a.u) (byte_of a.s.now r_levels_at a.r) (byte_of a.s.now w_levels_at a.r)
 serving c = c.some_serves_lem.ensures
 
 returns : tie.Need-returns

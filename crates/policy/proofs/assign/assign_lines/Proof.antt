@@ -12,10 +12,10 @@ use Rattle.policy.proofs.assign.assign_lines.Statement.{statement}
 use Rattle.policy.proofs.assign.assign_lines.Tie as tie
 
 abbrev invariant-loop : tie.invariant-loop
-invariant-loop s n p m i₀ i = (i ≤ m) × ((scan i (λ k. assign_by_tables s n (one p k) (two p k))).number ≡ 0)
+invariant-loop s under over p m i₀ i = (i ≤ m) × ((scan i (λ k. assign_by_tables s under over (one p k) (two p k))).number ≡ 0)
 
 abbrev decreases-loop : tie.decreases-loop
-decreases-loop s n p m i₀ i = m - i
+decreases-loop s under over p m i₀ i = m - i
 
 assign_requires : tie.Need-assign-requires invariant-loop decreases-loop
 assign_requires c κs =
@@ -29,8 +29,8 @@ assign_requires c κs =
 turn : (c : tie.After-assign invariant-loop decreases-loop)
     → let a = c.before.before.before.before.before.before.before.args in
     let i = c.before.before.before.before.loop.i in
-    c.assign.result ≡ assign_by_tables a.s.now a.n (one a.p.now (i + 1)) (two a.p.now (i + 1))
-turn c = c.assign.ensures ∙ ap₂ (assign_by_tables _ _) c.before.before.first-number.ensures c.before.second-number.ensures
+    c.assign.result ≡ assign_by_tables a.s.now a.under.now a.over.now (one a.p.now (i + 1)) (two a.p.now (i + 1))
+turn c = c.assign.ensures ∙ ap₂ (assign_by_tables _ _ _) c.before.before.first-number.ensures c.before.second-number.ensures
 
 returns : tie.Need-returns invariant-loop decreases-loop
 returns c =
@@ -50,7 +50,7 @@ returns_2 c =
     let w = c.before.before.loop in
     let a = c.before.before.before.before.before.args in
     let q : w.i ≡ a.m = omega arith in
-    c.nothing.ensures ∙ sym (scan_clean _ a.m (λ k u. tables_clean a.s.now a.n (one a.p.now k) (two a.p.now k)) (rw q at w.invariant.1))
+    c.nothing.ensures ∙ sym (scan_clean _ a.m (λ k u. tables_clean a.s.now a.under.now a.over.now (one a.p.now k) (two a.p.now k)) (rw q at w.invariant.1))
 
 pub assign_lines_spec : {M : Type 1} → statement M
 assign_lines_spec =

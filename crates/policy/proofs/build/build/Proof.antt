@@ -44,7 +44,7 @@ abbrev ranked : tie.Else4 → tie.After-rank-roles
 ranked c = c.before.before.before.before
 
 abbrev granted : tie.After-check-assignments → tie.After-grant-all
-granted c = c.before.before.before.before
+granted c = c.before.before.before.before.before.before
 
 abbrev columned : tie.After-grant-all → tie.After-columns
 columned c = c.before.before.before.before.before
@@ -150,11 +150,11 @@ grant_all_requires c κs =
 
 check_assignments_requires : tie.Need-check-assignments-requires
 check_assignments_requires c κs =
-    let g = c.before.before.before in
+    let g = c.before.before.before.before.before in
     let d = passed g in
     let granting = g.grant-all.ensures in
     let long = granted_long g ∙ (entry d).pre.0 in
-    (ready (laid (labelling d)), omega arith, third_labelled (stands d) granting, granting.dominating, granting.levelled)
+    (ready (laid (labelling d)), omega arith, third_labelled (stands d) granting, granting.dominating, granting.levelled, lower (columned g), upper (columned g))
 
 finish_requires : tie.Need-finish-requires
 finish_requires c κs =

@@ -2,11 +2,10 @@
 use mathlib.Core.Path.{◌∙◌}
 use native.Mathlib.Omega.{arith}
 use borrow.Author.Rules.{rules}
-use Rattle.rolefile.specs.Said.{labels}
 use Rattle.policy.specs.Settings.{settings}
 use Rattle.policy.specs.inner.Filling.{assign_by_tables}
 use Rattle.policy.proofs.Readying.{good_of, counts_of, a_lines}
-use Rattle.policy.proofs.Inside.{dominates_inside, dominates_preorder}
+use Rattle.policy.proofs.Inside.{dominates_inside}
 use Rattle.policy.proofs.Assigning.{tables_verdict, numbers_within, scan_assignments}
 use Rattle.policy.proofs.build.check_assignments.Statement.{statement}
 use Rattle.policy.proofs.build.check_assignments.Tie as tie
@@ -30,13 +29,15 @@ returns c =
     let f = start.args.f.now in
     let ys = start.args.s.now in
     let q = start.args.q in
-    let (ready, long, labelled, dominating, levelled) = start.requires in
+    let (ready, long, labelled, dominating, levelled, lower, upper) = start.requires in
+    let under = start.args.under.now in
+    let over = start.args.over.now in
     let l = ready.lines in
     let good = good_of f l in
     let counts = counts_of f l in
-    rw (c.before.part.ensures, ready.head) at c.assign-lines.ensures
-    ∙ scan_assignments f good counts (a_lines f q l ready.laid) (assign_by_tables ys (labels f))
-    (tables_verdict (settings f) ys counts.labels.1 (dominates_inside f good) dominating (dominates_preorder f) labelled levelled)
+    rw c.before.part.ensures at c.assign-lines.ensures
+    ∙ scan_assignments f good counts (a_lines f q l ready.laid) (assign_by_tables ys under over)
+    (tables_verdict (settings f) ys counts.labels.1 (dominates_inside f good) dominating labelled levelled under over lower upper)
 
 pub check_assignments_spec : {M : Type 1} → statement M
 check_assignments_spec = tie.close (tie.spec (λ c κs. search rules) assign_lines_requires returns)

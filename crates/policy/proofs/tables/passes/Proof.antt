@@ -1,4 +1,4 @@
--- A level of 0 passes; for any other the comparison decides.
+-- A level of 0 passes; for any other the marks decide.
 use borrow.Author.Rules.{rules}
 use borrow.Author.Tests.{ne_eqb}
 use Rattle.policy.proofs.tables.passes.Statement.{statement}
