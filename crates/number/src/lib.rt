@@ -1,4 +1,6 @@
 // Numbers that stand in several bytes, the first byte lowest.
+#![tactic(auto)]
+
 ghost use Rattle.std.specs.Prelude.{◌≡◌, ◌+◌, ◌*◌, ◌<◌};
 
 // The number in two bytes.

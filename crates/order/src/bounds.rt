@@ -195,7 +195,7 @@ fn partner(up: &MemberRows, m: usize, i: usize) -> usize
 }
 
 // Two things, or 0 and 0.
-#[derive(Drop)]
+#[derive(Clone, Copy)]
 pub struct Pair {
     pub lower: usize,
     pub higher: usize,

@@ -2,6 +2,8 @@
 //
 // Every public function takes any slice, offset and role. A row that does not lie wholly in the
 // slice is empty and stays so, and a number that is no role's is in no row.
+#![tactic(auto)]
+
 mod inner;
 
 ghost use Rattle.std.specs.Prelude.{◌≡◌, ◌&&◌, cond, ◌+◌, ◌*◌, leb};

@@ -8,7 +8,7 @@ use mathlib.Core.Logic.{◌↔◌, ◌⊎◌, inl, inr, ⊎_elim}
 use mathlib.Core.Bool.{Bool, true, false, not, ◌&&◌, ◌||◌, cond, false≢true, true≢false, not-eq-not}
 pub use mathlib.Core.Bool.{and-eq-true_iff as and-iff}
 use lib.Dec.{leb, ltb, eqb}
-use borrow.Author.Tests.{leb-true, le-leb, ltb-true, lt-ltb, eqb-true, eq-eqb, not-true, not-false}
+use borrow.Author.Tests.{leb-true, le-leb, ltb-true, lt-ltb, eqb-true, eq-eqb}
 use Rattle.search.specs.Search.{among, implies, Among}
 
 pub or_iff : (a b : Bool) → ((a || b) ≡ true) ↔ ((a ≡ true) ⊎ (b ≡ true))
@@ -61,17 +61,17 @@ both p q = true≢false (sym p ∙ q)
 pub other_iff : (b : Bool) {a : Bool} {P : Type 0} → (a ≡ not b) ↔ P → (a ≡ b) ↔ (P → ⊥)
 other_iff b i = Iff.trans (Iff.symm not-eq-not) (Iff.not i)
 
--- what code that branches on `!test()` knows of the test that was answered
-pub passed : {t u : Bool} → t ≡ u → not t ≡ false → u ≡ true
-passed {t} e h = sym e ∙ not-false t h
+-- what code that branches on a call's answer knows of the test that was answered
+pub passed : {t u : Bool} → t ≡ u → t ≡ true → u ≡ true
+passed e h = sym e ∙ h
 
-pub failed : {t u : Bool} → t ≡ u → not t ≡ true → u ≡ false
-failed {t} e h = sym e ∙ not-true t h
+pub failed : {t u : Bool} → t ≡ u → t ≡ false → u ≡ false
+failed e h = sym e ∙ h
 
-pub one_of : (n x : ℕ) {t : Bool} → t ≡ among n x → not t ≡ false → Among n x
+pub one_of : (n x : ℕ) {t : Bool} → t ≡ among n x → t ≡ true → Among n x
 one_of n x e h = (among_iff n x).0 (passed e h)
 
-pub none_of : (n x : ℕ) {t : Bool} → t ≡ among n x → not t ≡ true → Among n x → ⊥
+pub none_of : (n x : ℕ) {t : Bool} → t ≡ among n x → t ≡ false → Among n x → ⊥
 none_of n x e h = (other_iff false (among_iff n x)).0 (failed e h)
 
 -- two tests that are true in the same cases are one
