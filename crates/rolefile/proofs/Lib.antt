@@ -7,7 +7,5 @@ pub mod Scanning
 pub mod Decimals
 pub mod Written
 pub mod Parts
-pub mod Held
-pub mod Called
 pub mod Within
 pub mod Sections

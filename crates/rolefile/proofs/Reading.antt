@@ -1,15 +1,13 @@
 -- Reading a line field by field: what is taken out of a field, and that a field which does not read as asked ends the line. Assumes nothing.
 use Prim.Native.Nat.{ℕ, ◌+◌, ◌*◌, ◌≤◌, ◌<◌}
 use mathlib.Core.Path.{◌≡◌, refl}
-use mathlib.Core.Logic.{◌↔◌, ⊎_elim}
+use mathlib.Core.Logic.{◌↔◌}
 use mathlib.Core.List.{List, [], ◌∷◌}
 use mathlib.Core.Bool.{Bool, true, false, ◌&&◌, cond}
 use native.Mathlib.Omega.{arith}
 use lib.Dec.{eqb}
 use lib.ListN.{length, get_or, get_or-eq_default}
-use denote.Enum.Declared
 use Rattle.search.proofs.Truth.{eqb_iff, and_both, same}
-use types.Run
 use Rattle.rolefile.specs.declared.Field.{Field}
 use Rattle.rolefile.specs.declared.Field.TheVariants.{Blank, Number, Bad}
 use Rattle.rolefile.specs.Field.{blank, column, columns, field_at, field_number, value}
@@ -17,7 +15,6 @@ use Rattle.rolefile.specs.Line.{no_line, line_from}
 use Rattle.rolefile.specs.inner.Field.{taken_out}
 use Rattle.rolefile.proofs.Decimals.{field_blank}
 use Rattle.rolefile.proofs.Written.{FieldIs, number_stands, stands_number, not_made}
-use Rattle.rolefile.specs.contracts.Field as field-type
 
 -- columns as one number, the first lowest
 abbrev two : List ℕ → ℕ → ℕ
@@ -91,10 +88,6 @@ taken_iff used f n = (to (eqb (field_number used f) 0) refl, λ h. let (e, v) = 
     to : (b : Bool) → eqb (field_number used f) 0 ≡ b → cond b (Number (value f)) Bad ≡ Number n → FieldIs used f n
     to true q e = let v : value f ≡ n = cc in rw v at (number_stands used f q)
     to false q e = let z : ◌≡◌ {A = ℕ} 0 1 = cc in absurd (omega arith)
-
--- a number is none of the other fields that a match saw
-pub no_number : {x : Field} {n : ℕ} → x ≡ Number n → Run.OneOf (0 ∷ 2 ∷ []) (Declared.tag_of field-type.the_type x) → ⊥
-no_number e seen = ⊎_elim (λ t. omega arith) (λ t. omega arith) (rw e at seen)
 
 -- past its end a file has no line
 pub past_end : (f : List ℕ) (i : ℕ) → length f ≤ i + 21 → no_line ≡ line_from f i

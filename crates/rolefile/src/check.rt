@@ -52,7 +52,7 @@ pub fn counts_fit(labels: u64, roles: u64, users: u64, cards: u64) -> bool
 }
 
 // 4: the counts that the first and the second field of a letter's lines go up to.
-#[derive(Drop)]
+#[derive(Clone, Copy)]
 struct Limits {
     first: u64,
     second: u64,
@@ -147,7 +147,7 @@ fn body(h: Line, p: Line, k: u64, l: Line) -> Verdict
 }
 
 // How far a scan is: line 1, the line before the next one, and the first refusal so far.
-#[derive(Drop)]
+#[derive(Clone, Copy)]
 struct Seen {
     head: Line,
     before: Line,

@@ -4,7 +4,7 @@ ghost use Rattle.rolefile.specs.Line.{line_at};
 
 use super::{Line, read};
 
-#[derive(Drop)]
+#[derive(Clone, Copy)]
 pub struct Reader<'a> {
     pub file: &'a [u8],
     pub next: usize,
