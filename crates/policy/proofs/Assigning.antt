@@ -18,14 +18,13 @@ use Rattle.order.specs.inner.Members.{row_holds, in_row}
 use Rattle.rolefile.specs.declared.Verdict.{Verdict}
 use Rattle.rolefile.specs.Line.{A, line_at, lines, part}
 use Rattle.rolefile.specs.Form.{refusal, header, scan}
-use Rattle.rolefile.specs.Said.{labels, clearance}
 use Rattle.rolefile.specs.inner.Section.{one, two}
 use Rattle.rolefile.specs.WellFormed.{GoodCounts, GoodLines}
 use Rattle.rolefile.proofs.Verdicts.{Clean, unless_clean}
 use Rattle.rolefile.proofs.Sections.{Section, told}
 use Rattle.rolefile.proofs.Within.{scan_within}
 use Rattle.policy.specs.Policy.{Level, Free, Label, Undefined}
-use Rattle.policy.specs.Settings.{Inside, Settings, dominates, settings}
+use Rattle.policy.specs.Settings.{Inside, Settings, settings}
 use Rattle.policy.specs.Policy.{may_at, level, r_level, w_level, passes, is_defined, level_number}
 use Rattle.policy.specs.Tables.{clearances_at, r_levels_at, w_levels_at, byte_of, marked, passes_in, mark_at}
 use Rattle.policy.specs.inner.Filling.{level_row, some_serves, assign_by_tables}

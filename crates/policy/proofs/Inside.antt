@@ -10,7 +10,7 @@ use Rattle.order.specs.Closure.{Relation, via, closure}
 use Rattle.order.proofs.Closure.{ways, same_or_path}
 use Rattle.rolefile.specs.Line.{H, D, S, O, line_at, lines}
 use Rattle.rolefile.specs.Form.{header, first_limit, second_limit, about}
-use Rattle.rolefile.specs.Said.{labels, roles, users, says, over, above, label_by, card_label}
+use Rattle.rolefile.specs.Said.{labels, roles, says, over, above, label_by, card_label}
 use Rattle.rolefile.specs.WellFormed.{One, GoodLines, WellFormed}
 use Rattle.rolefile.proofs.Formed.{header_counts}
 use Rattle.policy.specs.Settings.{dominates, senior, settings, Inside, Bounded}

@@ -12,8 +12,7 @@ use Rattle.search.specs.Search.{Among}
 use Rattle.search.proofs.Found.{wider, some_agree, first_none_of, first_lowest_of}
 use Rattle.order.specs.Closure.{Agree, path, OnCircle, to_itself}
 use Rattle.order.proofs.Closure.{path_iff, circle_misses, circle_agree}
-use Rattle.rolefile.specs.Said.{labels, roles, users, cards}
-use Rattle.policy.specs.Settings.{Bounded, Settings, dominates}
+use Rattle.policy.specs.Settings.{Bounded, Settings}
 use Rattle.policy.specs.Policy.{may}
 use Rattle.policy.specs.Flow.{flows, flow_circle}
 use Rattle.policy.specs.Tables.{state_size, marked, flows_by_card, flowing, roles_up_to, cards_up_to, role_count, flows_in, circle_in}

@@ -20,14 +20,14 @@ use order::marks::Table;
 use rolefile::{Line, Verdict, check, read};
 
 // The lines of one letter: how many stand before them, and how many they are.
-#[derive(Drop)]
+#[derive(Clone, Copy)]
 pub struct Part {
     pub start: usize,
     pub count: usize,
 }
 
 // The lines of each letter after H.
-#[derive(Drop)]
+#[derive(Clone, Copy)]
 pub struct Parts {
     pub d: Part,
     pub s: Part,

@@ -2,6 +2,8 @@
 //
 // `load` checks a file and keeps its policy in a lent state; `layout` says where its parts stand,
 // `tables` reads a state, and `flow` answers reports of a loaded one.
+#![tactic(auto)]
+
 mod assign;
 mod build;
 pub mod flow;

@@ -1,0 +1,28 @@
+-- Each turn puts in one label more, where its row has the role.
+use mathlib.Core.Path.{◌≡◌, ◌∙◌}
+use native.Mathlib.Omega.{arith}
+use borrow.Author.Rules.{rules}
+use borrow.Author.Tests.{le-leb}
+use Rattle.order.proofs.Placing.{row_tested}
+use Rattle.order.proofs.Stored.{put_none, put_more}
+use Rattle.order.specs.Table.{related}
+use Rattle.policy.proofs.gather.labels_of.Goals as goal
+
+pub loop-i-preserved : goal.loop-i-preserved
+loop-i-preserved c =
+    let w = c.loop-i in
+    let a = c.args in (
+      search rules,
+      λ l v. c.with-r.ensures l v
+          ∙ rw (w.invariant.1 l v, row_tested a.g.now a.at w.i _ _ (search rules) c.has.ensures)
+          (put_more (λ l. related a.g.now a.at l a.role) w.i l),
+    )
+
+pub returns : goal.returns
+returns c l v =
+    let w = c.loop-i in
+    let all : w.i ≡ 32 = omega arith in
+    rw (all, le-leb l 32 v.1) at (w.invariant.1 l v)
+
+pub loop-i-init : goal.loop-i-init
+loop-i-init c = (search rules, λ l v. put_none l _ v.0)

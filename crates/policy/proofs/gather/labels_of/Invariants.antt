@@ -1,0 +1,15 @@
+-- Each turn puts in one label more, where its row has the role.
+use Prim.Native.Nat.{ℕ, ◌≤◌, ◌-◌}
+use mathlib.Core.Path.{◌≡◌}
+use mathlib.Core.Bool.{◌&&◌}
+use lib.Dec.{leb}
+use Rattle.search.specs.Search.{Among}
+use Rattle.order.specs.Table.{related}
+use Rattle.order.specs.inner.Members.{holds}
+use Rattle.policy.proofs.gather.labels_of.Given as goal
+
+abbrev pub invariant-loop-i : goal.invariant-loop-i
+invariant-loop-i l = (l.i ≤ 32) × ((k : ℕ) → Among 32 k → holds l.r k ≡ (leb k l.i && related l.g l.at k l.role))
+
+abbrev pub decreases-loop-i : goal.decreases-loop-i
+decreases-loop-i l = 32 - l.i

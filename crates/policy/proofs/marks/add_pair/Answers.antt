@@ -1,0 +1,36 @@
+-- One row is stored, with one mark more, where its thing is a label.
+use native.Mathlib.Omega.{arith}
+use borrow.Author.Rules.{rules}
+use Rattle.search.specs.Search.{Among}
+use Rattle.search.proofs.Truth.{one_of, none_of}
+use Rattle.policy.proofs.Marked.{pair_none, pair_one}
+use Rattle.policy.proofs.marks.add_pair.Goals.{Else-not-among}
+use Rattle.policy.proofs.marks.add_pair.Goals as goal
+
+known : (c : Else-not-among) → Among 32 c.args.a
+known c = one_of 32 _ c.among.ensures c.if-not-among.false
+
+pub returns-then-not-among : goal.returns-then-not-among
+returns-then-not-among c =
+    let g = c.args in
+    (search rules, pair_none g.a g.b g.t.now (none_of 32 _ c.among.ensures c.if-not-among.true))
+
+pub returns : goal.returns
+returns c =
+    let g = c.args in
+    (search rules, pair_one g.a g.b g.t.now c.with_mark.result (known (goal.at.returns c).Else-not-among) (search rules) c.with_mark.ensures)
+
+pub overflow_sub-i : goal.overflow_sub-i
+overflow_sub-i c = omega (arith, known (goal.at.overflow_sub-i c).Else-not-among)
+
+pub offset_bounds-t-i : goal.offset_bounds-t-i
+offset_bounds-t-i c = omega (arith, known (goal.at.offset_bounds-t-i c).Else-not-among)
+
+pub bounds-t-i : goal.bounds-t-i
+bounds-t-i c = omega (arith, known (goal.at.bounds-t-i c).Else-not-among)
+
+pub offset_bounds-t-i-2 : goal.offset_bounds-t-i-2
+offset_bounds-t-i-2 c = omega (arith, known (goal.at.offset_bounds-t-i-2 c).Else-not-among)
+
+pub bounds-t-i-2 : goal.bounds-t-i-2
+bounds-t-i-2 c = omega (arith, known (goal.at.bounds-t-i-2 c).Else-not-among)
