@@ -19,12 +19,12 @@ use Rattle.monitor.specs.Calls.{unless, if_done, at_session, open_number, close_
 -- ---- a row of tests whose answers r are those of calls: a call's `ensures` is r ≡ t
 module _ (t : Bool) (n rest : ℕ) {r : Bool} (e : r ≡ t) where
   -- the test that refuses
-  pub stops : not r ≡ true → n ≡ unless t n rest
+  pub stops : r ≡ false → n ≡ unless t n rest
   unfolding unless
   stops h = rw (failed e h)
 
   -- a test before it
-  pub passes : {x : ℕ} → not r ≡ false → x ≡ rest → x ≡ unless t n rest
+  pub passes : {x : ℕ} → r ≡ true → x ≡ rest → x ≡ unless t n rest
   unfolding unless
   passes h k = rw (passed e h) k
 
@@ -41,10 +41,10 @@ pub ruleset row = (stops, passes, stops_not, passes_not)
 
 -- the same of tests that are answered together: the one that fails, and one before it
 module _ (t rest : Bool) {r : Bool} (e : r ≡ t) where
-  pub fails : not r ≡ true → false ≡ (t && rest)
+  pub fails : r ≡ false → false ≡ (t && rest)
   fails h = rw (failed e h)
 
-  pub holds : {x : Bool} → not r ≡ false → x ≡ rest → x ≡ (t && rest)
+  pub holds : {x : Bool} → r ≡ true → x ≡ rest → x ≡ (t && rest)
   holds h k = rw (passed e h) k
 
 pub ruleset tests = (fails, holds)
@@ -99,7 +99,7 @@ sound_iff xs =
     )
 
 -- ---- what a test that passed tells
-pub user_known : (xs : List ℕ) {r : Bool} → r ≡ sound xs → not r ≡ false → (x : ℕ) {q : Bool} → q ≡ among (users_in xs) x → not q ≡ false → Among 256 x
+pub user_known : (xs : List ℕ) {r : Bool} → r ≡ sound xs → r ≡ true → (x : ℕ) {q : Bool} → q ≡ among (users_in xs) x → q ≡ true → Among 256 x
 user_known xs e h x f k = let w = one_of (users_in xs) x f k in let few = ((sound_iff xs).0 (passed e h)).users in omega arith
 
 -- ---- what a call that is done tells, for the code that then writes
@@ -166,13 +166,13 @@ module _ (xs : List ℕ) (p : ℕ) {r : ℕ} (e : r ≡ close_number xs p) where
     pub place_known : Among 64 p
     place_known = at_session_lem.place
 
-    pub role_known : (x : ℕ) {q : Bool} → q ≡ among (roles_in xs) x → not q ≡ false → Among 128 x
+    pub role_known : (x : ℕ) {q : Bool} → q ≡ among (roles_in xs) x → q ≡ true → Among 128 x
     role_known x f k = let w = one_of (roles_in xs) x f k in let few = at_session_lem.sound.roles in omega arith
 
-    pub card_known : (x : ℕ) {q : Bool} → q ≡ among (cards_in xs) x → not q ≡ false → Among 512 x
+    pub card_known : (x : ℕ) {q : Bool} → q ≡ among (cards_in xs) x → q ≡ true → Among 512 x
     card_known x f k = let w = one_of (cards_in xs) x f k in let few = at_session_lem.sound.cards in omega arith
 
-pub ruleset session-row = (stops, passes, first_stops, first_passes)
+pub ruleset session_row = (stops, passes, first_stops, first_passes)
 
 pub close_room : (xs : List ℕ) (p : ℕ) → close_number xs p ≡ 0 → Room xs p
 unfolding close_number

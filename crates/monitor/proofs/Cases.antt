@@ -1,6 +1,6 @@
 -- The definitions find of each case of `Cases` what it expects: one test, computed over the whole table, and one lemma. Assumes nothing.
 use mathlib.Core.Path.{◌≡◌, refl}
-use mathlib.Core.List.{List, ◌∷◌, map, Memᴰ}
+use mathlib.Core.List.{List, [], ◌∷◌, map, Memᴰ}
 use Rattle.search.specs.Search.{some, every, first}
 use Rattle.order.specs.Closure.{via}
 use Rattle.order.specs.Bound.{upper, is_least, least_of, lub, pair_without_bound, partner_without_bound, lowest_without_bound}
@@ -31,6 +31,7 @@ unfolding cases findings bytes
 computed = refl
 
 of_each : (cs : List Case) → map given cs ≡ map (λ c. c.expected) cs → (c : Case) → Memᴰ c cs → given c ≡ c.expected
+of_each [] e c m = elim m [ ]
 of_each (x ∷ cs) e c (Memᴰ.head same) = cc
 of_each (x ∷ cs) e c (Memᴰ.tail m) = of_each cs (cc) c m
 

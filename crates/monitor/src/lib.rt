@@ -1,7 +1,9 @@
 // The monitor that a C server links: a policy loaded into a lent state, and the session calls over
-// a lent store of cards.
+// a lent store of cards. `monitor_c` exports these functions to C.
 //
-// No exported function asks anything of its caller: every number is legal and every slice may be empty.
+// No function asks anything of its caller: every number is legal and every slice may be empty.
+#![tactic(auto)]
+
 mod cards;
 mod report;
 mod review;
@@ -18,7 +20,7 @@ ghost use Rattle.monitor.specs.Calls.{Opens, Closes, Takes, Drops, read_number, 
 
 // The answer of a load, as C has it.
 #[repr(C)]
-#[derive(Drop)]
+#[derive(Clone, Copy)]
 pub struct LoadAnswer {
     pub number: u64,
     pub first: u64,
@@ -27,7 +29,7 @@ pub struct LoadAnswer {
 
 // The answer of a report or of a review call, as C has it.
 #[repr(C)]
-#[derive(Drop)]
+#[derive(Clone, Copy)]
 pub struct Figure {
     pub number: u64,
     pub figure: u64,
@@ -35,7 +37,7 @@ pub struct Figure {
 
 // The answer that tells how many of each thing there are, as C has it.
 #[repr(C)]
-#[derive(Drop)]
+#[derive(Clone, Copy)]
 pub struct Counts {
     pub number: u64,
     pub labels: u64,
@@ -47,7 +49,7 @@ pub struct Counts {
 // The answer that tells a session, as C has it. Of the roles held role r is bit r - 1 of `low`, or
 // from 65 on bit r - 65 of `high`.
 #[repr(C)]
-#[derive(Drop)]
+#[derive(Clone, Copy)]
 pub struct Session {
     pub number: u64,
     pub user: u64,
@@ -58,7 +60,7 @@ pub struct Session {
 
 // The answer that tells a set of roles, as C has it.
 #[repr(C)]
-#[derive(Drop)]
+#[derive(Clone, Copy)]
 pub struct RoleSet {
     pub number: u64,
     pub low: u64,
@@ -66,8 +68,7 @@ pub struct RoleSet {
 }
 
 // Checks a role file and replaces the state by its policy: 7, or the verdict on the file.
-#[unsafe(no_mangle)]
-pub extern "C" fn monitor_load(file: &[u8], state: &mut [u8]) -> LoadAnswer
+pub fn monitor_load(file: &[u8], state: &mut [u8]) -> LoadAnswer
     ensures { Loaded file.now (record { number = result.number; first = result.first; second = result.second }) state.old state.new }
 {
     let v = policy::load(file, state);
@@ -79,40 +80,35 @@ pub extern "C" fn monitor_load(file: &[u8], state: &mut [u8]) -> LoadAnswer
 }
 
 // Opens a place for a user at a label: 21, 22, 23, 25, 26.
-#[unsafe(no_mangle)]
-pub extern "C" fn monitor_open(state: &mut [u8], place: u64, user: u64, label: u64) -> u64
+pub fn monitor_open(state: &mut [u8], place: u64, user: u64, label: u64) -> u64
     ensures { Opens state.old place user label result state.new }
 {
     sessions::open(state, place, user, label)
 }
 
 // Closes a place: 21, 22, 24.
-#[unsafe(no_mangle)]
-pub extern "C" fn monitor_close(state: &mut [u8], place: u64) -> u64
+pub fn monitor_close(state: &mut [u8], place: u64) -> u64
     ensures { Closes state.old place result state.new }
 {
     sessions::close(state, place)
 }
 
 // Takes a role at a place: 21, 22, 24, 25, 27, 28.
-#[unsafe(no_mangle)]
-pub extern "C" fn monitor_take(state: &mut [u8], place: u64, role: u64) -> u64
+pub fn monitor_take(state: &mut [u8], place: u64, role: u64) -> u64
     ensures { Takes state.old place role result state.new }
 {
     sessions::take(state, place, role)
 }
 
 // Drops a role at a place: 21, 22, 24, 25.
-#[unsafe(no_mangle)]
-pub extern "C" fn monitor_drop(state: &mut [u8], place: u64, role: u64) -> u64
+pub fn monitor_drop(state: &mut [u8], place: u64, role: u64) -> u64
     ensures { Drops state.old place role result state.new }
 {
     sessions::drop(state, place, role)
 }
 
 // The number of a read: 21, 22, 24, 25, 29, 30, 31.
-#[unsafe(no_mangle)]
-pub extern "C" fn monitor_read_number(
+pub fn monitor_read_number(
     state: &[u8],
     store: &[u8],
     place: u64,
@@ -140,8 +136,7 @@ pub fn read<'a>(
 }
 
 // Writes bytes into a card: 21, 22, 24, 25, 29, 30, 31.
-#[unsafe(no_mangle)]
-pub extern "C" fn monitor_write(
+pub fn monitor_write(
     state: &[u8],
     store: &mut [u8],
     place: u64,
@@ -155,8 +150,7 @@ pub extern "C" fn monitor_write(
 }
 
 // Whether one role flows to another, 1 or 0: 21, 25.
-#[unsafe(no_mangle)]
-pub extern "C" fn monitor_flows(state: &[u8], from: u64, to: u64) -> Figure
+pub fn monitor_flows(state: &[u8], from: u64, to: u64) -> Figure
     ensures { Flows state.now from to result.number result.figure }
 {
     let number = report::flows_number(state, from, to);
@@ -165,8 +159,7 @@ pub extern "C" fn monitor_flows(state: &[u8], from: u64, to: u64) -> Figure
 }
 
 // The lowest role on a circle of flow, or 0: 21.
-#[unsafe(no_mangle)]
-pub extern "C" fn monitor_circle(state: &[u8]) -> Figure
+pub fn monitor_circle(state: &[u8]) -> Figure
     ensures { Circles state.now result.number result.figure }
 {
     let number = report::state_number(state);
@@ -176,8 +169,7 @@ pub extern "C" fn monitor_circle(state: &[u8]) -> Figure
 
 // Whether a session of the user at the label could be granted a read (mode 1) or a write (mode 2)
 // of the card, 1 or 0: 21, 25, 26.
-#[unsafe(no_mangle)]
-pub extern "C" fn monitor_can(state: &[u8], user: u64, label: u64, card: u64, mode: u64) -> Figure
+pub fn monitor_can(state: &[u8], user: u64, label: u64, card: u64, mode: u64) -> Figure
     ensures { Cans state.now user label card mode result.number result.figure }
 {
     let number = rights::can_number(state, user, label, card, mode);
@@ -186,72 +178,63 @@ pub extern "C" fn monitor_can(state: &[u8], user: u64, label: u64, card: u64, mo
 }
 
 // How many labels, roles, users and cards the state has: 21.
-#[unsafe(no_mangle)]
-pub extern "C" fn monitor_counts_of(state: &[u8]) -> Counts
+pub fn monitor_counts_of(state: &[u8]) -> Counts
     ensures { review.CountsOf state.now result.number result.labels result.roles result.users result.cards }
 {
     review::counts(state)
 }
 
 // The session at a place, with the roles that it holds: 21, 22, 24.
-#[unsafe(no_mangle)]
-pub extern "C" fn monitor_session_at(state: &[u8], place: u64) -> Session
+pub fn monitor_session_at(state: &[u8], place: u64) -> Session
     ensures { review.SessionOf state.now place result.number result.user result.label result.low result.high }
 {
     review::session(state, place)
 }
 
 // The user's clearance: 21, 25.
-#[unsafe(no_mangle)]
-pub extern "C" fn monitor_clearance(state: &[u8], user: u64) -> Figure
+pub fn monitor_clearance(state: &[u8], user: u64) -> Figure
     ensures { review.ClearanceOf state.now user result.number result.figure }
 {
     review::clearance(state, user)
 }
 
 // The card's label: 21, 25.
-#[unsafe(no_mangle)]
-pub extern "C" fn monitor_card_label(state: &[u8], card: u64) -> Figure
+pub fn monitor_card_label(state: &[u8], card: u64) -> Figure
     ensures { review.CardLabelOf state.now card result.number result.figure }
 {
     review::card_label(state, card)
 }
 
 // The role's r-level (mode 1) or w-level (mode 2), a label, 0 free or 99 undefined: 21, 25.
-#[unsafe(no_mangle)]
-pub extern "C" fn monitor_level(state: &[u8], role: u64, mode: u64) -> Figure
+pub fn monitor_level(state: &[u8], role: u64, mode: u64) -> Figure
     ensures { review.LevelOf state.now role mode result.number result.figure }
 {
     review::level(state, role, mode)
 }
 
 // Whether label a dominates label b, 1 or 0: 21, 25.
-#[unsafe(no_mangle)]
-pub extern "C" fn monitor_dominates(state: &[u8], a: u64, b: u64) -> Figure
+pub fn monitor_dominates(state: &[u8], a: u64, b: u64) -> Figure
     ensures { review.Dominates state.now a b result.number result.figure }
 {
     review::dominates(state, a, b)
 }
 
 // Whether the role is a senior of the other, or the same, 1 or 0: 21, 25.
-#[unsafe(no_mangle)]
-pub extern "C" fn monitor_senior(state: &[u8], role: u64, other: u64) -> Figure
+pub fn monitor_senior(state: &[u8], role: u64, other: u64) -> Figure
     ensures { review.SeniorTo state.now role other result.number result.figure }
 {
     review::senior(state, role, other)
 }
 
 // Whether the user is assigned to the role itself, 1 or 0: 21, 25.
-#[unsafe(no_mangle)]
-pub extern "C" fn monitor_assigned(state: &[u8], user: u64, role: u64) -> Figure
+pub fn monitor_assigned(state: &[u8], user: u64, role: u64) -> Figure
     ensures { review.AssignedTo state.now user role result.number result.figure }
 {
     review::assigned(state, user, role)
 }
 
 // The roles that a session of the user at the label may take: 21, 25, 26.
-#[unsafe(no_mangle)]
-pub extern "C" fn monitor_takable(state: &[u8], user: u64, label: u64) -> RoleSet
+pub fn monitor_takable(state: &[u8], user: u64, label: u64) -> RoleSet
     ensures { review.TakableOf state.now user label result.number result.low result.high }
 {
     review::takable(state, user, label)
@@ -259,15 +242,7 @@ pub extern "C" fn monitor_takable(state: &[u8], user: u64, label: u64) -> RoleSe
 
 // Whether a role of the set gives the read (mode 1) or the write (mode 2) of the card to a session
 // at the label, 1 or 0: 21, 25.
-#[unsafe(no_mangle)]
-pub extern "C" fn monitor_gives(
-    state: &[u8],
-    low: u64,
-    high: u64,
-    label: u64,
-    card: u64,
-    mode: u64,
-) -> Figure
+pub fn monitor_gives(state: &[u8], low: u64, high: u64, label: u64, card: u64, mode: u64) -> Figure
     ensures { review.GivesOf state.now low high label card mode result.number result.figure }
 {
     review::gives(state, low, high, label, card, mode)
