@@ -13,10 +13,9 @@ use Rattle.policy.specs.Image.{Loaded}
 use Rattle.policy.proofs.Inside.{file_bounded}
 use Rattle.policy.proofs.Loads.{judged}
 use Rattle.policy.proofs.Outcomes.{accepted_iff}
-use Rattle.io.specs.Counts.{IsPrefixLen}
 use Rattle.text.specs.Text.{Puts}
 use Rattle.text.proofs.Text.{puts_whole}
-use Rattle.rolecheck.specs.Report.{line, state_lines, report}
+use Rattle.rolecheck.specs.Report.{line, state_lines, report, IsPrefixLen}
 use Rattle.rolecheck.proofs.BySettings.{lines_by}
 use Rattle.rolecheck.proofs.Places.{Written, verdict_written}
 use Rattle.rolecheck.proofs.Fits.{report_length}

@@ -1,6 +1,6 @@
 -- The report on a file: "in lines of the same form, V (number, the two numbers of its place), R for each role (role, r-level, w-level; 0 free, 99
 -- undefined), F for each flow in rising order (from, to), C (role on a circle or 0)"; of a file that is refused, V alone. Assumes nothing.
-use Rattle.std.specs.Prelude.{ℕ, List, [], ◌∷◌, ◌++◌, cond, leb, eqb}
+use Rattle.std.specs.Prelude.{ℕ, ◌≤◌, ◌≡◌, List, [], ◌∷◌, ◌++◌, cond, leb, eqb, length, take}
 use Rattle.order.specs.Closure.{Relation}
 use Rattle.rolefile.specs.Line.{newline}
 use Rattle.rolefile.specs.Decimal.{blanks, columns_of}
@@ -54,3 +54,7 @@ report f =
 
 abbrev pub state_lines : List ℕ → List ℕ
 state_lines xs = policy_lines (role_count xs) (level_in xs r_levels_at) (level_in xs w_levels_at) (flows_in xs) (circle_in xs)
+
+-- the first n bytes of xs are there, and are n
+abbrev pub IsPrefixLen : ℕ → List ℕ → Type 0
+IsPrefixLen n xs = (n ≤ length xs) × (n ≡ length (take n xs))

@@ -1,9 +1,8 @@
 // The report on a role file.
 ghost use Rattle.std.specs.Prelude.{◌≡◌, ◌≤◌, ◌<◌, length, take};
-ghost use Rattle.io.specs.Counts.{IsPrefixLen};
 ghost use Rattle.policy.specs.Tables.{r_levels_at, w_levels_at, level_in, flows_in, role_count};
 ghost use Rattle.text.specs.Text.{Puts};
-ghost use Rattle.rolecheck.specs.Report.{role_lines, flow_line, flows_from, flow_lines, state_lines, report};
+ghost use Rattle.rolecheck.specs.Report.{role_lines, flow_line, flows_from, flow_lines, state_lines, report, IsPrefixLen};
 
 use super::line::line;
 
@@ -83,7 +82,7 @@ pub fn report(file: &[u8], out: &mut [u8; 363308]) -> usize
     ensures prefix_len { IsPrefixLen result out.new }
     ensures out_after { take result out.new ≡ report file.now }
 {
-    let mut state = io::large_buffer();
+    let mut state = [0u8; policy::layout::STATE_SIZE];
     let v = policy::load(file, &mut state);
     let used = line(out, 0, b'V', 3, v.number, v.first, v.second);
     if v.number != 0 {

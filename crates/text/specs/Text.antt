@@ -1,5 +1,5 @@
 -- Text put into a buffer. Assumes nothing.
-use Rattle.std.specs.Prelude.{ℕ, zero, suc, ◌+◌, ◌≤◌, ◌≡◌, List, [], ◌++◌, Bool, cond, length, take}
+use Rattle.std.specs.Prelude.{ℕ, zero, suc, ◌≤◌, ◌≡◌, List, [], ◌++◌, Bool, cond, length, take}
 use Rattle.rolefile.specs.Decimal.{last_digits, in_columns, blanks}
 
 -- the texts of the things 1 to n, one after the other

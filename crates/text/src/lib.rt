@@ -1,6 +1,10 @@
-// Text put into a buffer: bytes, and numbers in columns.
+// Text put into a buffer: bytes, and numbers in columns; and a buffer filled from a reader.
 //
 // A buffer that is too short for a text holds as much of its start as there is room for.
+#![tactic(auto)]
+
+pub mod input;
+
 ghost use Rattle.std.specs.Prelude.{◌≡◌, ◌<◌, length};
 ghost use Rattle.rolefile.specs.Decimal.{columns_of};
 ghost use Rattle.text.specs.Text.{Puts, last_columns};
@@ -39,8 +43,8 @@ fn digit(n: u64) -> u8
 // The five columns of a number, or blanks for a field without use. They hold a number below 100,000
 // whole, and the last five digits of any other.
 fn columns(used: bool, n: u64) -> [u8; 5]
-    ensures value { 5 ≡ length result }
-    ensures value_2 { result ≡ last_columns used n }
+    ensures five { 5 ≡ length result }
+    ensures columns { result ≡ last_columns used n }
 {
     if !used {
         return [32; 5];

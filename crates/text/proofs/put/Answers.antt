@@ -1,5 +1,5 @@
 -- Each turn puts one byte more, up to the end of the buffer or of the bytes.
-use Prim.Native.Nat.{ℕ, suc, ◌+◌, ◌-◌, ◌≤◌, ◌<◌}
+use Prim.Native.Nat.{ℕ, suc, ◌+◌, ◌≤◌, ◌<◌}
 use mathlib.Core.Path.{◌≡◌, refl, sym, ap, ◌∙◌}
 use mathlib.Core.List.{List, [], ◌∷◌, ◌++◌, append_assoc, append-nil}
 use native.Mathlib.Omega.{arith}
@@ -9,15 +9,7 @@ use borrow.Author.Rules.{rules}
 use lib.ListN.{length, get_or, set, take, drop, length-set, take-append-drop}
 use lib.Seq.{take-suc, take-suc-set, take_all, take_at, take-append-le, length-take-le}
 use Rattle.text.specs.Text.{Puts}
-use Rattle.text.proofs.put.Statement.{statement}
-use Rattle.text.proofs.put.Tie as tie
-
-abbrev invariant-loop : tie.invariant-loop
-invariant-loop out₀ at bytes i₀ out i =
-    (i ≤ length bytes) × (at + i ≤ length out) × (length out ≡ length out₀) × (take (at + i) out ≡ (take at out₀ ++ take i bytes))
-
-abbrev decreases-loop : tie.decreases-loop
-decreases-loop out₀ at bytes i₀ out i = length bytes - i
+use Rattle.text.proofs.put.Goals as goal
 
 none : (xs : List ℕ) (at : ℕ) → take (at + 0) xs ≡ (take at xs ++ [])
 none xs at = rw add-zero (sym (append-nil (take at xs)))
@@ -57,47 +49,26 @@ module _ (more xs out : List ℕ) (at i : ℕ) (size : length out ≡ length xs)
       text = let whole : take i more ≡ more = take_all i more l in rw (done, whole) (sym (take_all (length xs) (take at xs ++ more) (omega (arith, rw whole at long))));
     }
 
-returns : tie.Need-returns invariant-loop decreases-loop
-returns c = past _ _ _ c.if1.true
+pub returns-then-out-at : goal.returns-then-out-at
+returns-then-out-at c = past _ _ _ c.if-out-at.true
 
-loop_holds : tie.Need-loop-init invariant-loop decreases-loop
-loop_holds c = let a = c.before.args in (search rules, search rules, search rules, none a.out.now a.at)
+pub loop-i-init : goal.loop-i-init
+loop-i-init c = let a = c.args in (search rules, search rules, search rules, none a.out.now a.at)
 
-returns_2 : tie.Need-returns-2 invariant-loop decreases-loop
-returns_2 c =
-    let w = c.before.before.loop in
-    let a = c.before.before.before.before.args in
+pub returns-then-out-at-2 : goal.returns-then-out-at-2
+returns-then-out-at-2 c =
+    let w = c.loop-i in
+    let a = c.args in
     full a.bytes.now a.out.now w.out a.at w.i w.invariant.2 w.invariant.3 w.invariant.1 (omega arith)
 
-loop_again : tie.Need-loop-preserved invariant-loop decreases-loop
-loop_again c =
-    let w = c.before.before.before.loop in
-    let a = c.before.before.before.before.before.args in
+pub loop-i-preserved : goal.loop-i-preserved
+loop-i-preserved c =
+    let w = c.loop-i in
+    let a = c.args in
     (search rules, simp length-set (omega arith), search rules, next a.bytes.now a.out.now w.out a.at w.i w.invariant.2 w.invariant.3 (omega arith) (omega arith))
 
-returns_3 : tie.Need-returns-3 invariant-loop decreases-loop
-returns_3 c =
-    let w = c.before.loop in
-    let a = c.before.before.before.args in
+pub returns : goal.returns
+returns c =
+    let w = c.loop-i in
+    let a = c.args in
     all a.bytes.now a.out.now w.out a.at w.i w.invariant.2 w.invariant.3 w.invariant.1 (omega arith)
-
-pub put_spec : {M : Type 1} → statement M
-put_spec =
-    tie.close
-    (tie.spec
-    invariant-loop
-    decreases-loop
-    returns
-    loop_holds
-    (λ c. search rules)
-    (λ c. search rules)
-    returns_2
-    (λ c. search rules)
-    (λ c. search rules)
-    (λ c. search rules)
-    (λ c. search rules)
-    (λ c. search rules)
-    loop_again
-    (λ c. search rules)
-    (λ c. search rules)
-    returns_3)
