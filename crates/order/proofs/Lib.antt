@@ -1,4 +1,5 @@
 pub mod Closure
+pub mod Compared
 pub mod Bound
 pub mod Lattice
 pub mod Left

@@ -1,4 +1,5 @@
 pub mod Closure
+pub mod Comparison
 pub mod Bound
 pub mod Table
 pub mod inner
