@@ -38,7 +38,7 @@ SONAME != sed -n 's/^.define MONITOR_VERSION_MAJOR /libmonitor.so./p' include/mo
 SHARED = libmonitor.so.$(VERSION)
 PAGES = $(BUILD)/yeruvoi.1 $(BUILD)/rolecheck.1 $(BUILD)/monitor.3
 
-MONITOR_SOURCES != host/sources monitor
+MONITOR_SOURCES != host/sources monitor_c
 ROLECHECK_SOURCES != host/sources rolecheck
 YERUVOI_SOURCES != find host/yeruvoi -name target -prune -o -type f -print
 
@@ -92,13 +92,13 @@ cargo:
 $(PROVED): $(MONITOR_SOURCES) kit.txt
 	@$(NEED_RT)
 	@$(SAME_RT)
-	rt staticlib monitor
+	host/build archive
 	@touch $@
 
 $(CHECKED): $(ROLECHECK_SOURCES) kit.txt
 	@$(NEED_RT)
 	@$(SAME_RT)
-	rt check rolecheck
+	host/build rolecheck
 	@touch $@
 
 $(COMMAND): $(ARCHIVE) $(YERUVOI_SOURCES) include/monitor.h kit.txt
@@ -149,7 +149,7 @@ uninstall:
 	rm -f "$(DESTDIR)$(MANDIR)/man1/yeruvoi.1" "$(DESTDIR)$(MANDIR)/man1/rolecheck.1"
 
 clean:
-	rm -rf target host/*/target host/*/build host/fuzz/model/target
+	rm -rf target crates/*/out host/*/target host/*/build host/fuzz/model/target
 
 # ---- of a role file
 
@@ -177,7 +177,7 @@ example: $(ARCHIVE)
 # ---- evidence
 
 prove: kit
-	rt check
+	rt all check
 
 test: kit
 	.ci/run
