@@ -1,7 +1,8 @@
 // The monitor that a C server links: a policy loaded into a lent state, and the session calls over
 // a lent store of cards. `monitor_c` exports these functions to C.
 //
-// No function asks anything of its caller: every number is legal and every slice may be empty.
+// No public function here asks anything of its caller: every number is legal and every slice may be
+// empty.
 #![tactic(auto)]
 
 mod cards;

@@ -1,7 +1,7 @@
 -- Bounds of a set s : ℕ → Bool of things in an order ge of the things 1 to n: `ge c x`, c is over x or is x.
 --     lub n ge s                    the least upper bound of s, or 0; in the order turned round, the greatest lower bound
---     partner_without_bound n ge a    the lowest b after a with which a has no least upper bound, or 0
---     lowest_without_bound n ge       the lowest a with such a b, or 0: with it, the first pair without a least upper bound
+--     partner_without_bound n ge a  the lowest b after a with which a has no least upper bound, or 0
+--     lowest_without_bound n ge     the lowest a with such a b, or 0: with it, the first pair without a least upper bound
 --     IsLub, IsGlb, Joined, FirstPair say the same as properties
 -- Assumes nothing.
 use Rattle.std.specs.Prelude.{ℕ, ◌<◌, ◌≡◌, Bool, true, ◌&&◌, ◌||◌, cond, eqb, ltb}

@@ -1,6 +1,6 @@
--- How two things of an order compare: the four outcomes of document 02, change 8.
+-- How two things of an order compare: four outcomes.
 --     compare ge a b     equal, above, below or neither, by whether a is over b or is it, and b over a or is it
---     at_least c          equal or above
+--     at_least c         equal or above
 --     Compares ge a b c  what each outcome says of a and b, as a property; in a partial order a compares with b so exactly there (`compare_iff` under proofs/)
 -- Assumes nothing.
 use Rattle.std.specs.Prelude.{ℕ, ◌≡◌, Bool, true, false}

@@ -1,14 +1,14 @@
 -- Sets of roles 1 to 128, each a row of 16 bytes of a list: role r is bit (r - 1) % 8 (`role_bit`) of byte (r - 1) / 8 (`role_byte`).
---     whole xs at               the row at `at` lies wholly in xs
---     row_of at x                where the row of thing x begins, in a table of rows at `at`
---     member xs at r            the row of xs at `at` holds role r
---     common xs a b             the rows at a and at b have a role in common
---     next_member xs at after    the lowest role above `after` that the row holds, or 0
---     RowCopy xs at row         `row` has the roles of the row of xs at `at`
---     AllBytes xs               each number of xs is a byte
---     Kept a b xs ys            every byte of ys but those from a up to b is xs's
---     Placed at s xs ys         ys is xs with the set s in the row at `at`, and nothing else changed
---     PlacedRows at n s xs ys   the same for n rows from `at` on
+--     whole xs at              the row at `at` lies wholly in xs
+--     row_of at x              where the row of thing x begins, in a table of rows at `at`
+--     member xs at r           the row of xs at `at` holds role r
+--     common xs a b            the rows at a and at b have a role in common
+--     next_member xs at after  the lowest role above `after` that the row holds, or 0
+--     RowCopy xs at row        `row` has the roles of the row of xs at `at`
+--     AllBytes xs              each number of xs is a byte
+--     Kept a b xs ys           every byte of ys but those from a up to b is xs's
+--     Placed at s xs ys        ys is xs with the set s in the row at `at`, and nothing else changed
+--     PlacedRows at n s xs ys  the same for n rows from `at` on
 -- Assumes nothing.
 use Rattle.std.specs.Prelude.{ℕ, ◌+◌, ◌-◌, ◌*◌, ◌/◌, ◌%◌, ◌^◌, ◌≤◌, ◌<◌, ◌≡◌, Bool, true, not, ◌&&◌, ◌||◌, List, leb, eqb, length, get_or}
 use Rattle.search.specs.Search.{among, some, first}
