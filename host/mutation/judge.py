@@ -1,139 +1,168 @@
 """Judges an edit as the gate does: by the prover, by a program's run, and by the gate's host tests of the program.
 
 The kit's contracts cannot say what a program reads and writes, so its decisions are proved and its
-reading and writing are tested. Results are kept under target/mutation, in a folder or file for each
-crate or edit, so that two processes over different crates do not meet.
+reading and writing are tested. Edits are made in a copy of the repository, which a process has for
+itself and outside it, since the gate takes a source file nowhere but in the crates. Results are kept
+under target/mutation, in a file for each edit, so that two processes over different crates do not meet.
 """
 import contextlib
-import fcntl
 import functools
 import hashlib
 import re
 import shutil
 import subprocess
 import sys
+import tempfile
 from collections import namedtuple
 from pathlib import Path
 
 ROOT = Path(__file__).resolve().parents[2]
 WORK = ROOT / "target" / "mutation"
-RLIBS = ROOT / "target" / "rlib"
 BUILT = "host/checker/target/release"
+PROVED = ("src", "specs", "proofs")
+RUN_ON = ("stdin", "stdout", "args", "status", "data")
+TESTED = "rolecheck"
 
-# Where the prover refuses, the kind is that of the first error: `fact`, `step` or `unfit`.
+# Where the prover refuses, the kind is `fact`, `step` or `unfit`; README.md says what each is.
 Outcome = namedtuple("Outcome", "result place kind", defaults=["", ""])
 
-# How the checker says that a proof does not fit the function's shape any more: a need, a field or an argument
-# is missing, is one too many, or is another.
+# How the checker says that a proof does not fit the function's shape any more: a goal, a field or an argument
+# is missing, or is another.
 UNFIT = re.compile(
     r"has no `[^`]*` that can be named from here"
     r"|\bhas no field `"
-    r"|but this has type `(?:\S*\.)?Need-"
+    r"|\bis not in scope\b"
     r"|this pattern needs a function"
-    r"|this λ is checked against `[^`]*`, which is not a function"
-    r"|on the face `κs")
+    r"|this λ is checked against `[^`]*`, which is not a function")
 
 # How it says that a step of a proof does not apply or gives up, which leaves open whether the fact holds.
 STEP = re.compile(
-    r"`rw`: no (?:occurrence of the path's|part of the goal)"
+    r"`rw`: no occurrence of the path's"
+    r"|`simp`: no equation of the list"
     r"|(?:met|stopped at) a bound of its own"
-    r"|Not every way was tried|It stopped (?:after|when)"
+    r"|gave up at one of its limits"
+    r"|Not every way was tried|It stopped (?:after|when|\d+ lemmas deep)"
     r"|step limit")
 
-# How it says that something is left unchecked because of an earlier error.
-CONSEQUENCE = "was not admitted"
+# How it says that it has values at which the fact fails, while all holds that is known there.
+FAILS = re.compile(
+    r"the facts known there allow values at which this goal is false"
+    r"|\bholds?, and (?:the goal|the part|it) fails")
 
-# Edits after which a function has fewer needs, so that an error among the arguments of its `-spec`, which go by
-# their place, may be at another need than the one that was meant.
+# How it says that something is left unchecked because of an earlier error.
+CONSEQUENCE = re.compile(r"\d declarations? that depends? on ")
+
+# How it says that a crate is not proved, that a program's run went wrong, and that a goal without an answer is left open.
+NOT_PROVED = re.compile(r"^logic=not-proved", re.M)
+RUN = re.compile(r"^rt: FAILED: .*\(run\)", re.M)
+OPEN = re.compile(r"^note: \S+:\d+:\d+: it is not proved that .*", re.M)
+
+# Edits after which a function has fewer goals and facts. Names of these count, as `passes-2` does, so an error may
+# be at another than the one that was meant where a name is missing.
 FEWER = ("test left out", "call left out")
 
 
 def said_by(words, folder):
     """A command's exit status and what it said."""
-    done = subprocess.run(words, cwd=folder, stdout=subprocess.PIPE, stderr=subprocess.STDOUT,
+    done = subprocess.run(words, cwd=folder, stdin=subprocess.DEVNULL, stdout=subprocess.PIPE, stderr=subprocess.STDOUT,
                           text=True, errors="replace", check=False)
     return done.returncode, done.stdout
-
-
-@contextlib.contextmanager
-def alone():
-    """Holds off other processes of this program, since two of `rt check` in one repository mix their notes."""
-    with open(WORK / "lock", "w", encoding="utf-8") as lock:
-        fcntl.flock(lock, fcntl.LOCK_EX)
-        yield
 
 
 def dependencies(crate):
     """What crates.txt says that a crate depends on."""
     for line in (ROOT / "crates.txt").read_text().splitlines():
         name, _, rest = line.partition(":")
-        if name.strip() == crate:
+        if name.split()[:1] == [crate]:
             return rest.split()
     raise ValueError(f"crates.txt does not list {crate}")
 
 
-def is_program(crate):
-    return (ROOT / "crates" / crate / "src" / "main.rt").exists()
+def below(crate):
+    """The repository's crates below a crate."""
+    found = set()
+    for d in dependencies(crate):
+        if (ROOT / "crates" / d).is_dir():
+            found |= {d, *below(d)}
+    return sorted(found)
 
 
-def command(crate, more):
-    """The check of the crate's copy against its proved dependencies."""
-    ours = [d for d in dependencies(crate) if (ROOT / "crates" / d).is_dir()]
-    kit = [d for d in dependencies(crate) if d not in ours]
-    words = ["rt", "check", f"./{crate}", "--deps", ",".join(kit), "-L", f"dependency={RLIBS}"]
-    for d in ours:
-        words += ["--extern", f"{d}={RLIBS / d}.rlib"]
-    return words + more
+def programs(crate):
+    """The programs that are the crate or stand on it, which the gate runs."""
+    found = sorted(path.parts[-3] for path in ROOT.glob("crates/*/src/main.rt"))
+    return [name for name in found if crate in (name, *below(name))]
 
 
-def copy_crate(crate):
-    """A fresh copy of the crate to edit."""
-    folder = WORK / crate
-    shutil.rmtree(folder, ignore_errors=True)
-    for part in ("src", "specs", "proofs"):
-        own = ROOT / "crates" / crate / part
-        if own.is_dir():
-            shutil.copytree(own, folder / part)
-    return folder
+@functools.cache
+def room():
+    """A folder outside the repository, which goes when the process ends."""
+    return tempfile.TemporaryDirectory(prefix="mutation-")
+
+
+@functools.cache
+def repository():
+    """A copy of what the prover reads of the repository, in which rt keeps its work, and of what builds a program."""
+    top = Path(room().name) / "repository"
+    for own in sorted((ROOT / "crates").iterdir()):
+        for part in PROVED + RUN_ON:
+            if (own / part).is_dir():
+                shutil.copytree(own / part, top / "crates" / own.name / part)
+            elif (own / part).exists():
+                shutil.copy(own / part, top / "crates" / own.name)
+    for name in ("crates.txt", "HANDLES", "host/build"):
+        if (ROOT / name).exists():
+            (top / name).parent.mkdir(exist_ok=True)
+            shutil.copy(ROOT / name, top / name)
+    return top
+
+
+@contextlib.contextmanager
+def edited(m):
+    """Makes an edit in the copy of the repository, and takes it back."""
+    path = repository() / m.path
+    before = path.read_text()
+    path.write_text(m.text)
+    try:
+        yield
+    finally:
+        path.write_text(before)
 
 
 def errors(said):
     """The checker's errors, each with its further lines, but for those that only follow from others."""
     found = re.findall(r"^\S+: error.*(?:\n  .*)*", said, re.M)
-    return [error for error in found if CONSEQUENCE not in error]
+    return [" ".join(error.split()) for error in found if not CONSEQUENCE.search(error)]
 
 
-def first_error(said, crate):
-    """The place of the first error, or of the function that `search` does not prove."""
-    place = [error.split(": error")[0] for error in errors(said)] + re.findall(r"^note: (\S+:\d+:\d+):", said, re.M)
-    return re.sub(rf"^.*?\b{crate}/(?=src/|specs/|proofs/)", "", place[0]) if place else ""
+def first_error(said):
+    """A goal that is left open and is false at some values, else the first error, else the first goal that is left open."""
+    goals = OPEN.findall(said)
+    return ([goal for goal in goals if FAILS.search(goal)] + errors(said) + goals + [""])[0]
+
+
+def place_of(said):
+    """Where the first error stands."""
+    found = re.match(r"(?:note: )?(?:\./)?(\S+:\d+:\d+):", first_error(said))
+    return found[1] if found else ""
 
 
 def kind_of(said, operator):
     """What the first error is at: a fact that does not hold, a step that does not apply, or a place that does not fit."""
-    found = errors(said)
-    if not found:
-        return "fact" if re.search(r"^fn \S+: no proof: expected .*; `search` does not close ", said, re.M) else "unfit"
-    place, _, words = found[0].partition(": error: ")
-    if "/proofs/" not in place or UNFIT.search(words):
+    found = first_error(said)
+    shifted = operator in FEWER and any(UNFIT.search(error) for error in errors(said))
+    if not found.startswith("note: ") and ("proofs/" not in found.split(":")[0] or UNFIT.search(found) or shifted):
         return "unfit"
-    if operator in FEWER and re.match(r"`[^`]*-spec`", words):
-        return "unfit"
-    return "step" if STEP.search(words) else "fact"
+    return "step" if STEP.search(found) and not FAILS.search(found) else "fact"
 
 
-def outcome(crate, more):
-    """What the prover says of the crate's copy."""
-    status, said = said_by(command(crate, more), WORK)
+def outcome(crate):
+    """What `rt check` says of the crate in the copy, over the work that it keeps there."""
+    status, said = said_by(["rt", "check"], repository() / "crates" / crate)
     if status == 0:
         return Outcome("survived"), said
-    if status == 1 and re.search(r"^logic=not-proved", said, re.M):
-        return Outcome("refused", first_error(said, crate)), said
-    return Outcome("no mutant" if status in (1, 2) else "not told", first_error(said, crate)), said
-
-
-def incremental(crate):
-    return ["--incremental", str(WORK / "incremental" / crate)]
+    if status == 1 and NOT_PROVED.search(said):
+        return Outcome("refused", place_of(said)), said
+    return Outcome("no mutant" if status in (1, 2) else "not told", place_of(said)), said
 
 
 @functools.cache
@@ -164,61 +193,70 @@ def tests_of(program):
 
 @functools.cache
 def warm(crate):
-    """Proves the crate's unedited copy, which fills its incremental folder, and tests an unedited program."""
-    copy_crate(crate)
-    if outcome(crate, incremental(crate))[0].result != "survived":
+    """Proves the crate unedited in the copy, so that rt keeps its work there, and tests the unedited program."""
+    if outcome(crate)[0].result != "survived":
         sys.exit(f"{crate} is not proved before any edit")
-    if is_program(crate) and tests_of(ROOT / "target" / "bin" / crate)[0].result != "survived":
-        sys.exit(f"{crate} does not pass the gate's tests before any edit")
+    if TESTED in programs(crate):
+        test_before()
 
 
-def run_of(m):
-    """What `rt check` says of a program: proved whole, run, and held to its file stdout; then the gate's tests."""
-    folder = WORK / "repository" / m.crate
-    shutil.rmtree(folder, ignore_errors=True)
-    for part in ("crates", "target/rlib", "target/stamp"):
-        shutil.copytree(ROOT / part, folder / part)
-    shutil.copy(ROOT / "crates.txt", folder)
-    (folder / m.path).write_text(m.text)
-    status, said = said_by(["rt", "check", m.crate], folder)
+@functools.cache
+def test_before():
+    """Tests the unedited program."""
+    if tests_in(ROOT)[0].result != "survived":
+        sys.exit(f"{TESTED} does not pass the gate's tests before any edit")
+
+
+def tests_in(top):
+    """Builds the program in a copy of the repository, and tests it."""
+    status, said = said_by(["host/build", TESTED], top)
+    return tests_of(top / "target" / "bin" / TESTED) if status == 0 else (Outcome("not told"), said)
+
+
+def of_the_gate(m):
+    """What the gate says of an edit that is proved: the crate from nothing, the programs' runs, held to their files stdout, and the host tests."""
+    said_by(["rt", "fmt"], repository() / "crates" / m.crate)
+    names = programs(m.crate)
+    status, said = said_by(["rt", "ci", *dict.fromkeys([m.crate, *names])], repository())
     if status == 0:
-        return tests_of(folder / "target" / "bin" / m.crate)
-    if "its run FAILED" in said:
+        return tests_in(repository()) if TESTED in names else (Outcome("survived"), said)
+    if RUN.search(said):
         return Outcome("refused by its run"), said
-    return Outcome("refused", first_error(said, m.crate)), said
+    if NOT_PROVED.search(said):
+        return Outcome("refused", place_of(said)), said
+    return Outcome("not told"), said
 
 
 def tried(m):
     """The outcome of a mutant, and the log of its check."""
     warm(m.crate)
-    folder = copy_crate(m.crate)
-    (folder / Path(m.path).relative_to(f"crates/{m.crate}")).write_text(m.text)
-    first, said = outcome(m.crate, incremental(m.crate))
-    if first.result != "survived":
-        return first, said
-    return run_of(m) if is_program(m.crate) else outcome(m.crate, [])
+    with edited(m):
+        found, said = outcome(m.crate)
+        return of_the_gate(m) if found.result == "survived" else (found, said)
+
+
+@functools.cache
+def version():
+    """The kit that judges."""
+    return said_by(["rt", "version"], ROOT)[1].strip()
 
 
 def judged_by(crate):
-    """The files that bear on the outcome of a crate's mutants: its own, and a program's runs and tests."""
-    own = ROOT / "crates" / crate
-    folders = [own / part for part in ("src", "specs", "proofs")]
-    if is_program(crate):
-        folders += [own / part for part in ("stdin", "stdout", "args", "data")]
-        folders += [ROOT / "host" / part for part in ("cases", "checker/src")]
+    """The files that bear on the outcome of a crate's mutants: its own, what it stands on, and the programs' runs and tests."""
+    tops = [crate, *programs(crate)]
+    crates = sorted({name for top in tops for name in (top, *below(top))})
+    folders = [ROOT / "crates" / name / part for name in crates for part in PROVED + RUN_ON]
+    folders += [ROOT / "host" / part for part in ("cases", "checker/src")]
     for folder in folders:
         yield from sorted(path for path in [folder, *folder.rglob("*")] if path.is_file())
 
 
 def key_of(m):
-    """A name for the mutant's check: its text, what judges it, and the stamps below it."""
+    """A name for the mutant's check: its text, and what judges it."""
     total = hashlib.sha256(m.text.encode())
-    total.update(m.path.encode())
+    total.update(f"{m.path} {version()}".encode())
     for path in judged_by(m.crate):
         total.update(path.read_bytes())
-    for d in dependencies(m.crate):
-        stamp = ROOT / "target" / "stamp" / d
-        total.update(stamp.read_bytes() if stamp.exists() else d.encode())
     return total.hexdigest()[:32]
 
 

@@ -18,10 +18,10 @@ from collections import namedtuple
 from pathlib import Path
 
 import report
-from judge import ROOT, WORK, alone, result_of, said_by
+from judge import ROOT, result_of, said_by, version
 from sites import code_lines, public_functions, public_modules, sites
 
-CRATES = ["search", "number", "roleset", "order", "rolefile", "policy", "monitor", "text", "rolecheck"]
+CRATES = ["search", "number", "roleset", "order", "rolefile", "policy", "monitor", "monitor_c", "text", "rolecheck"]
 
 Mutant = namedtuple("Mutant", "crate path line function operator old new text")
 
@@ -169,19 +169,18 @@ def asked():
 
 
 def prove(crates):
-    """Proves the crates, or all where none is named."""
-    WORK.mkdir(parents=True, exist_ok=True)
-    with alone():
-        status, _ = said_by(["rt", "check"] + crates, ROOT)
-    if status != 0:
-        sys.exit("the crates are not proved")
+    """Proves the crates, and so those that they stand on."""
+    for crate in crates:
+        if said_by(["rt", "check"], ROOT / "crates" / crate)[0] != 0:
+            sys.exit(f"{crate} is not proved")
 
 
 def main():
     words = asked()
-    prove(words.crates)
+    crates = words.crates or CRATES
+    prove(crates)
     deadline = time.time() + 60 * words.minutes
-    order = {c: list(drawn_order(mutants_of(c), words.seed, c)) for c in words.crates or CRATES}
+    order = {c: list(drawn_order(mutants_of(c), words.seed, c)) for c in crates}
     drawn = draw(order, shares(words.mutants, CRATES), deadline)
     done = dict(drawn)
     whole, public = of_files(order, words.every), of_public(order)
@@ -190,7 +189,7 @@ def main():
     for found in public.values():
         try_public(found, words.public, done, deadline)
     if not words.crates:
-        report.write(Path(__file__).parent, words, order, drawn, done, whole, public)
+        report.write(Path(__file__).parent, words, version(), order, drawn, done, whole, public)
 
 
 if __name__ == "__main__":

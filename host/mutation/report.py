@@ -128,12 +128,12 @@ def all_tried(done):
     return text
 
 
-def summary(words, order, drawn, done):
+def summary(words, kit, order, drawn, done):
     """The report's first lines."""
     refused, run, tests, left = counts(done)
     by_chance = sum(1 for m in done if m in drawn)
     text = f"# Mutation of the product\n\n`make mutation MUTANTS={words.mutants} SEED={words.seed} PUBLIC={words.public} "
-    text += f"EVERY={','.join(words.every)}` wrote this; README.md says how. Of {sum(map(len, order.values()))} sites "
+    text += f"EVERY={','.join(words.every)}` wrote this with the kit `{kit}`; README.md says how. Of {sum(map(len, order.values()))} sites "
     text += f"{by_chance} were drawn by chance, and {len(done) - by_chance} more were tried for the public functions and the "
     text += f"files of which every site was tried. The prover refuses {refused} of these {len(done)} edits, "
     text += f"{sum(map(at_fact, done.values()))} of them at a fact, a program's run {run} more, and the gate's tests of a "
@@ -141,11 +141,11 @@ def summary(words, order, drawn, done):
     return text + by_crate(order, drawn, done)
 
 
-def write(folder, words, order, drawn, tried, whole, public):
+def write(folder, words, kit, order, drawn, tried, whole, public):
     """Writes the report into the folder."""
     place = lambda m: (list(order).index(m.crate), m.path, m.line)
     done = {m: tried[m] for m in sorted(tried, key=place) if compiles(tried[m])}
-    text = summary(words, order, drawn, done)
+    text = summary(words, kit, order, drawn, done)
     text += "\n## Survivors\n\n" + told(those(done, "survived"), remarks(folder / "equivalent.txt"))
     if whole:
         text += "\n## Files of which every site was tried\n\n" + whole_files(whole, tried)

@@ -50,7 +50,7 @@ def without_ghosts(text):
     """The text with comments, attributes, ghost lines and contracts blanked."""
     for found in re.finditer(r"//.*|^ *#\[.*|^ *ghost .*", text, re.M):
         text = blanked(text, found.start(), found.end())
-    for found in re.finditer(r"\b(?:requires|ensures) \{", text):
+    for found in re.finditer(r"\b(?:requires|ensures) (?:\w+ )?\{", text):
         text = blanked(text, found.start(), closing(text, found.end() - 1))
     return text
 
