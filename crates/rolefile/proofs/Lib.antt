@@ -3,6 +3,7 @@ pub mod Verdicts
 pub mod Decides
 pub mod Counts
 pub mod Formed
+pub mod Told
 pub mod Scanning
 pub mod Decimals
 pub mod Written

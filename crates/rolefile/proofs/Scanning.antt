@@ -1,47 +1,41 @@
 -- Scanning the lines: what a line's verdict is where the line before is at hand, and the length before the lines. Assumes nothing.
-use Prim.Native.Nat.{ℕ, ◌+◌, ◌-◌, ◌≤◌}
-use mathlib.Core.Path.{◌≡◌, refl, ◌∙◌}
-use mathlib.Core.List.{List}
-use mathlib.Core.Bool.{Bool, true, false, ◌&&◌}
-use native.Mathlib.Nat.{add-sub_cancel}
-use native.Mathlib.Omega.{arith}
-use lib.Dec.{eqb, leb}
-use borrow.Author.Tests.{eqb-true, eqb-false, ne_eqb, leb-false}
-use Rattle.search.proofs.Truth.{and-iff, other_iff}
-use Rattle.rolefile.specs.declared.Line.{Line}
-use Rattle.rolefile.specs.declared.Verdict.{Verdict}
-use Rattle.rolefile.specs.declared.check.Seen.{Seen}
+use Rattle.std.proofs.Common.{ℕ, ◌+◌, ◌-◌, ◌≤◌, ◌≡◌, List, arith, ◌∙◌, false}
+use borrow.Author.Tests.{ne_eqb}
+use Rattle.search.proofs.Truth.{other_iff}
+use Rattle.rolefile.specs.declared.Refusal.{Refusal}
 use Rattle.rolefile.specs.Line.{line_at, lines}
-use Rattle.rolefile.specs.Form.{refusal, header, head_verdict, body_verdict, line_verdict, scan, lines_verdict}
-use Rattle.rolefile.specs.inner.Scan.{seen, goes_on, looked}
+use Rattle.rolefile.specs.Form.{refusal, fine, header, head_verdict, body_verdict, line_verdict, scan, lines_verdict}
+use Rattle.rolefile.specs.Refusal.{verdict_of}
 use Rattle.rolefile.specs.WellFormed.{Sized}
-use Rattle.rolefile.proofs.Verdicts.{scan_last, scan_stays}
+use Rattle.rolefile.proofs.Verdicts.{scan_yet, scan_last, scan_found}
+use Rattle.rolefile.proofs.Told.{refusal_refuses}
 use Rattle.rolefile.proofs.Formed.{sized_iff}
 
--- a line after the first
-later_line : (f : List ℕ) (k : ℕ) → 2 ≤ k → body_verdict (header f) (line_at f (k - 1)) k (line_at f k) ≡ line_verdict f k
-unfolding line_verdict
-later_line f k l = rw (ne_eqb k 1 (λ e. omega arith))
+module _ (f : List ℕ) where
+  -- where line 1 is refused, so are the lines
+  pub head_stops : (e : Refusal) → 1 ≤ lines f → verdict_of e ≡ head_verdict (header f) → verdict_of e ≡ scan (lines f) (line_verdict f)
+  unfolding line_verdict
+  head_stops e l h = h ∙ scan_found (line_verdict f) (lines f) 0 l (scan_yet _) (rw h at (refusal_refuses e))
 
--- what a scan has at hand once line 1 has been looked at
-pub begun_seen : (f : List ℕ) (h : Line) (v : Verdict) → h ≡ header f → v ≡ head_verdict h → record { head = h; before = h; verdict = v } ≡ seen f 2
-unfolding line_verdict scan
-begun_seen f h v e q = rw (q, e)
+  pub head_passes : fine ≡ head_verdict (header f) → fine ≡ scan 1 (line_verdict f)
+  unfolding line_verdict
+  head_passes h = h ∙ scan_last (line_verdict f) 0 (scan_yet _)
 
--- and once line k has been looked at too
-pub looked_seen : (f : List ℕ) (k : ℕ) (s : Seen) (l : Line) → 2 ≤ k → s ≡ seen f k → l ≡ line_at f k → goes_on s f k ≡ true → looked s k l ≡ seen f (k + 1)
-looked_seen f k s l w e el g =
-    let i : k - 1 + 1 ≡ k = omega arith in
-    let z : (scan (k - 1) (line_verdict f)).number ≡ 0 = eqb-true _ 0 ((and-iff _ (leb k (lines f))).0 (rw e at g)).0 in
-    rw (e, el, add-sub_cancel k 1, later_line f k w ∙ rw i at (scan_last (line_verdict f) (k - 1) z))
+  -- line k, where the lines before have nothing to refuse
+  module _ (k : ℕ) (later : 2 ≤ k) (clean : fine ≡ scan (k - 1) (line_verdict f)) where
+    line_now : body_verdict (header f) (line_at f (k - 1)) k (line_at f k) ≡ line_verdict f (k - 1 + 1)
+    unfolding line_verdict
+    line_now = let i : k - 1 + 1 ≡ k = omega arith in rw (i, ne_eqb k 1 (λ e. omega arith))
 
--- where it does not go on, it has the scan of all lines
-pub ended_seen : (f : List ℕ) (k : ℕ) (s : Seen) → k ≤ lines f + 1 → s ≡ seen f k → goes_on s f k ≡ false → s.verdict ≡ scan (lines f) (line_verdict f)
-ended_seen f k s w e g = rw e (ends (eqb (scan (k - 1) (line_verdict f)).number 0) refl (rw e at g))
-  where
-    ends : (t : Bool) → eqb (scan (k - 1) (line_verdict f)).number 0 ≡ t → (t && leb k (lines f)) ≡ false → scan (k - 1) (line_verdict f) ≡ scan (lines f) (line_verdict f)
-    ends true q h = let l = leb-false k (lines f) h in let i : k - 1 ≡ lines f = omega arith in rw i
-    ends false q h = scan_stays (line_verdict f) (k - 1) (lines f) (omega arith) (eqb-false _ 0 q)
+    pub line_stops : (e : Refusal) → k ≤ lines f → verdict_of e ≡ body_verdict (header f) (line_at f (k - 1)) k (line_at f k) → verdict_of e ≡ scan (lines f) (line_verdict f)
+    line_stops e l h =
+        let q = h ∙ line_now in
+        q ∙ scan_found (line_verdict f) (lines f) (k - 1) (omega arith) (rw (← clean)) (rw q at (refusal_refuses e))
+
+    pub line_passes : fine ≡ body_verdict (header f) (line_at f (k - 1)) k (line_at f k) → fine ≡ scan k (line_verdict f)
+    line_passes h =
+        let i : k - 1 + 1 ≡ k = omega arith in
+        rw i at (h ∙ line_now ∙ scan_last (line_verdict f) (k - 1) (rw (← clean)))
 
 -- ---- the length first
 

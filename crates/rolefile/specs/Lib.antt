@@ -2,6 +2,7 @@ pub mod Ascii
 pub mod Field
 pub mod Line
 pub mod Form
+pub mod Refusal
 pub mod Said
 pub mod WellFormed
 pub mod Decimal

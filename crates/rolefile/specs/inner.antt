@@ -1,4 +1,3 @@
 -- What only contracts between functions cite. No promise rests on it, so a reader need not believe it.
 pub mod Field
-pub mod Scan
 pub mod Section

@@ -2,9 +2,9 @@
 ghost use Rattle.std.specs.Prelude.{◌≡◌, ◌≤◌};
 ghost use Rattle.rolefile.specs.Line.{lines};
 ghost use Rattle.rolefile.specs.Form.{fine, refusal, within_limits, first_limit, second_limit, ranged, before, rises, head_verdict, body_verdict, line_verdict, scan, lines_verdict};
-ghost use Rattle.rolefile.specs.inner.Scan.{seen, goes_on, looked};
+ghost use Rattle.rolefile.specs.Refusal.{verdict_of, told};
 
-use super::{Line, Verdict, read, reader};
+use super::{Line, Refusal, Verdict, read, reader};
 
 // 1: a file's length at most.
 const LENGTH_LIMIT: usize = 63800;
@@ -118,107 +118,62 @@ fn comes_after(p: Line, l: Line) -> bool
 }
 
 // 2 and 3, of line 1.
-fn head(l: Line) -> Verdict
-    ensures { result ≡ head_verdict l }
+fn head(l: Line) -> Result<(), Refusal>
+    ensures { told verdict_of result ≡ head_verdict l }
 {
     if l.letter != read::H {
-        return refused(2, 1, 0);
+        return Err(Refusal::Malformed { line: 1 });
     }
     if !counts_fit(l.a, l.b, l.c, l.d) {
-        return refused(3, 1, 0);
+        return Err(Refusal::Counts);
     }
-    nothing()
+    Ok(())
 }
 
 // 2, 4 and 5, of line k after line p.
-fn body(h: Line, p: Line, k: u64, l: Line) -> Verdict
-    ensures { result ≡ body_verdict h p k l }
+fn body(h: Line, p: Line, k: usize, l: Line) -> Result<(), Refusal>
+    ensures { told verdict_of result ≡ body_verdict h p k l }
 {
     if l.letter <= read::H {
-        return refused(2, k, 0);
+        return Err(Refusal::Malformed { line: k });
     }
     if !numbers_fit(h, l) {
-        return refused(4, k, 0);
+        return Err(Refusal::Numbers { line: k });
     }
     if !comes_after(p, l) {
-        return refused(5, k, 0);
+        return Err(Refusal::Order { line: k });
     }
-    nothing()
+    Ok(())
 }
 
-// How far a scan is: line 1, the line before the next one, and the first refusal so far.
-#[derive(Clone, Copy)]
-struct Seen {
-    head: Line,
-    before: Line,
-    verdict: Verdict,
-}
-
-// Line 1 has been looked at.
-fn begun(f: &[u8]) -> Seen
-    ensures { result ≡ seen f.now 2 }
+// 2 to 5 of the lines, of which there is one at least.
+fn scan(f: &[u8]) -> Result<(), Refusal>
+    requires { 1 ≤ lines f.now }
+    ensures { told verdict_of result ≡ scan (lines f.now) (line_verdict f.now) }
 {
     let h = read::first_line(f);
-    Seen {
-        head: h,
-        before: h,
-        verdict: head(h),
+    head(h)?;
+    let mut before = h;
+    for k in 2..f.len() / read::LINE_LENGTH + 1 {
+        let line = reader::next_line(reader::from_line(f, k));
+        body(h, before, k, line)?;
+        before = line;
     }
-}
-
-// Nothing is refused so far, and the file has a line k.
-fn goes_on(s: Seen, f: &[u8], k: usize) -> bool
-    ensures { result ≡ goes_on s f.now k }
-{
-    (s.verdict.number == 0) & (k <= f.len() / read::LINE_LENGTH)
-}
-
-// Line k has been looked at too.
-fn looked(s: Seen, k: usize, l: Line) -> Seen
-    ensures { result ≡ looked s k l }
-{
-    let h = s.head;
-    let p = s.before;
-    Seen {
-        head: h,
-        before: l,
-        verdict: body(h, p, k as u64, l),
-    }
-}
-
-// The first refusal, or nothing.
-fn found(s: Seen) -> Verdict
-    ensures { result ≡ s.verdict }
-{
-    s.verdict
-}
-
-// 2 to 5 of the lines, of which there is one at least. A line reader keeps the number of the next.
-fn scan(f: &[u8]) -> Verdict
-    requires { 1 ≤ lines f.now }
-    ensures { result ≡ scan (lines f.now) (line_verdict f.now) }
-{
-    let mut r = reader::from_line(f, 2);
-    let mut s = begun(f);
-    while goes_on(s, f, r.next) {
-        s = looked(s, r.next, reader::next_line(r));
-        r.next += 1;
-    }
-    found(s)
+    Ok(())
 }
 
 // 1 to 5.
-pub fn lines(f: &[u8]) -> Verdict
-    ensures { result ≡ lines_verdict f.now }
+pub fn lines(f: &[u8]) -> Result<(), Refusal>
+    ensures { told verdict_of result ≡ lines_verdict f.now }
 {
     if f.len() < 1 {
-        return refused(1, 0, 0);
+        return Err(Refusal::Length);
     }
     if f.len() % read::LINE_LENGTH != 0 {
-        return refused(1, 0, 0);
+        return Err(Refusal::Length);
     }
     if LENGTH_LIMIT < f.len() {
-        return refused(1, 0, 0);
+        return Err(Refusal::Length);
     }
     scan(f)
 }

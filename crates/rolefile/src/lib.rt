@@ -5,6 +5,10 @@ pub mod check;
 pub mod read;
 pub mod reader;
 
+ghost use Rattle.std.specs.Prelude.{◌≡◌, MatchResult};
+ghost use Rattle.rolefile.specs.Form.{fine, refusal};
+ghost use Rattle.rolefile.specs.Refusal.{verdict_of};
+
 // What the five columns of a field say.
 #[derive(Clone, Copy)]
 pub enum Field {
@@ -31,4 +35,52 @@ pub struct Verdict {
     pub number: u64,
     pub first: u64,
     pub second: u64,
+}
+
+// Why a file is refused for its form: the numbers 1 to 5, each with the line where it is found. The
+// counts stand in line 1.
+#[derive(Clone, Copy, Debug, PartialEq, Eq)]
+pub enum Refusal {
+    Length,
+    Malformed { line: usize },
+    Counts,
+    Numbers { line: usize },
+    Order { line: usize },
+}
+
+// A verdict with its place.
+fn refused(number: u64, first: u64, second: u64) -> Verdict
+    ensures { result ≡ refusal number first second }
+{
+    Verdict {
+        number,
+        first,
+        second,
+    }
+}
+
+impl From<Refusal> for Verdict {
+    ghost from_gives = { λ r v. v ≡ verdict_of r };
+
+    fn from(r: Refusal) -> Verdict {
+        match r {
+            Refusal::Length => refused(1, 0, 0),
+            Refusal::Malformed { line } => refused(2, line as u64, 0),
+            Refusal::Counts => refused(3, 1, 0),
+            Refusal::Numbers { line } => refused(4, line as u64, 0),
+            Refusal::Order { line } => refused(5, line as u64, 0),
+        }
+    }
+}
+
+// The verdict of a check: that of its error, or that there is nothing to refuse.
+impl<E: Into<Verdict>> From<Result<(), E>> for Verdict {
+    ghost from_gives = { λ r v. MatchResult r (λ _. v ≡ fine) (λ e. E.converts e v) };
+
+    fn from(r: Result<(), E>) -> Verdict {
+        match r {
+            Ok(()) => check::nothing(),
+            Err(e) => e.into(),
+        }
+    }
 }

@@ -5,13 +5,13 @@ use Rattle.rolefile.proofs.Scanning.{bad_size_lem, good_size}
 use Rattle.rolefile.proofs.check.lines.Goals as goal
 
 pub returns-then-f-lt1 : goal.returns-then-f-lt1
-returns-then-f-lt1 c = c.refused.ensures ∙ bad_size_lem _ (λ s. omega arith)
+returns-then-f-lt1 c = bad_size_lem _ (λ s. omega arith)
 
 pub returns-then-f-ne0 : goal.returns-then-f-ne0
-returns-then-f-ne0 c = c.refused-then-f-ne0.ensures ∙ bad_size_lem _ (λ s. c.if-f-ne0.true s.whole)
+returns-then-f-ne0 c = bad_size_lem _ (λ s. c.if-f-ne0.true s.whole)
 
 pub returns-then-f-gt-LENGTH_LIMIT : goal.returns-then-f-gt-LENGTH_LIMIT
-returns-then-f-gt-LENGTH_LIMIT c = c.refused-then-f-gt-LENGTH_LIMIT.ensures ∙ bad_size_lem _ (λ s. omega arith)
+returns-then-f-gt-LENGTH_LIMIT c = bad_size_lem _ (λ s. omega arith)
 
 pub scan-requires : goal.scan-requires
 scan-requires c = omega arith

@@ -1,11 +1,12 @@
--- How far the loop is: its reader holds the file, and what has been seen is what a scan has at hand before the reader's next line.
-use Rattle.std.proofs.Common.{◌≡◌, ◌≤◌, ◌+◌, ◌-◌}
-use Rattle.rolefile.specs.Line.{lines}
-use Rattle.rolefile.specs.inner.Scan.{seen}
+-- The lines before line k have nothing to refuse, and the last of them is at hand.
+use Rattle.std.proofs.Common.{◌≡◌, ◌-◌}
+use Rattle.rolefile.specs.Line.{line_at}
+use Rattle.rolefile.specs.Form.{fine, header, line_verdict, scan}
 use Rattle.rolefile.proofs.check.scan.Given as goal
 
-abbrev pub invariant-loop-r : goal.invariant-loop-r
-invariant-loop-r l = record { file : l.r.file.now ≡ l.f; from : 2 ≤ l.r.next; upto : l.r.next ≤ lines l.f + 1; sees : l.s ≡ seen l.f l.r.next }
-
-abbrev pub decreases-loop-r : goal.decreases-loop-r
-decreases-loop-r l = lines l.f + 1 - l.r.next
+abbrev pub invariant-loop-k : goal.invariant-loop-k
+invariant-loop-k l = record {
+  head : l.h ≡ header l.f;
+  before : l.before ≡ line_at l.f (l.k - 1);
+  clean : fine ≡ scan (l.k - 1) (line_verdict l.f);
+}
