@@ -1,19 +1,18 @@
 -- Bounds in an order of n things: the search finds the least upper bound just where there is one, there is only one, and the first pair without one
 -- is the first by its lower and then by its higher thing. Assumes nothing.
-use Prim.Native.Nat.{ℕ, zero, suc, ◌+◌, ◌≤◌, ◌<◌}
-use mathlib.Core.Path.{◌≡◌, refl, sym, ◌∙◌}
+use Rattle.std.proofs.Common.{ℕ, zero, suc, ◌+◌, ◌≤◌, ◌<◌, ◌≡◌, refl, sym, ap, ◌∙◌, ◌↔◌, ◌⊎◌, inl, inr, Bool, true, false, ◌&&◌, leb, ltb, Option, Some, None, option_map, arith}
 use mathlib.Core.Logic.Iff
-use mathlib.Core.Logic.{◌↔◌, ◌⊎◌, inl, inr, ⊎_elim}
-use mathlib.Core.Bool.{Bool, true, false, ◌&&◌, and_assoc}
-use native.Mathlib.Omega.{arith}
+use mathlib.Core.Logic.{⊎_elim}
+use mathlib.Core.Bool.{and_assoc}
 use native.Mathlib.Decide.{dec_lt}
-use lib.Dec.{leb, ltb}
 use borrow.Author.Tests.{ltb-true, lt-ltb, ltb-false, le-ltb}
-use Rattle.search.specs.Search.{every, first, implies, Among, Lowest}
+use Rattle.search.specs.Search.{every, first, implies, thing, Among, Lowest}
 use Rattle.search.proofs.Truth.{eqb_iff, ltb_iff, and-iff, and_both, or_both, untrue, both, other_iff, same}
-use Rattle.search.proofs.Found.{every_agree, every_in, every_cut, first_found, first_more, first_none_of, first_lowest, first_within, first_agree, first_cut}
+use Rattle.search.proofs.Found.{every_agree, every_in, every_cut, first_more, first_none_of, first_lowest, first_within, first_agree, first_cut}
+use Rattle.search.proofs.Thing.{thing_none, thing_some, thing_found}
+use Rattle.order.specs.declared.bounds.Pair.{Pair}
 use Rattle.order.specs.Closure.{Relation, Agree, PartialOrder}
-use Rattle.order.specs.Bound.{upper, is_least, least_of, lub, converse, pair, pair_without_bound, partner_without_bound, some_without_bound, lowest_without_bound, Upper, Lower, IsLub, Joined, AllJoined, FirstPair, FirstWithoutBound}
+use Rattle.order.specs.Bound.{upper, is_least, least_of, lub, converse, pair, pair_without_bound, partner_without_bound, some_without_bound, lowest_without_bound, Upper, Lower, IsLub, Joined, AllJoined, FirstPair, FirstWithoutBound, with_partner, first_without_bound}
 
 module _ (n : ℕ) (ge : Relation) (s : ℕ → Bool) where
   pub upper_iff : (c : ℕ) → (upper n ge s c ≡ true) ↔ Upper n ge s c
@@ -190,8 +189,13 @@ module _ (n : ℕ) (f g : Relation) (h : Agree n n f g) where
   unfolding lowest_without_bound
   lowest_without_agree = first_agree (some_without_bound n f) (some_without_bound n g) n (λ a w. rw (partner_without_bound_agree a))
 
-  pub first_without_agree : (a b : ℕ) → FirstWithoutBound n f a b → FirstWithoutBound n g a b
-  first_without_agree a b h = record { lower = h.lower ∙ lowest_without_agree; higher = rw (← (partner_without_bound_agree a)) h.higher }
+  pub first_without_agree : first_without_bound n f ≡ first_without_bound n g
+  first_without_agree =
+      ap (λ (a : ℕ). option_map (with_partner n f) (thing a)) lowest_without_agree ∙ told (thing (lowest_without_bound n g))
+    where
+      told : (o : Option ℕ) → option_map (with_partner n f) o ≡ option_map (with_partner n g) o
+      told None = refl
+      told (Some a) = rw (partner_without_bound_agree a)
 
 pub lub_within : (n : ℕ) (ge : Relation) (s : ℕ → Bool) → lub n ge s ≤ n
 unfolding lub least_of
@@ -202,16 +206,36 @@ module _ (n : ℕ) (ge : Relation) where
   abbrev pub NoneWithout : ℕ → Type 0
   NoneWithout i = first i (some_without_bound n ge) ≡ 0
 
-  pub none_without_more : (i h : ℕ) → NoneWithout i → h ≡ partner_without_bound n ge (i + 1) → h ≤ 0 → NoneWithout (i + 1)
-  none_without_more i h none e z = first_more (some_without_bound n ge) i none (le-ltb 0 (partner_without_bound n ge (i + 1)) (omega arith))
+  pub none_without_more : (i : ℕ) → NoneWithout i → None ≡ thing (partner_without_bound n ge (i + 1)) → NoneWithout (i + 1)
+  none_without_more i none e =
+      first_more (some_without_bound n ge) i none (le-ltb 0 (partner_without_bound n ge (i + 1)) (omega (arith, (thing_none (partner_without_bound n ge (i + 1))).0 e)))
 
-  pub without_found : (i h : ℕ) → i < n → NoneWithout i → h ≡ partner_without_bound n ge (i + 1) → 0 < h → FirstWithoutBound n ge (i + 1) h
+  pub without_found : (i h : ℕ) → i < n → NoneWithout i → Some h ≡ thing (partner_without_bound n ge (i + 1))
+      → (let p : Pair = record { lower = i + 1; higher = h } in Some p) ≡ first_without_bound n ge
   unfolding lowest_without_bound
-  without_found i h l none e p = record {
-    lower = first_found (some_without_bound n ge) n i l none (lt-ltb 0 (partner_without_bound n ge (i + 1)) (omega arith));
-    higher = rw (lt-ltb 0 (i + 1) (omega arith)) e;
-  }
+  without_found i h l none e =
+      let (q, k) = (thing_some (partner_without_bound n ge (i + 1)) h).0 e in
+      let found = thing_found (some_without_bound n ge) n i l none (lt-ltb 0 (partner_without_bound n ge (i + 1)) (omega arith)) in
+      rw (← found, q)
 
-  pub none_without : NoneWithout n → FirstWithoutBound n ge 0 0
+  pub none_without : NoneWithout n → None ≡ first_without_bound n ge
   unfolding lowest_without_bound
-  none_without none = record { lower = sym none; higher = refl }
+  none_without none = rw none
+
+  -- what the answer tells in numbers
+  pub first_without_none : None ≡ first_without_bound n ge → FirstWithoutBound n ge 0 0
+  first_without_none = told (lowest_without_bound n ge) refl
+    where
+      told : (a : ℕ) → lowest_without_bound n ge ≡ a → None ≡ option_map (with_partner n ge) (thing a) → FirstWithoutBound n ge 0 0
+      told zero q e = record { lower = sym q; higher = refl }
+      told (suc a) q e = absurd cc
+
+  pub first_without_some : (p : Pair) → Some p ≡ first_without_bound n ge → FirstWithoutBound n ge p.lower p.higher × (1 ≤ p.lower)
+  first_without_some p = told (lowest_without_bound n ge) refl
+    where
+      told : (a : ℕ) → lowest_without_bound n ge ≡ a → Some p ≡ option_map (with_partner n ge) (thing a)
+          → FirstWithoutBound n ge p.lower p.higher × (1 ≤ p.lower)
+      told zero q e = absurd cc
+      told (suc a) q e =
+          let same : p ≡ with_partner n ge (suc a) = cc in
+          rw same (record { lower = sym q; higher = rw (lt-ltb 0 (suc a) (omega arith)) }, omega arith)

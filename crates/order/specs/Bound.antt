@@ -2,10 +2,12 @@
 --     lub n ge s                    the least upper bound of s, or 0; in the order turned round, the greatest lower bound
 --     partner_without_bound n ge a  the lowest b after a with which a has no least upper bound, or 0
 --     lowest_without_bound n ge     the lowest a with such a b, or 0: with it, the first pair without a least upper bound
+--     first_without_bound n ge      that pair, if there is one
 --     IsLub, IsGlb, Joined, FirstPair say the same as properties
 -- Assumes nothing.
-use Rattle.std.specs.Prelude.{ℕ, ◌<◌, ◌≡◌, Bool, true, ◌&&◌, ◌||◌, cond, eqb, ltb}
-use Rattle.search.specs.Search.{every, first, implies, Among}
+use Rattle.std.specs.Prelude.{ℕ, ◌<◌, ◌≡◌, Bool, true, ◌&&◌, ◌||◌, Option, option_map, cond, eqb, ltb}
+use Rattle.search.specs.Search.{every, first, implies, thing, Among}
+use Rattle.order.specs.declared.bounds.Pair.{Pair}
 use Rattle.order.specs.Closure.{Relation}
 
 -- the relation turned round
@@ -43,7 +45,14 @@ some_without_bound n ge a = ltb 0 (partner_without_bound n ge a)
 unfoldable pub lowest_without_bound : ℕ → Relation → ℕ
 lowest_without_bound n ge = first n (some_without_bound n ge)
 
--- what a search for the first pair answers: its lower and its higher thing, or 0 and 0
+abbrev pub with_partner : ℕ → Relation → ℕ → Pair
+with_partner n ge a = record { lower = a; higher = partner_without_bound n ge a }
+
+-- the first pair without a least upper bound
+abbrev pub first_without_bound : ℕ → Relation → Option Pair
+first_without_bound n ge = option_map (with_partner n ge) (thing (lowest_without_bound n ge))
+
+-- its lower and its higher thing, or 0 and 0: what is told of it in numbers
 pub record FirstWithoutBound (n : ℕ) (ge : Relation) (a b : ℕ) : Type 0 where
   pub lower : a ≡ lowest_without_bound n ge
   pub higher : b ≡ cond (ltb 0 a) (partner_without_bound n ge a) 0

@@ -4,9 +4,9 @@
 // The row of a thing has the things under it. So lower bounds are what rows have in common, and
 // upper bounds are what columns have in common, the rows of the order turned round.
 ghost use Rattle.std.specs.Prelude.{◌≡◌, ◌&&◌, ◌||◌, ◌+◌, ◌≤◌, ◌<◌, min, leb, eqb};
-ghost use Rattle.search.specs.Search.{some, every, implies};
+ghost use Rattle.search.specs.Search.{some, every, implies, thing};
 ghost use Rattle.order.specs.Closure.{Agree};
-ghost use Rattle.order.specs.Bound.{upper, least_of, converse, partner_without_bound, FirstWithoutBound};
+ghost use Rattle.order.specs.Bound.{upper, least_of, converse, partner_without_bound, first_without_bound};
 ghost use Rattle.order.specs.Table.{marks, mark};
 ghost use Rattle.order.specs.inner.Members.{holds, Has, FirstThings, row_holds, in_row};
 
@@ -139,21 +139,21 @@ fn within(s: Members, t: Members) -> bool
     s & t == s
 }
 
-// The greatest of the set, or 0. Where several are over all of it, the lowest number of them. They are tried in
+// The greatest of the set. Where several are over all of it, the lowest number of them. They are tried in
 // turn, the lowest that is left first.
-fn greatest(t: &MemberRows, s: Members) -> usize
-    ensures { result ≡ least_of 32 (converse (row_holds t.now)) (holds s) }
+fn greatest(t: &MemberRows, s: Members) -> Option<usize>
+    ensures { result ≡ thing (least_of 32 (converse (row_holds t.now)) (holds s)) }
 {
     let mut rest = s;
     while rest != 0 {
-        let c = u32::trailing_zeros(rest) as usize;
+        let c = rest.trailing_zeros() as usize;
         let under = t[c];
         if within(s, under) {
-            return c + 1;
+            return Some(c + 1);
         }
         rest = rest & (rest - 1);
     }
-    0
+    None
 }
 
 // The things of `all` that are under each of s. Those of s are taken in turn, the lowest that is left first.
@@ -169,32 +169,30 @@ fn lower_bounds(t: &MemberRows, all: Members, s: Members) -> Members
     r
 }
 
-// The greatest of the things of `all` that are under each of s, or 0. Where `all` is the set of the things that
+// The greatest of the things of `all` that are under each of s. Where `all` is the set of the things that
 // there are and s has no others, this is the greatest lower bound.
-pub fn greatest_lower(t: &MemberRows, all: Members, s: Members) -> usize
-    ensures { result ≡ least_of 32 (converse (row_holds t.now)) (λ c. holds all c && upper 32 (converse (row_holds t.now)) (holds s) c) }
+pub fn greatest_lower(t: &MemberRows, all: Members, s: Members) -> Option<usize>
+    ensures { result ≡ thing (least_of 32 (converse (row_holds t.now)) (λ c. holds all c && upper 32 (converse (row_holds t.now)) (holds s) c)) }
 {
     greatest(t, lower_bounds(t, all, s))
 }
 
-// The lowest of the first m things that comes after thing i + 1 and has no least upper bound with it, or 0,
-// in the order that was turned round.
-fn partner(up: &MemberRows, m: usize, i: usize) -> usize
+// The lowest of the first m things that comes after thing i + 1 and has no least upper bound with it, in
+// the order that was turned round.
+fn partner(up: &MemberRows, m: usize, i: usize) -> Option<usize>
     requires { (m ≤ 32) × (i < m) }
-    ensures { result ≡ partner_without_bound m (converse (row_holds up.now)) (i + 1) }
+    ensures { result ≡ thing (partner_without_bound m (converse (row_holds up.now)) (i + 1)) }
 {
     let bounds = first_things(m) & up[i];
-    let mut j = i + 1;
-    while j < m {
-        if greatest(up, bounds & up[j]) == 0 {
-            return j + 1;
+    for j in i + 1..m {
+        if greatest(up, bounds & up[j]).is_none() {
+            return Some(j + 1);
         }
-        j += 1;
     }
-    0
+    None
 }
 
-// Two things, or 0 and 0.
+// Two things, the lower and the higher number.
 #[derive(Clone, Copy)]
 pub struct Pair {
     pub lower: usize,
@@ -202,24 +200,18 @@ pub struct Pair {
 }
 
 // The first pair among the first n things that has no least upper bound in an order.
-pub fn first_pair(t: Table, n: usize) -> Pair
-    ensures { FirstWithoutBound (min n 32) (mark t) result.lower result.higher }
+pub fn first_pair(t: Table, n: usize) -> Option<Pair>
+    ensures { result ≡ first_without_bound (min n 32) (mark t) }
 {
-    let m = marks::lesser(n, THINGS);
+    let m = n.min(THINGS);
     let up = columns(&t, m);
-    let mut i = 0;
-    while i < m {
-        let higher = partner(&up, m, i);
-        if 0 < higher {
-            return Pair {
+    for i in 0..m {
+        if let Some(higher) = partner(&up, m, i) {
+            return Some(Pair {
                 lower: i + 1,
                 higher,
-            };
+            });
         }
-        i += 1;
     }
-    Pair {
-        lower: 0,
-        higher: 0,
-    }
+    None
 }

@@ -1,5 +1,6 @@
 // A relation among up to 32 things as 32 rows by 32 marks, and sets of such things as 32 marks.
 ghost use Rattle.std.specs.Prelude.{◌≡◌, ◌&&◌, ◌||◌, ◌+◌, ◌≤◌, ◌<◌, min, eqb, length};
+ghost use Rattle.search.specs.Search.{thing};
 ghost use Rattle.order.specs.Closure.{path, loop, round, with_itself};
 ghost use Rattle.order.specs.Table.{marks, mark, Upto, Rows};
 
@@ -88,17 +89,14 @@ pub fn reflected(t: Table, n: usize) -> Table
     r
 }
 
-// The lowest of the first n things that is related to itself, or 0: of paths, the lowest on a circle.
-pub fn lowest_loop(t: Table, n: usize) -> usize
-    ensures { result ≡ loop (min n 32) (mark t) }
+// The lowest of the first n things that is related to itself: of paths, the lowest on a circle.
+pub fn lowest_loop(t: Table, n: usize) -> Option<usize>
+    ensures { result ≡ thing (loop (min n 32) (mark t)) }
 {
-    let m = lesser(n, THINGS);
-    let mut i = 0;
-    while i < m {
+    for i in 0..n.min(THINGS) {
         if t[i][i] {
-            return i + 1;
+            return Some(i + 1);
         }
-        i += 1;
     }
-    0
+    None
 }

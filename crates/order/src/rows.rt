@@ -3,6 +3,7 @@
 //
 // A table that does not lie wholly in the slice relates nothing and stays as it is.
 ghost use Rattle.std.specs.Prelude.{◌≡◌, cond, ◌+◌, ◌≤◌, ◌<◌, min, leb, length};
+ghost use Rattle.search.specs.Search.{thing};
 ghost use Rattle.order.specs.Closure.{path, loop, round, with_itself};
 ghost use Rattle.order.specs.Table.{related, Tabled};
 
@@ -51,20 +52,17 @@ pub fn reflect(s: &mut [u8], at: usize, n: usize)
     }
 }
 
-// The lowest of the first n roles that is related to itself, or 0: of paths, the lowest on a circle.
-pub fn lowest_loop(s: &[u8], at: usize, n: usize) -> usize
-    ensures { result ≡ cond (leb (at + 2048) (length s.now)) (loop (min n 128) (related s.now at)) 0 }
+// The lowest of the first n roles that is related to itself: of paths, the lowest on a circle.
+pub fn lowest_loop(s: &[u8], at: usize, n: usize) -> Option<usize>
+    ensures { result ≡ thing (cond (leb (at + 2048) (length s.now)) (loop (min n 128) (related s.now at)) 0) }
 {
     if !roleset::rows_lie(s.len(), at, ROLES) {
-        return 0;
+        return None;
     }
-    let m = marks::lesser(n, ROLES);
-    let mut i = 0;
-    while i < m {
+    for i in 0..n.min(ROLES) {
         if roleset::has(s, at + ROW_BYTES * i, i + 1) {
-            return i + 1;
+            return Some(i + 1);
         }
-        i += 1;
     }
-    0
+    None
 }

@@ -1,6 +1,6 @@
 // The same for a row that is known to lie in the slice, and the tests that tell.
 ghost use Rattle.std.specs.Prelude.{◌≡◌, true, ◌&&◌, ℕ, ◌+◌, ◌-◌, ◌*◌, ◌≤◌, leb, length};
-ghost use Rattle.search.specs.Search.{among, some, first, Among};
+ghost use Rattle.search.specs.Search.{among, some, first, thing, Among};
 ghost use Rattle.roleset.specs.Row.{member, next_member, Placed, PlacedRows, added, removed, united, united_where};
 ghost use Rattle.roleset.specs.Set.{in_set, low_of, high_of};
 ghost use Rattle.roleset.specs.inner.Halves.{bit_after, half_at};
@@ -129,41 +129,29 @@ pub fn meet_set(s: &[u8], at: usize, low: u64, high: u64) -> bool
     (first | second) != 0
 }
 
-// The lowest bit above the first `after` that is set in x, or 0; bits are counted from 1.
-fn lowest_above(x: u64, after: usize) -> usize
-    ensures { result ≡ first 64 (bit_after x after) }
+// The lowest bit above the first `after` that is set in x; bits are counted from 1.
+fn lowest_above(x: u64, after: usize) -> Option<usize>
+    ensures { result ≡ thing (first 64 (bit_after x after)) }
 {
     if 64 <= after {
-        return 0;
+        return None;
     }
     let rest = x >> after;
     if rest == 0 {
-        return 0;
+        return None;
     }
-    after + u64::trailing_zeros(rest) as usize + 1
+    Some(after + rest.trailing_zeros() as usize + 1)
 }
 
-// What `after` is past the first half of a row.
-fn past_half(after: usize) -> usize
-    ensures { result ≡ after - 64 }
-{
-    if after < HALF_ROLES {
-        return 0;
-    }
-    after - HALF_ROLES
-}
-
-pub fn next(s: &[u8], at: usize, after: usize) -> usize
+pub fn next(s: &[u8], at: usize, after: usize) -> Option<usize>
     requires { at + 16 ≤ length s.now }
-    ensures { result ≡ next_member s.now at after }
+    ensures { result ≡ thing (next_member s.now at after) }
 {
-    let low = lowest_above(low_half(s, at), after);
-    if low != 0 {
-        return low;
+    match lowest_above(low_half(s, at), after) {
+        Some(low) => Some(low),
+        None => {
+            let high = lowest_above(high_half(s, at), after.saturating_sub(HALF_ROLES))?;
+            Some(HALF_ROLES + high)
+        }
     }
-    let high = lowest_above(high_half(s, at), past_half(after));
-    if high == 0 {
-        return 0;
-    }
-    HALF_ROLES + high
 }

@@ -7,7 +7,7 @@
 mod inner;
 
 ghost use Rattle.std.specs.Prelude.{◌≡◌, ◌&&◌, cond, ◌+◌, ◌*◌, leb};
-ghost use Rattle.search.specs.Search.{some};
+ghost use Rattle.search.specs.Search.{some, thing};
 ghost use Rattle.roleset.specs.Set.{in_set, low_of, high_of};
 ghost use Rattle.roleset.specs.Row.{whole, member, common, next_member, RowCopy, Placed, PlacedRows, added, added_where, removed, united, united_where, joined};
 
@@ -40,12 +40,12 @@ pub fn has(s: &[u8], at: usize, role: usize) -> bool
     inner::has(s, at, role)
 }
 
-// The lowest role above `after` that the row at `at` holds, or 0.
-pub fn next(s: &[u8], at: usize, after: usize) -> usize
-    ensures { result ≡ cond (whole s.now at) (next_member s.now at after) 0 }
+// The lowest role above `after` that the row at `at` holds.
+pub fn next(s: &[u8], at: usize, after: usize) -> Option<usize>
+    ensures { result ≡ thing (cond (whole s.now at) (next_member s.now at after) 0) }
 {
     if !inner::lies(s.len(), at) {
-        return 0;
+        return None;
     }
     inner::next(s, at, after)
 }

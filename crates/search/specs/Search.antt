@@ -3,8 +3,9 @@
 --     some n p      p holds of one of them
 --     every n p     p holds of each of them
 --     first n p     the lowest of which p holds, or 0
+--     thing a       a number that is a thing or 0 for none, as an option
 -- `Among` and `Lowest` say `among` and `first` as properties, and `LowestOf` is `Lowest` of properties. Assumes nothing.
-use Rattle.std.specs.Prelude.{ℕ, zero, suc, ◌≤◌, ◌<◌, ◌≡◌, Bool, true, false, not, ◌&&◌, ◌||◌, cond, leb}
+use Rattle.std.specs.Prelude.{ℕ, zero, suc, ◌≤◌, ◌<◌, ◌≡◌, Bool, true, false, not, ◌&&◌, ◌||◌, Option, None, Some, cond, leb}
 
 abbrev pub among : ℕ → ℕ → Bool
 among n a = leb 1 a && leb a n
@@ -25,6 +26,11 @@ or_else (suc a) b = suc a
 unfoldable pub first : ℕ → (ℕ → Bool) → ℕ
 first zero p = 0
 first (suc n) p = or_else (first n p) (cond (p (suc n)) (suc n) 0)
+
+-- none where a is 0, else a
+abbrev pub thing : ℕ → Option ℕ
+thing zero = None
+thing (suc a) = Some (suc a)
 
 -- where a holds, b does
 abbrev pub implies : Bool → Bool → Bool

@@ -14,28 +14,28 @@ use Rattle.order.proofs.bounds.first_pair.Goals as goal
 
 -- the columns tell the order of the first m things
 told : (c : After-columns-up)
-    → let m = c.lesser-m.result in
+    → let m = c.min-m.result in
     Agree m m (converse (row_holds c.columns-up.result)) (mark c.args.t)
-told c a b v w = c.columns-up.ensures b a (omega arith) (omega arith) ∙ rw (le-leb a c.lesser-m.result v.1)
+told c a b v w = c.columns-up.ensures b a (omega arith) (omega arith) ∙ rw (le-leb a c.min-m.result v.1)
 
-pub returns-then-higher-gt0 : goal.returns-then-higher-gt0
-returns-then-higher-gt0 c =
+pub returns-in-Some : goal.returns-in-Some
+returns-in-Some c =
     let w = c.loop-i in
-    rw (← c.lesser-m.ensures)
-    (first_without_agree _ _ _ (told (goal.at.returns-then-higher-gt0 c).After-columns-up) _ _
-    (without_found _ _ w.i _ (search rules) w.invariant.2 c.partner-higher.ensures c.if-higher-gt0.true))
+    rw (← c.min-m.ensures)
+    (without_found _ _ w.i _ (search rules) w.invariant c.in-Some.ensures
+    ∙ first_without_agree _ _ _ (told (goal.at.returns-in-Some c).After-columns-up))
 
 pub loop-i-preserved : goal.loop-i-preserved
 loop-i-preserved c =
     let w = c.loop-i in
-    (search rules, search rules, none_without_more _ _ w.i _ w.invariant.2 c.partner-higher.ensures c.if-higher-gt0.false)
+    none_without_more _ _ w.i w.invariant c.in_default.ensures
 
 pub returns : goal.returns
 returns c =
-    let m = c.lesser-m in
+    let m = c.min-m in
     let w = c.loop-i in
     let q : w.i ≡ m.result = omega arith in
-    rw (← m.ensures) (first_without_agree _ _ _ (told (goal.at.returns c).After-columns-up) _ _ (none_without _ _ (rw q at w.invariant.2)))
+    rw (← m.ensures) (none_without _ _ (rw q at w.invariant) ∙ first_without_agree _ _ _ (told (goal.at.returns c).After-columns-up))
 
 pub loop-i-init : goal.loop-i-init
-loop-i-init c = (search rules, search rules, first_yet _)
+loop-i-init c = first_yet _

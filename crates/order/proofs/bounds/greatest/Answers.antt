@@ -11,6 +11,7 @@ use lib.Count.{count_trailing_zeros}
 use lib.ListN.{get_or}
 use Rattle.search.specs.Search.{first, every, implies}
 use Rattle.search.proofs.Found.{first_lowest, first_none}
+use Rattle.search.proofs.Thing.{thing_none, thing_some}
 use Rattle.roleset.proofs.Bits.{bit_zero}
 use Rattle.order.specs.Bound.{is_least, least_of, upper}
 use Rattle.order.specs.inner.Members.{holds}
@@ -61,7 +62,8 @@ pub returns-then-within : goal.returns-then-within
 unfolding least_of
 returns-then-within c =
     let w = c.loop-rest in
-    leads_first c.args.t.now w.invariant.0 (λ z. omega arith) w.invariant.1 (tested (goal.at.returns-then-within c).After-within ∙ c.if-within.true)
+    let first_of = leads_first c.args.t.now w.invariant.0 (λ z. omega arith) w.invariant.1 (tested (goal.at.returns-then-within c).After-within ∙ c.if-within.true) in
+    (thing_some _ _).1 (first_of, omega arith)
 
 pub loop-rest-preserved : goal.loop-rest-preserved
 loop-rest-preserved c =
@@ -74,7 +76,7 @@ unfolding least_of
 returns c =
     let w = c.loop-rest in
     let none : w.rest ≡ 0 = omega arith in
-    sym ((first_none _ 32).1 (λ x v. w.invariant.1 x v (rw none (bit_zero (x - 1)))))
+    (thing_none _).1 ((first_none (leader c.args.t.now c.args.s) 32).1 (λ x v. w.invariant.1 x v (rw none (bit_zero (x - 1)))))
 
 pub loop-rest-init : goal.loop-rest-init
 loop-rest-init c = (all_left _ (omega arith), none_tried c.args.t.now _)

@@ -1,5 +1,6 @@
 -- The greatest of the lower bounds.
-use mathlib.Core.Path.{◌∙◌}
+use mathlib.Core.Path.{ap, ◌∙◌}
+use Rattle.search.specs.Search.{thing}
 use mathlib.Core.Bool.{◌&&◌}
 use native.Mathlib.Omega.{arith}
 use borrow.Author.Tests.{le-leb}
@@ -14,5 +15,5 @@ returns c =
     let order = converse (row_holds a.t.now) in
     let bounds = c.lower_bounds in
     c.greatest.ensures
-    ∙ least_cut 32 32 order (λ x. holds a.all x && upper 32 order (holds a.s) x) (holds bounds.result) (omega arith) (λ x w.
-    bounds.ensures x w ∙ rw (le-leb x 32 w.1))
+    ∙ ap thing (least_cut 32 32 order (λ x. holds a.all x && upper 32 order (holds a.s) x) (holds bounds.result) (omega arith) (λ x w.
+    bounds.ensures x w ∙ rw (le-leb x 32 w.1)))

@@ -6,18 +6,19 @@ use mathlib.Core.List.{List}
 use native.Mathlib.Nat.{add-sub_cancel}
 use native.Mathlib.Omega.{arith}
 use borrow.Author.Rules.{rules}
-use borrow.Author.Tests.{eq-eqb, ne_eqb, lt-ltb, le-ltb}
+use borrow.Author.Tests.{lt-ltb, le-ltb}
 use lib.Bits.{bit_and}
 use lib.Dec.{leb, eqb}
 use lib.ListN.{get_or}
 use Rattle.search.specs.Search.{first, Among}
-use Rattle.search.proofs.Found.{first_none, first_found, first_more, first_vain}
+use Rattle.search.proofs.Found.{first_none, first_more}
+use Rattle.search.proofs.Thing.{thing_absent, thing_found, thing_vain}
 use Rattle.roleset.proofs.Bits.{bit_and_lem}
 use Rattle.order.specs.Bound.{converse, pair_without_bound, partner_without_bound, lub, least_of, pair, upper}
 use Rattle.order.specs.inner.Members.{holds, row_holds}
 use Rattle.order.proofs.Bound.{least_cut, upper_pair}
 use Rattle.order.proofs.bounds.partner.Invariants.{lone}
-use Rattle.order.proofs.bounds.partner.Goals.{After-greatest}
+use Rattle.order.proofs.bounds.partner.Goals.{After-is_none}
 use Rattle.order.proofs.bounds.partner.Goals as goal
 
 module _ (up : List ℕ) (m i : ℕ) where
@@ -49,29 +50,29 @@ module _ (up : List ℕ) (m i : ℕ) where
       )
 
 -- the test of one turn, as `pair_without_bound`
-tested : (c : After-greatest)
+tested : (c : After-is_none)
     → let a = c.args in
-    eqb c.greatest.result 0 ≡ lone a.up.now a.m a.i (c.loop-j.j + 1)
+    c.is_none.result ≡ lone a.up.now a.m a.i (c.loop-j.j + 1)
 tested c =
     let all = c.first_things in
     let a = c.args in
-    rw c.greatest.ensures
-    (tells a.up.now a.m a.i all.result c.loop-j.j (search rules) (search rules) (search rules) all.ensures)
+    thing_absent _ c.greatest.ensures c.is_none.ensures
+    ∙ tells a.up.now a.m a.i all.result c.loop-j.j (search rules) (search rules) (search rules) all.ensures
 
-pub returns-then-greatest-eq0 : goal.returns-then-greatest-eq0
+pub returns-then-is_none : goal.returns-then-is_none
 unfolding partner_without_bound
-returns-then-greatest-eq0 c =
+returns-then-is_none c =
     let w = c.loop-j in
-    first_found _ _ w.j (search rules) w.invariant.2 (sym (tested (goal.at.returns-then-greatest-eq0 c).After-greatest) ∙ eq-eqb _ 0 c.if-greatest-eq0.true)
+    thing_found _ _ w.j (search rules) w.invariant (sym (tested (goal.at.returns-then-is_none c).After-is_none) ∙ c.if-is_none.true)
 
 pub loop-j-preserved : goal.loop-j-preserved
 loop-j-preserved c =
     let w = c.loop-j in
-    (search rules, search rules, first_more _ w.j w.invariant.2 (sym (tested (goal.at.loop-j-preserved c).After-greatest) ∙ ne_eqb _ 0 c.if-greatest-eq0.false))
+    first_more _ w.j w.invariant (sym (tested (goal.at.loop-j-preserved c).After-is_none) ∙ c.if-is_none.false)
 
 pub returns : goal.returns
 unfolding partner_without_bound
-returns c = first_vain _ (omega arith) c.loop-j.invariant.2
+returns c = let w = c.loop-j in thing_vain _ (omega (arith, w.auto.j-end)) w.invariant
 
 pub loop-j-init : goal.loop-j-init
-loop-j-init c = let a = c.args in (search rules, search rules, none_before a.up.now a.m a.i)
+loop-j-init c = let a = c.args in none_before a.up.now a.m a.i

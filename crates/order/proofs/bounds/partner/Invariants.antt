@@ -1,5 +1,5 @@
 -- A search among the first m things. The upper bounds of a pair are what is over both.
-use Prim.Native.Nat.{ℕ, ◌≤◌, ◌<◌, ◌-◌, ◌+◌}
+use Prim.Native.Nat.{ℕ, ◌+◌}
 use mathlib.Core.Bool.{Bool}
 use mathlib.Core.List.{List}
 use mathlib.Core.Path.{◌≡◌}
@@ -12,7 +12,4 @@ abbrev pub lone : List ℕ → ℕ → ℕ → ℕ → Bool
 lone up m i = pair_without_bound m (converse (row_holds up)) (i + 1)
 
 abbrev pub invariant-loop-j : goal.invariant-loop-j
-invariant-loop-j l = (l.i < l.j) × (l.j ≤ l.m) × (first l.j (lone l.up l.m l.i) ≡ 0)
-
-abbrev pub decreases-loop-j : goal.decreases-loop-j
-decreases-loop-j l = l.m - l.j
+invariant-loop-j l = first l.j (lone l.up l.m l.i) ≡ 0

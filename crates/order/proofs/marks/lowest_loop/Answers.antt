@@ -2,8 +2,8 @@
 use Prim.Native.Nat.{min}
 use native.Mathlib.Nat.{add-sub_cancel}
 use native.Mathlib.Omega.{arith}
-use borrow.Author.Rules.{rules}
-use Rattle.search.proofs.Found.{first_yet, first_found, first_more, first_vain}
+use Rattle.search.proofs.Found.{first_yet, first_more}
+use Rattle.search.proofs.Thing.{thing_found, thing_vain}
 use Rattle.order.specs.Table.{mark}
 use Rattle.order.specs.Closure.{to_itself}
 use Rattle.order.proofs.marks.lowest_loop.Goals as goal
@@ -12,16 +12,16 @@ pub returns-then-t-i : goal.returns-then-t-i
 returns-then-t-i c =
     let a = c.args in
     let w = c.loop-i in
-    first_found (to_itself (mark a.t)) (min a.n 32) w.i (omega arith) w.invariant.2 (simp (add-sub_cancel w.i 1) c.if-t-i.true)
+    thing_found (to_itself (mark a.t)) (min a.n 32) w.i (omega arith) w.invariant (simp (add-sub_cancel w.i 1) c.if-t-i.true)
 
 pub loop-i-preserved : goal.loop-i-preserved
 loop-i-preserved c =
     let t = c.args.t in
     let w = c.loop-i in
-    (search rules, search rules, first_more (to_itself (mark t)) w.i w.invariant.2 (simp (add-sub_cancel w.i 1) c.if-t-i.false))
+    first_more (to_itself (mark t)) w.i w.invariant (simp (add-sub_cancel w.i 1) c.if-t-i.false)
 
 pub returns : goal.returns
-returns c = first_vain _ (omega arith) c.loop-i.invariant.2
+returns c = let w = c.loop-i in thing_vain _ (omega arith) w.invariant
 
 pub loop-i-init : goal.loop-i-init
-loop-i-init c = (search rules, search rules, first_yet _)
+loop-i-init c = first_yet _

@@ -9,6 +9,7 @@ use lib.Pow.{shr_lt}
 use borrow.Author.Tests.{le-leb, lt-leb}
 use Rattle.search.specs.Search.{first, Among}
 use Rattle.search.proofs.Found.{first_none, first_lowest}
+use Rattle.search.proofs.Thing.{thing_none, thing_some}
 use Rattle.roleset.specs.Row.{bit}
 use Rattle.roleset.specs.inner.Halves.{bit_after}
 use Rattle.roleset.proofs.Bits.{bit_zero, bit_shr, trailing_clear, trailing_set, trailing_within}
@@ -51,17 +52,17 @@ module _ (x after : ℕ) where
         })
 
 pub returns-then-after-ge64 : goal.returns-then-after-ge64
-returns-then-after-ge64 c = let a = c.args in sym (none_above a.x a.after (λ b w l. absurd (omega arith)))
+returns-then-after-ge64 c = let a = c.args in (thing_none _).1 (none_above a.x a.after (λ b w l. absurd (omega arith)))
 
 pub returns-then-rest-eq0 : goal.returns-then-rest-eq0
-returns-then-rest-eq0 c = let a = c.args in sym (none_above a.x a.after (λ b w l. rw c.if-rest-eq0.true (bit_zero (b - 1 - a.after))))
+returns-then-rest-eq0 c = let a = c.args in (thing_none _).1 (none_above a.x a.after (λ b w l. rw c.if-rest-eq0.true (bit_zero (b - 1 - a.after))))
 
 -- what is counted lies within the number
 counted : (c : Else-rest-eq0) → c.args.after + count_trailing_zeros 64 (rest c.args.x c.args.after) < 64
 counted c = let a = c.args in within a.x a.after (omega arith) (omega arith) c.if-rest-eq0.false
 
 pub returns : goal.returns
-returns c = let a = c.args in sym (lowest a.x a.after (omega arith) (omega arith) c.if-rest-eq0.false)
+returns c = let a = c.args in (thing_some _ _).1 (sym (lowest a.x a.after (omega arith) (omega arith) c.if-rest-eq0.false), omega arith)
 
 pub overflow_cast-result : goal.overflow_cast-result
 overflow_cast-result c = omega (arith, counted (goal.at.overflow_cast-result c).Else-rest-eq0)
