@@ -189,8 +189,11 @@ module _ (n : ℕ) (f g : Relation) (h : Agree n n f g) where
   unfolding lowest_without_bound
   lowest_without_agree = first_agree (some_without_bound n f) (some_without_bound n g) n (λ a w. rw (partner_without_bound_agree a))
 
-  pub first_without_agree : first_without_bound n f ≡ first_without_bound n g
-  first_without_agree =
+  pub first_without_agree : (a b : ℕ) → FirstWithoutBound n f a b → FirstWithoutBound n g a b
+  first_without_agree a b h = record { lower = h.lower ∙ lowest_without_agree; higher = rw (← (partner_without_bound_agree a)) h.higher }
+
+  pub first_pair_agree : first_without_bound n f ≡ first_without_bound n g
+  first_pair_agree =
       ap (λ (a : ℕ). option_map (with_partner n f) (thing a)) lowest_without_agree ∙ told (thing (lowest_without_bound n g))
     where
       told : (o : Option ℕ) → option_map (with_partner n f) o ≡ option_map (with_partner n g) o

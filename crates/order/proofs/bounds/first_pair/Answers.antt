@@ -8,7 +8,7 @@ use Rattle.order.specs.Closure.{Agree}
 use Rattle.order.specs.Bound.{converse}
 use Rattle.order.specs.Table.{mark}
 use Rattle.order.specs.inner.Members.{row_holds}
-use Rattle.order.proofs.Bound.{none_without_more, without_found, none_without, first_without_agree}
+use Rattle.order.proofs.Bound.{none_without_more, without_found, none_without, first_pair_agree}
 use Rattle.order.proofs.bounds.first_pair.Goals.{After-columns-up}
 use Rattle.order.proofs.bounds.first_pair.Goals as goal
 
@@ -23,7 +23,7 @@ returns-in-Some c =
     let w = c.loop-i in
     rw (← c.min-m.ensures)
     (without_found _ _ w.i _ (search rules) w.invariant c.in-Some.ensures
-    ∙ first_without_agree _ _ _ (told (goal.at.returns-in-Some c).After-columns-up))
+    ∙ first_pair_agree _ _ _ (told (goal.at.returns-in-Some c).After-columns-up))
 
 pub loop-i-preserved : goal.loop-i-preserved
 loop-i-preserved c =
@@ -35,7 +35,7 @@ returns c =
     let m = c.min-m in
     let w = c.loop-i in
     let q : w.i ≡ m.result = omega arith in
-    rw (← m.ensures) (none_without _ _ (rw q at w.invariant) ∙ first_without_agree _ _ _ (told (goal.at.returns c).After-columns-up))
+    rw (← m.ensures) (none_without _ _ (rw q at w.invariant) ∙ first_pair_agree _ _ _ (told (goal.at.returns c).After-columns-up))
 
 pub loop-i-init : goal.loop-i-init
 loop-i-init c = first_yet _
