@@ -7,3 +7,4 @@ pub mod Granted
 pub mod Cases
 pub mod Rights
 pub mod Review
+pub mod Refusals

@@ -1,72 +1,65 @@
 // Reads and writes of a part of a card of the lent store.
-ghost use Rattle.std.specs.Prelude.{◌≡◌, ◌≤◌};
-ghost use Rattle.policy.specs.Tables.{writers_at};
-ghost use Rattle.monitor.specs.Calls.{part_number, read_number, Reads, Writes};
+ghost use Rattle.std.specs.Prelude.{◌≡◌, ◌+◌, ◌≤◌, IfOk};
+ghost use Rattle.policy.specs.Tables.{table_of};
+ghost use Rattle.monitor.specs.Calls.{part_number, part_at, Reads, Writes};
+ghost use Rattle.monitor.specs.Refusals.{told, mode_of};
 
-use super::{rules, sessions, state};
-use policy::layout;
+use super::refusal::Refusal;
+use super::state::OpenPlace;
+use super::things::Mode;
+use super::{rules, sessions};
 
-// The number of a read or a write of n bytes in a store of `size` bytes, by the table at `at` of
-// the roles that may.
-fn part_number(s: &[u8], at: usize, size: usize, place: u64, card: u64, offset: u64, n: u64) -> u64
-    requires { at ≤ writers_at }
-    ensures { result ≡ part_number at s.now size place card offset n }
+// Where the n bytes from the offset on of a card begin in a store of `size` bytes, where a session
+// may use them so: 21, 22, 24, 25, 29, 30, 31.
+pub fn part(
+    s: &[u8],
+    mode: Mode,
+    size: usize,
+    place: u64,
+    card: u64,
+    offset: u64,
+    n: u64,
+) -> Result<usize, Refusal>
+    ensures refused { told result ≡ part_number (table_of (mode_of mode)) s.now size place card offset n }
+    ensures done { IfOk result (λ at. (at ≡ part_at card offset) × (at + n ≤ size)) }
 {
-    let first = sessions::session_number(s, place);
-    if first != 0 {
-        return first;
-    }
-    if !state::within_count(s, layout::CARD_COUNT_AT, card) {
-        return 25;
-    }
-    if !rules::gives(s, at, place, card) {
-        return 29;
+    let session = OpenPlace::new(s, place)?;
+    let card = session.policy.card(card)?;
+    if !session.gives(card, mode) {
+        return Err(Refusal::Card);
     }
     if !rules::in_card(offset, n) {
-        return 30;
+        return Err(Refusal::Offset);
     }
-    if !rules::stored(s, size) {
-        return 31;
+    if !session.policy.stored(size) {
+        return Err(Refusal::Store);
     }
-    0
+    Ok(rules::CARD_BYTES as usize * (card.number as usize - 1) + offset as usize)
 }
 
-// The number of a read.
-pub fn read_number(s: &[u8], store: &[u8], place: u64, card: u64, offset: u64, n: u64) -> u64
-    ensures { result ≡ read_number s.now store.now place card offset n }
-{
-    part_number(s, layout::READERS_AT, store.len(), place, card, offset, n)
-}
-
-// That part of the store itself; on a refusal the empty part at the store's start.
+// The part of the store that is read; on a refusal the empty part at the store's start.
 pub fn read<'a>(s: &[u8], store: &'a [u8], place: u64, card: u64, offset: u64, n: u64) -> &'a [u8]
     ensures { Reads s.now store.entry place card offset n result }
 {
-    if read_number(s, store, place, card, offset, n) == 0 {
-        let at = (rules::CARD_BYTES * (card - 1) + offset) as usize;
-        let end = at + n as usize;
-        &store[at..end]
-    } else {
-        &store[..0]
+    match part(s, Mode::Read, store.len(), place, card, offset, n) {
+        Ok(at) => &store[at..at + n as usize],
+        Err(_) => &store[..0],
     }
 }
 
 // Writes the bytes into a card from the offset on.
-pub fn write(s: &[u8], store: &mut [u8], place: u64, card: u64, offset: u64, bytes: &[u8]) -> u64
-    ensures { Writes s.now store.old place card offset bytes.now result store.new }
+pub fn write(
+    s: &[u8],
+    store: &mut [u8],
+    place: u64,
+    card: u64,
+    offset: u64,
+    bytes: &[u8],
+) -> Result<(), Refusal>
+    ensures { Writes s.now store.old place card offset bytes.now (told result) store.new }
 {
-    let r = part_number(
-        s,
-        layout::WRITERS_AT,
-        store.len(),
-        place,
-        card,
-        offset,
-        bytes.len() as u64,
-    );
-    if r == 0 {
-        let at = rules::CARD_BYTES * (card - 1) + offset;
-        sessions::put(store, at as usize, bytes);
-    }
-    r
+    let n = bytes.len() as u64;
+    let at = part(s, Mode::Write, store.len(), place, card, offset, n)?;
+    sessions::put(store, at, bytes);
+    Ok(())
 }

@@ -6,18 +6,24 @@
 #![tactic(auto)]
 
 mod cards;
+mod refusal;
 mod report;
 mod review;
 mod rights;
 mod rules;
 mod sessions;
 mod state;
+mod things;
 
 ghost use Rattle.std.specs.Prelude.{◌≡◌};
 ghost use Rattle.policy.specs.Image.{Loaded};
 ghost use Rattle.monitor.specs.Rights.{Cans};
 ghost use Rattle.monitor.specs.Review as review;
 ghost use Rattle.monitor.specs.Calls.{Opens, Closes, Takes, Drops, read_number, Reads, Writes, Flows, Circles};
+ghost use Rattle.monitor.specs.Refusals.{told, figured};
+
+use refusal::Refusal;
+use things::Mode;
 
 // The answer of a load, as C has it.
 #[repr(C)]
@@ -68,6 +74,31 @@ pub struct RoleSet {
     pub high: u64,
 }
 
+// The number of an answer: 0 where the call is done.
+fn number_of<A: Drop>(answer: Result<A, Refusal>) -> u64
+    ensures { result ≡ told answer }
+{
+    match answer {
+        Ok(_) => 0,
+        Err(refusal) => refusal.into(),
+    }
+}
+
+// A refusal's figure is 0.
+impl From<Result<u64, Refusal>> for Figure {
+    ghost from_gives = { λ answer figure. (figure.number ≡ told answer) × (figure.figure ≡ figured answer) };
+
+    fn from(answer: Result<u64, Refusal>) -> Figure {
+        match answer {
+            Ok(figure) => Figure { number: 0, figure },
+            Err(refusal) => Figure {
+                number: refusal.into(),
+                figure: 0,
+            },
+        }
+    }
+}
+
 // Checks a role file and replaces the state by its policy: 7, or the verdict on the file.
 pub fn monitor_load(file: &[u8], state: &mut [u8]) -> LoadAnswer
     ensures { Loaded file.now (record { number = result.number; first = result.first; second = result.second }) state.old state.new }
@@ -84,28 +115,28 @@ pub fn monitor_load(file: &[u8], state: &mut [u8]) -> LoadAnswer
 pub fn monitor_open(state: &mut [u8], place: u64, user: u64, label: u64) -> u64
     ensures { Opens state.old place user label result state.new }
 {
-    sessions::open(state, place, user, label)
+    number_of(sessions::open(state, place, user, label))
 }
 
 // Closes a place: 21, 22, 24.
 pub fn monitor_close(state: &mut [u8], place: u64) -> u64
     ensures { Closes state.old place result state.new }
 {
-    sessions::close(state, place)
+    number_of(sessions::close(state, place))
 }
 
 // Takes a role at a place: 21, 22, 24, 25, 27, 28.
 pub fn monitor_take(state: &mut [u8], place: u64, role: u64) -> u64
     ensures { Takes state.old place role result state.new }
 {
-    sessions::take(state, place, role)
+    number_of(sessions::take(state, place, role))
 }
 
 // Drops a role at a place: 21, 22, 24, 25.
 pub fn monitor_drop(state: &mut [u8], place: u64, role: u64) -> u64
     ensures { Drops state.old place role result state.new }
 {
-    sessions::drop(state, place, role)
+    number_of(sessions::drop(state, place, role))
 }
 
 // The number of a read: 21, 22, 24, 25, 29, 30, 31.
@@ -119,7 +150,7 @@ pub fn monitor_read_number(
 ) -> u64
     ensures { result ≡ read_number state.now store.now place card offset count }
 {
-    cards::read_number(state, store, place, card, offset, count)
+    number_of(cards::part(state, Mode::Read, store.len(), place, card, offset, count))
 }
 
 // The part of the store that a read hands back: empty, at the store's start, where the number is not 0.
@@ -147,7 +178,7 @@ pub fn monitor_write(
 ) -> u64
     ensures { Writes state.now store.old place card offset bytes.now result store.new }
 {
-    cards::write(state, store, place, card, offset, bytes)
+    number_of(cards::write(state, store, place, card, offset, bytes))
 }
 
 // Whether one role flows to another, 1 or 0: 21, 25.

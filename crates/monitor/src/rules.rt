@@ -4,8 +4,11 @@ ghost use Rattle.search.specs.Search.{Among};
 ghost use Rattle.roleset.specs.Row.{member, row_of};
 ghost use Rattle.policy.specs.Tables as tables;
 ghost use Rattle.monitor.specs.Session as session;
+ghost use Rattle.monitor.specs.Refusals.{mode_of};
 
 use super::state;
+use super::state::{OpenPlace, Policy};
+use super::things::{Card, Label, Mode, Role, User};
 use policy::{layout, tables};
 use roleset::ROW_BYTES;
 
@@ -43,31 +46,6 @@ pub fn fitting(s: &[u8], label: u64, role: u64) -> bool
     tables::passes(s, writes, writes, label)
 }
 
-// The same two of the session at the place.
-pub fn entitled_at(s: &[u8], place: u64, role: u64) -> bool
-    requires { Among 64 place × Among 128 role }
-    ensures { result ≡ session.entitled s.now (session.user_at s.now place) role }
-{
-    entitled(s, state::user_at(s, place), role)
-}
-
-pub fn fitting_at(s: &[u8], place: u64, role: u64) -> bool
-    requires { Among 64 place × Among 128 role }
-    ensures { result ≡ session.fitting s.now (session.label_at s.now place) role }
-{
-    fitting(s, state::label_at(s, place), role)
-}
-
-// Whether a role that the place holds is in the card's row of the table at `at`.
-pub fn gives(s: &[u8], at: usize, place: u64, card: u64) -> bool
-    requires { (at ≤ tables.writers_at) × Among 64 place × Among 512 card }
-    ensures { result ≡ session.gives s.now at place card }
-{
-    let held = state::held_at(place);
-    let row = at + ROW_BYTES * (card as usize - 1);
-    roleset::meet(s, held, row)
-}
-
 // Whether thing x's row of the table at `at` holds the role.
 pub fn in_row(s: &[u8], at: usize, x: u64, role: u64) -> bool
     requires { (tables.state_size ≤ length s.now) × (at ≤ tables.writers_at) × Among 512 x }
@@ -87,9 +65,69 @@ pub fn in_card(offset: u64, n: u64) -> bool
     offset <= CARD_BYTES - n
 }
 
-// Whether a store of `size` bytes has all cards.
-pub fn stored(s: &[u8], size: usize) -> bool
-    ensures { result ≡ leb (64 * session.cards_in s.now) size }
-{
-    CARD_BYTES * tables::word(s, layout::CARD_COUNT_AT) <= size as u64
+impl<'a> Policy<'a> {
+    // Whether the user's clearance dominates the label.
+    #[tactic(auto, unfolding(crate::specs::Session::cleared))]
+    pub fn clears(self, user: User, label: Label) -> bool
+        ensures { result ≡ session.cleared self.entry.bytes.now user.number label.number }
+    {
+        tables::dominates(self.bytes, self.clearance(user), label.number as u64)
+    }
+
+    // Whether the user is assigned to the role or to a senior of it.
+    #[tactic(auto, unfolding(crate::specs::Session::entitled))]
+    pub fn entitles(self, user: User, role: Role) -> bool
+        ensures { result ≡ session.entitled self.entry.bytes.now user.number role.number }
+    {
+        roleset::meet(
+            self.bytes,
+            state::assigned_row(user),
+            state::senior_row(role),
+        )
+    }
+
+    // Whether the levels of the role allow it at the label.
+    #[tactic(auto, unfolding(crate::specs::Session::fitting))]
+    pub fn fits(self, label: u64, role: Role) -> bool
+        ensures { result ≡ session.fitting self.entry.bytes.now label role.number }
+    {
+        let reads = self.level(role, Mode::Read);
+        if !tables::passes(self.bytes, reads, label, reads) {
+            return false;
+        }
+        let writes = self.level(role, Mode::Write);
+        tables::passes(self.bytes, writes, writes, label)
+    }
+
+    // Whether a store of `size` bytes has all its cards.
+    pub fn stored(self, size: usize) -> bool
+        ensures { result ≡ leb (64 * session.cards_in self.entry.bytes.now) size }
+    {
+        CARD_BYTES * self.card_count() <= size as u64
+    }
+}
+
+impl<'a> OpenPlace<'a> {
+    // Whether its user is assigned to the role or to a senior of it.
+    pub fn entitled(self, role: Role) -> bool
+        ensures { result ≡ session.entitled self.entry.policy.bytes.now (session.user_at self.entry.policy.bytes.now self.entry.place.number) role.number }
+    {
+        self.policy.entitles(self.user(), role)
+    }
+
+    // Whether the levels of the role allow it at its label.
+    pub fn fitting(self, role: Role) -> bool
+        ensures { result ≡ session.fitting self.entry.policy.bytes.now (session.label_at self.entry.policy.bytes.now self.entry.place.number) role.number }
+    {
+        self.policy.fits(self.label(), role)
+    }
+
+    // Whether a role that it holds gives the use of the card.
+    #[tactic(auto, unfolding(crate::specs::Session::gives))]
+    pub fn gives(self, card: Card, mode: Mode) -> bool
+        ensures { result ≡ session.gives self.entry.policy.bytes.now (tables.table_of (mode_of mode)) self.entry.place.number card.number }
+    {
+        let held = self.place.held_at();
+        roleset::meet(self.policy.bytes, held, state::card_row(card, mode))
+    }
 }

@@ -1,69 +1,68 @@
 // Sessions: opening and closing a place, taking and dropping a role.
-ghost use Rattle.std.specs.Prelude.{◌≡◌, ◌+◌, ◌≤◌, length};
+ghost use Rattle.std.specs.Prelude.{◌≡◌, ◌+◌, ◌≤◌, length, IfOk};
+ghost use Rattle.policy.specs.Tables.{state_size};
 ghost use Rattle.monitor.specs.Calls.{written, open_number, opened, Opens, close_number, closed, Closes, take_number, taken, Takes, drop_number, dropped, Drops};
+ghost use Rattle.monitor.specs.Refusals.{told};
 
-use super::{rules, state};
-use policy::layout;
+use super::refusal::Refusal;
+use super::state;
+use super::state::{OpenPlace, Policy};
+use super::things::{Label, Place, Role, User};
 
 // Puts the bytes of b into s, from `at` on.
 pub fn put(s: &mut [u8], at: usize, b: &[u8])
     requires { at + length b.now ≤ length s.old }
     ensures { s.new ≡ written s.old at b.now }
 {
-    let mut i = 0;
-    while i < b.len() {
-        s[at + i] = b[i];
-        i += 1;
-    }
+    s[at..at + b.len()].copy_from_slice(b);
 }
 
-// The number that an opening gets.
-fn open_number(s: &[u8], place: u64, user: u64, label: u64) -> u64
-    ensures { result ≡ open_number s.now place user label }
+// What an opening names.
+#[derive(Clone, Copy)]
+struct Opening {
+    place: Place,
+    user: User,
+    label: Label,
+}
+
+// The place, the user and the label of an opening: 21, 22, 23, 25, 26.
+fn check_open(s: &[u8], place: u64, user: u64, label: u64) -> Result<Opening, Refusal>
+    ensures refused { told result ≡ open_number s.now place user label }
+    ensures done { IfOk result (λ o. (o.place.number ≡ place) × (o.user.number ≡ user) × (o.label.number ≡ label)) }
+    ensures long { IfOk result (λ _. state_size ≤ length s.now) }
 {
-    if !state::sound(s) {
-        return 21;
+    let policy = Policy::new(s)?;
+    let place = Place::new(place)?;
+    if policy.in_use(place) {
+        return Err(Refusal::InUse);
     }
-    if !search::among(state::PLACES, place) {
-        return 22;
+    let user = policy.user(user)?;
+    let label = policy.label(label)?;
+    if !policy.clears(user, label) {
+        return Err(Refusal::Clearance);
     }
-    if state::in_use(s, place) {
-        return 23;
-    }
-    if !state::within_count(s, layout::USER_COUNT_AT, user) {
-        return 25;
-    }
-    if !state::within_count(s, layout::LABEL_COUNT_AT, label) {
-        return 25;
-    }
-    if !rules::cleared(s, user, label) {
-        return 26;
-    }
-    0
+    Ok(Opening { place, user, label })
 }
 
 // Puts a session at a place: a user, a label and no roles.
-fn put_session(s: &mut [u8], place: u64, user: u64, label: u64)
-    requires { open_number s.old place user label ≡ 0 }
-    ensures { s.new ≡ opened s.old place user label }
+fn put_session(s: &mut [u8], place: Place, user: User, label: Label)
+    requires { state_size ≤ length s.old }
+    ensures { s.new ≡ opened s.old place.number user.number label.number }
 {
     let mut bytes = [0u8; state::PLACE_BYTES];
     bytes[0] = state::IN_USE;
-    bytes[state::USER_IN_PLACE] = (user - 1) as u8;
-    bytes[state::LABEL_IN_PLACE] = label as u8;
-    let at = state::place_at(place);
-    put(s, at, &bytes);
+    bytes[state::USER_IN_PLACE] = (user.number - 1) as u8;
+    bytes[state::LABEL_IN_PLACE] = label.number as u8;
+    put(s, place.at(), &bytes);
 }
 
 // Opens a place.
-pub fn open(s: &mut [u8], place: u64, user: u64, label: u64) -> u64
-    ensures { Opens s.old place user label result s.new }
+pub fn open(s: &mut [u8], place: u64, user: u64, label: u64) -> Result<(), Refusal>
+    ensures { Opens s.old place user label (told result) s.new }
 {
-    let n = open_number(s, place, user, label);
-    if n == 0 {
-        put_session(s, place, user, label);
-    }
-    n
+    let o = check_open(s, place, user, label)?;
+    put_session(s, o.place, o.user, o.label);
+    Ok(())
 }
 
 // The number of what a call at a place asks first, that it has a session. A closing asks no more.
@@ -73,7 +72,7 @@ pub fn session_number(s: &[u8], place: u64) -> u64
     if !state::sound(s) {
         return 21;
     }
-    if !search::among(state::PLACES, place) {
+    if !search::among(64, place) {
         return 22;
     }
     if !state::in_use(s, place) {
@@ -82,97 +81,101 @@ pub fn session_number(s: &[u8], place: u64) -> u64
     0
 }
 
+// The place of a session that is to be closed: 21, 22, 24.
+fn check_close(s: &[u8], place: u64) -> Result<Place, Refusal>
+    ensures refused { told result ≡ close_number s.now place }
+    ensures done { IfOk result (λ p. p.number ≡ place) }
+    ensures long { IfOk result (λ _. state_size ≤ length s.now) }
+{
+    let session = OpenPlace::new(s, place)?;
+    Ok(session.place)
+}
+
 // Empties a place.
-fn empty(s: &mut [u8], place: u64)
-    requires { close_number s.old place ≡ 0 }
-    ensures { s.new ≡ closed s.old place }
+fn empty(s: &mut [u8], place: Place)
+    requires { state_size ≤ length s.old }
+    ensures { s.new ≡ closed s.old place.number }
 {
     let bytes = [0u8; state::PLACE_BYTES];
-    let at = state::place_at(place);
-    put(s, at, &bytes);
+    put(s, place.at(), &bytes);
 }
 
 // Closes a place.
-pub fn close(s: &mut [u8], place: u64) -> u64
-    ensures { Closes s.old place result s.new }
+pub fn close(s: &mut [u8], place: u64) -> Result<(), Refusal>
+    ensures { Closes s.old place (told result) s.new }
 {
-    let n = session_number(s, place);
-    if n == 0 {
-        empty(s, place);
-    }
-    n
+    let place = check_close(s, place)?;
+    empty(s, place);
+    Ok(())
 }
 
-// The number that taking a role gets.
-fn take_number(s: &[u8], place: u64, role: u64) -> u64
-    ensures { result ≡ take_number s.now place role }
+// A place and a role that its session takes or drops.
+#[derive(Clone, Copy)]
+struct Change {
+    place: Place,
+    role: Role,
+}
+
+// The place and the role of a taking: 21, 22, 24, 25, 27, 28.
+fn check_take(s: &[u8], place: u64, role: u64) -> Result<Change, Refusal>
+    ensures refused { told result ≡ take_number s.now place role }
+    ensures done { IfOk result (λ c. (c.place.number ≡ place) × (c.role.number ≡ role)) }
+    ensures long { IfOk result (λ _. state_size ≤ length s.now) }
 {
-    let n = session_number(s, place);
-    if n != 0 {
-        return n;
+    let session = OpenPlace::new(s, place)?;
+    let role = session.policy.role(role)?;
+    if !session.entitled(role) {
+        return Err(Refusal::Assignment);
     }
-    if !state::within_count(s, layout::ROLE_COUNT_AT, role) {
-        return 25;
+    if !session.fitting(role) {
+        return Err(Refusal::Levels);
     }
-    if !rules::entitled_at(s, place, role) {
-        return 27;
-    }
-    if !rules::fitting_at(s, place, role) {
-        return 28;
-    }
-    0
+    let place = session.place;
+    Ok(Change { place, role })
 }
 
 // Puts a role among those that the place holds.
-fn hold(s: &mut [u8], place: u64, role: u64)
-    requires { take_number s.old place role ≡ 0 }
-    ensures { s.new ≡ taken s.old place role }
+fn hold(s: &mut [u8], place: Place, role: Role)
+    requires { state_size ≤ length s.old }
+    ensures { s.new ≡ taken s.old place.number role.number }
 {
-    let at = state::held_at(place);
-    roleset::add(s, at, role as usize);
+    roleset::add(s, place.held_at(), role.number as usize);
 }
 
 // Takes a role.
-pub fn take(s: &mut [u8], place: u64, role: u64) -> u64
-    ensures { Takes s.old place role result s.new }
+pub fn take(s: &mut [u8], place: u64, role: u64) -> Result<(), Refusal>
+    ensures { Takes s.old place role (told result) s.new }
 {
-    let n = take_number(s, place, role);
-    if n == 0 {
-        hold(s, place, role);
-    }
-    n
+    let change = check_take(s, place, role)?;
+    hold(s, change.place, change.role);
+    Ok(())
 }
 
-// The number that dropping a role gets.
-fn drop_number(s: &[u8], place: u64, role: u64) -> u64
-    ensures { result ≡ drop_number s.now place role }
+// The place and the role of a dropping: 21, 22, 24, 25.
+fn check_drop(s: &[u8], place: u64, role: u64) -> Result<Change, Refusal>
+    ensures refused { told result ≡ drop_number s.now place role }
+    ensures done { IfOk result (λ c. (c.place.number ≡ place) × (c.role.number ≡ role)) }
+    ensures long { IfOk result (λ _. state_size ≤ length s.now) }
 {
-    let n = session_number(s, place);
-    if n != 0 {
-        return n;
-    }
-    if !state::within_count(s, layout::ROLE_COUNT_AT, role) {
-        return 25;
-    }
-    0
+    let session = OpenPlace::new(s, place)?;
+    let role = session.policy.role(role)?;
+    let place = session.place;
+    Ok(Change { place, role })
 }
 
 // Leaves the role out of those that the place holds.
-fn remove_role(s: &mut [u8], place: u64, role: u64)
-    requires { drop_number s.old place role ≡ 0 }
-    ensures { s.new ≡ dropped s.old place role }
+fn remove_role(s: &mut [u8], place: Place, role: Role)
+    requires { state_size ≤ length s.old }
+    ensures { s.new ≡ dropped s.old place.number role.number }
 {
-    let at = state::held_at(place);
-    roleset::remove(s, at, role as usize);
+    roleset::remove(s, place.held_at(), role.number as usize);
 }
 
 // Drops a role.
-pub fn drop(s: &mut [u8], place: u64, role: u64) -> u64
-    ensures { Drops s.old place role result s.new }
+pub fn drop(s: &mut [u8], place: u64, role: u64) -> Result<(), Refusal>
+    ensures { Drops s.old place role (told result) s.new }
 {
-    let n = drop_number(s, place, role);
-    if n == 0 {
-        remove_role(s, place, role);
-    }
-    n
+    let change = check_drop(s, place, role)?;
+    remove_role(s, change.place, change.role);
+    Ok(())
 }

@@ -1,9 +1,10 @@
 -- By its number, and by what is written where that is 0.
-use Rattle.monitor.proofs.Answers.{outcome}
+use Rattle.std.proofs.Common.{rules}
+use Rattle.monitor.proofs.Refused.{outcome}
 use Rattle.monitor.proofs.sessions.take.Goals as goal
 
-pub returns-then-n-eq0 : goal.returns-then-n-eq0
-returns-then-n-eq0 c = record { number = search; state = search outcome }
+pub returns-in_err-change : goal.returns-in_err-change
+returns-in_err-change c = record { number = search (outcome, rules); state = search (outcome, rules, c.in_err-change.ensures.refused) }
 
-pub returns-else-n-eq0 : goal.returns-else-n-eq0
-returns-else-n-eq0 c = record { number = search; state = search outcome }
+pub returns : goal.returns
+returns c = record { number = search (outcome, rules); state = search (outcome, rules) }
