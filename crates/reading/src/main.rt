@@ -2,23 +2,13 @@
 // store that it hands back. The role file is on standard input.
 #![tactic(auto)]
 
-ghost use Rattle.std.specs.Prelude.{◌≡◌, length};
-
 use std::io;
 use std::io::Write;
 use text::input::read_full;
 
 // A store of three cards: letters in turn, so that the bytes of a part tell where it stands.
-fn letters() -> [u8; 192]
-    ensures { 192 ≡ length result }
-{
-    let mut store = [0u8; 192];
-    let mut i = 0;
-    while i < 192 {
-        store[i] = 97 + (i % 26) as u8;
-        i += 1;
-    }
-    store
+fn letters() -> [u8; 192] {
+    std::array::from_fn(|i| b'a' + (i % 26) as u8)
 }
 
 // One read: its number, a blank, and its part.

@@ -3,3 +3,4 @@ pub mod BySettings
 pub mod Places
 pub mod Fits
 pub mod Whole
+pub mod Fields

@@ -3,7 +3,7 @@ use Prim.Native.Nat.{ℕ, ◌≤◌}
 use mathlib.Core.Path.{◌≡◌, sym}
 use mathlib.Core.List.{List, ◌++◌, append-nil}
 use native.Mathlib.Omega.{arith}
-use lib.ListN.{length, take}
+use lib.ListN.{length}
 use lib.Seq.{length-take-le}
 use borrow.Author.Tests.{eq-eqb, ne_eqb}
 use Rattle.rolefile.specs.declared.Verdict.{Verdict}
@@ -13,8 +13,9 @@ use Rattle.policy.specs.Image.{Loaded}
 use Rattle.policy.proofs.Inside.{file_bounded}
 use Rattle.policy.proofs.Loads.{judged}
 use Rattle.policy.proofs.Outcomes.{accepted_iff}
-use Rattle.text.specs.Text.{Puts}
-use Rattle.text.proofs.Text.{puts_whole}
+use Rattle.text.specs.declared.Text.{Text}
+use Rattle.text.specs.Added.{Adds, in_use}
+use Rattle.text.proofs.Added.{adds_whole}
 use Rattle.rolecheck.specs.Report.{line, state_lines, report, IsPrefixLen}
 use Rattle.rolecheck.proofs.BySettings.{lines_by}
 use Rattle.rolecheck.proofs.Places.{Written, verdict_written}
@@ -35,6 +36,6 @@ module _ (f : List ℕ) {v : Verdict} {xs ys : List ℕ} (load : Loaded f v xs y
       let zero = rw (judged load long) at e in
       rw (judged load long, eq-eqb (verdict f).number 0 zero, lines_by (settings f) (file_bounded f ((accepted_iff f).0 zero).form) ys (rw load.long long) (load.done e).tables)
 
-pub whole : (f : List ℕ) {r : ℕ} {xs ys : List ℕ} → 363308 ≤ length xs → Puts (report f) 0 xs r ys → IsPrefixLen r ys × (take r ys ≡ report f)
-whole f {r} {xs} {ys} l puts =
-    ((puts.used, sym (length-take-le r ys puts.used)), puts_whole puts (omega (arith, report_length f)))
+pub whole : (f : List ℕ) {t u : Text} → t.used ≡ 0 → 363308 ≤ length t.buffer.now → Adds (report f) t u → IsPrefixLen u.used u.buffer.now × (in_use u ≡ report f)
+whole f {t} {u} none room one =
+    ((one.puts.used, sym (length-take-le u.used u.buffer.now one.puts.used)), adds_whole one none (omega (arith, report_length f)))

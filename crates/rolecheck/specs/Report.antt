@@ -1,6 +1,6 @@
 -- The report on a file: "in lines of the same form, V (number, the two numbers of its place), R for each role (role, r-level, w-level; 0 free, 99
 -- undefined), F for each flow in rising order (from, to), C (role on a circle or 0)"; of a file that is refused, V alone. Assumes nothing.
-use Rattle.std.specs.Prelude.{ℕ, ◌≤◌, ◌≡◌, List, [], ◌∷◌, ◌++◌, cond, leb, eqb, length, take}
+use Rattle.std.specs.Prelude.{ℕ, ◌≤◌, ◌≡◌, List, [], ◌∷◌, ◌++◌, cond, leb, eqb, length, take, get_or}
 use Rattle.order.specs.Closure.{Relation}
 use Rattle.rolefile.specs.Line.{newline}
 use Rattle.rolefile.specs.Decimal.{blanks, columns_of}
@@ -14,6 +14,10 @@ use Rattle.policy.specs.Tables.{r_levels_at, w_levels_at, role_count, level_in, 
 -- a line: the byte of its letter, as many of three numbers as are in use, a field without use, and byte 10
 unfoldable pub line : ℕ → ℕ → ℕ → ℕ → ℕ → List ℕ
 line letter used a b c = letter ∷ (columns_of (leb 1 used) a ++ (columns_of (leb 2 used) b ++ (columns_of (leb 3 used) c ++ (blanks ++ (newline ∷ [])))))
+
+-- that of as many numbers as are given
+abbrev pub line_with : ℕ → List ℕ → List ℕ
+line_with letter ns = line letter (length ns) (get_or ns 0 0) (get_or ns 1 0) (get_or ns 2 0)
 
 -- ---- the lines of a policy, by its levels and its flow
 

@@ -1,17 +1,18 @@
 // The lines of the report: 22 bytes each, in the form of a role file's.
-ghost use Rattle.std.specs.Prelude.{◌<◌};
-ghost use Rattle.text.specs.Text.{Puts};
-ghost use Rattle.rolecheck.specs.Report.{line};
+ghost use Rattle.std.specs.Prelude.{◌<◌, All};
+ghost use Rattle.text.specs.Added.{Adds};
+ghost use Rattle.rolecheck.specs.Report.{line_with};
 
-// Puts the line of a letter and as many of three numbers as are in use.
-pub fn line(out: &mut [u8], at: usize, letter: u8, used: u64, a: u64, b: u64, c: u64) -> usize
-    requires { (a < 100000) × (b < 100000) × (c < 100000) }
-    ensures { Puts (line letter used a b c) at out.old result out.new }
+use text::Text;
+
+// Puts the line of a letter and of numbers, each in a field, of which the line has three.
+pub fn line(text: &mut Text, letter: u8, numbers: &[u64])
+    requires { All (λ n. n < 100000) numbers.now }
+    ensures { Adds (line_with letter numbers.now) text.old text.new }
 {
-    let letters = [letter];
-    let mut end = text::put(out, at, &letters);
-    end = text::field(out, end, 1 <= used, a);
-    end = text::field(out, end, 2 <= used, b);
-    end = text::field(out, end, 3 <= used, c);
-    text::put(out, end, b"     \n")
+    text.put(&[letter]);
+    for place in 0..3 {
+        text.field(numbers.get(place).copied());
+    }
+    text.put(b"     \n");
 }

@@ -12,7 +12,7 @@ use text::input::read_full;
 fn main(rt: HostRuntime) -> io::Result<()> {
     let mut file = [0u8; 65536];
     let n = read_full(&mut rt.stdin(), &mut file)?;
-    let mut out = [0u8; 363308];
-    let used = report::report(&file[..n], &mut out);
-    rt.stdout().write_all(&out[..used])
+    let mut out = [0u8; report::MOST_BYTES];
+    rt.stdout()
+        .write_all(report::report(&file[..n], &mut out).bytes())
 }

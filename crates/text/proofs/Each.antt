@@ -1,5 +1,5 @@
 -- The texts of things, put one by one. Assumes nothing.
-use Prim.Native.Nat.{ℕ, zero, suc, ◌+◌, ◌*◌, ◌≤◌}
+use Prim.Native.Nat.{ℕ, zero, suc, ◌+◌, ◌-◌, ◌*◌, ◌≤◌}
 use mathlib.Core.Path.{◌≡◌, refl}
 use mathlib.Core.List.{List}
 use native.Mathlib.Omega.{arith}
@@ -7,17 +7,26 @@ use native.Mathlib.Nat.{suc-mul, le_trans, mul-le-mul_right}
 use native.Mathlib.Numerals.{add-one}
 use lib.ListN.{length, length-append}
 use Rattle.search.specs.Search.{Among}
-use Rattle.text.specs.Text.{each, each_pair, Puts}
-use Rattle.text.proofs.Text.{puts_nothing, puts_then}
+use Rattle.text.specs.declared.Text.{Text}
+use Rattle.text.specs.Text.{each, each_pair}
+use Rattle.text.specs.Added.{Adds}
+use Rattle.text.proofs.Added.{adds_nothing, adds_then}
 
-module _ (f : ℕ → List ℕ) {at : ℕ} {xs : List ℕ} where
-  pub each_none : at ≤ length xs → Puts (each 0 f) at xs at xs
+module _ (f : ℕ → List ℕ) {t : Text} where
+  pub each_none : Adds (each 0 f) t t
   unfolding each
-  each_none l = puts_nothing at xs l
+  each_none = adds_nothing t
 
-  pub each_more : (i : ℕ) {q r : ℕ} {ys zs : List ℕ} → Puts (each i f) at xs q ys → Puts (f (i + 1)) q ys r zs → Puts (each (i + 1) f) at xs r zs
+  pub each_more : (i : ℕ) {u v : Text} → Adds (each i f) t u → Adds (f (i + 1)) u v → Adds (each (i + 1) f) t v
   unfolding each
-  each_more i one two = rw add-one (puts_then one (rw add-one at two))
+  each_more i one two = rw add-one (adds_then one (rw add-one at two))
+
+  -- those before i, and that of i
+  pub each_next : (i : ℕ) → 1 ≤ i → {u v : Text} → Adds (each (i - 1) f) t u → Adds (f i) u v → Adds (each i f) t v
+  each_next i l {u} {v} one two =
+      let same : i - 1 + 1 ≡ i = omega arith in
+      let last : Adds (f (i - 1 + 1)) u v = rw same two in
+      rw same at (each_more (i - 1) one last)
 
 pub each_agree : (n : ℕ) (f g : ℕ → List ℕ) → ((a : ℕ) → Among n a → f a ≡ g a) → each n f ≡ each n g
 unfolding each

@@ -1,4 +1,4 @@
 pub mod Padded
-pub mod Text
+pub mod Added
 pub mod Each
 pub mod Lengths

@@ -6,11 +6,12 @@ use mathlib.Core.List.{List, [], ◌∷◌, ◌++◌, append_assoc}
 use native.Mathlib.Omega.{arith}
 use native.Mathlib.Decide.{dec_lt}
 use native.Mathlib.Numerals.{add-one}
+use Rattle.std.specs.Prelude.{Option, Some, None, IfSome}
 use lib.ListN.{length, replicate, length-append, replicate-append-replicate}
-use borrow.Author.Tests.{le-ltb}
+use borrow.Author.Tests.{ne_eqb}
 use Rattle.rolefile.specs.Decimal.{last_digits, digits, in_columns, padded}
 use Rattle.rolefile.proofs.Decimals.{last_single, last_more, same_digits}
-use Rattle.text.specs.Text.{last_five}
+use Rattle.text.specs.Text.{last_five, last_columns, field_columns}
 use Rattle.text.specs.inner.Digit.{digit_of}
 
 -- ---- the last digits of n
@@ -50,7 +51,7 @@ last_filled k n before = elim (dec_lt n 10) [
 places_filled : (k n : ℕ) → 1 ≤ n → places k n ≡ in_columns k (last_digits k n)
 unfolding last_digits
 places_filled zero n l = refl
-places_filled (suc k) n l = rw (le-ltb n 1 l) (last_filled k n (places_filled k (n / 10)))
+places_filled (suc k) n l = rw (ne_eqb n 0 (λ e. omega arith)) (last_filled k n (places_filled k (n / 10)))
 
 module _ (n : ℕ) where
   pub columns_last : {a b c d : ℕ} → a ≡ digit_of (n / 10000) → b ≡ digit_of (n / 1000) → c ≡ digit_of (n / 100) → d ≡ digit_of (n / 10)
@@ -62,6 +63,10 @@ module _ (n : ℕ) where
       let four : n / 1000 / 10 ≡ n / 10000 = omega arith in
       rw (p, q, r, s) (rw (two, three, four) at (last_filled 4 n (places_filled 4 (n / 10))))
 
-  pub last_padded : n < 100000 → last_five n ≡ padded n
+  last_padded : n < 100000 → last_five n ≡ padded n
   unfolding last_five padded
   last_padded l = rw (all_digits n l)
+
+pub as_written_below : (number : Option ℕ) → IfSome number (λ n. n < 100000) → last_columns number ≡ field_columns number
+as_written_below None few = refl
+as_written_below (Some n) few = last_padded n few

@@ -15,6 +15,7 @@ pub fn read_full<R: Read>(input: &mut R, buffer: &mut [u8]) -> io::Result<usize>
     ensures kept { length buffer.new ≡ length buffer.old }
 {
     let mut done = 0;
+    // Each read says how far it comes, so there is no count to go through.
     while done < buffer.len() {
         let n = input.read(&mut buffer[done..])?;
         if n == 0 {

@@ -5,28 +5,58 @@
 
 pub mod input;
 
-ghost use Rattle.std.specs.Prelude.{◌≡◌, ◌<◌, length};
-ghost use Rattle.rolefile.specs.Decimal.{columns_of};
-ghost use Rattle.text.specs.Text.{Puts, last_columns};
+ghost use Rattle.std.specs.Prelude.{◌≡◌, ◌≤◌, ◌<◌, min, length};
+ghost use Rattle.text.specs.Text.{last_columns};
 ghost use Rattle.text.specs.inner.Digit.{digit_of};
 
-// Puts bytes into `out` after its first `at` bytes, as far as there is room, and answers how many
-// are then in use.
-pub fn put(out: &mut [u8], at: usize, bytes: &[u8]) -> usize
-    ensures { Puts bytes.now at out.old result out.new }
-{
-    if out.len() <= at {
-        return out.len();
+// A text at the start of a buffer: the bytes of it that are in use.
+#[derive(Drop)]
+pub struct Text<'a> {
+    buffer: &'a mut [u8],
+    used: usize,
+    ghost fits: { used ≤ length buffer.now },
+}
+
+impl<'a> Text<'a> {
+    ghost use Rattle.std.specs.Prelude.{◌≡◌, ◌<◌, min, length, IfSome};
+    ghost use Rattle.text.specs.Text.{last_columns, field_columns};
+    ghost use Rattle.text.specs.Added.{Adds, in_use};
+
+    // The first bytes of a buffer, as many as are in use; all of one that is shorter.
+    pub fn new(buffer: &'a mut [u8], used: usize) -> Text<'a>
+        ensures same_buffer { result.buffer.ghost_name ≡ buffer.entry.ghost_name }
+        ensures bytes { result.buffer.now ≡ buffer.old }
+        ensures used { result.used ≡ min used (length buffer.old) }
+    {
+        let used = used.min(buffer.len());
+        Text { buffer, used }
     }
-    let mut i = 0;
-    while i < bytes.len() {
-        if out.len() <= at + i {
-            return out.len();
-        }
-        out[at + i] = bytes[i];
-        i += 1;
+
+    // The bytes in use.
+    pub fn bytes(&self) -> &[u8]
+        ensures { result.now ≡ in_use self.now }
+    {
+        &self.buffer[..self.used]
     }
-    at + i
+
+    // Puts bytes after those in use, as far as there is room.
+    pub fn put(&mut self, bytes: &[u8])
+        ensures { Adds bytes.now self.old self.new }
+    {
+        let count = (self.buffer.len() - self.used).min(bytes.len());
+        let end = self.used + count;
+        self.buffer[self.used..end].copy_from_slice(&bytes[..count]);
+        self.used = end;
+    }
+
+    // Puts the five columns of a number, or blanks for a field without use: a number below 100,000
+    // whole, and the last five digits of any other.
+    pub fn field(&mut self, number: Option<u64>)
+        ensures whole { IfSome number (λ n. n < 100000) → Adds (field_columns number) self.old self.new }
+        ensures last { Adds (last_columns number) self.old self.new }
+    {
+        self.put(&columns(number));
+    }
 }
 
 // What a column before the last shows, where n is the number less its digits after that column:
@@ -34,35 +64,26 @@ pub fn put(out: &mut [u8], at: usize, bytes: &[u8]) -> usize
 fn digit(n: u64) -> u8
     ensures { result ≡ digit_of n }
 {
-    if n < 1 {
-        return 32;
+    if n == 0 {
+        return b' ';
     }
-    48 + (n % 10) as u8
+    b'0' + (n % 10) as u8
 }
 
 // The five columns of a number, or blanks for a field without use. They hold a number below 100,000
 // whole, and the last five digits of any other.
-fn columns(used: bool, n: u64) -> [u8; 5]
+fn columns(number: Option<u64>) -> [u8; 5]
     ensures five { 5 ≡ length result }
-    ensures columns { result ≡ last_columns used n }
+    ensures columns { result ≡ last_columns number }
 {
-    if !used {
-        return [32; 5];
-    }
+    let Some(n) = number else {
+        return [b' '; 5];
+    };
     [
         digit(n / 10000),
         digit(n / 1000),
         digit(n / 100),
         digit(n / 10),
-        48 + (n % 10) as u8,
+        b'0' + (n % 10) as u8,
     ]
-}
-
-// Puts the five columns of a number, or blanks for a field without use, as `put` does: a number below
-// 100,000 whole, and the last five digits of any other.
-pub fn field(out: &mut [u8], at: usize, used: bool, n: u64) -> usize
-    ensures { (n < 100000 → Puts (columns_of used n) at out.old result out.new) × Puts (last_columns used n) at out.old result out.new }
-{
-    let text = columns(used, n);
-    put(out, at, &text)
 }

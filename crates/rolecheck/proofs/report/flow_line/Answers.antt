@@ -1,14 +1,13 @@
 -- By cases on whether there is the flow.
-use borrow.Author.Rules.{rules}
 use Rattle.search.proofs.Truth.{passed, failed}
-use Rattle.text.proofs.Text.{puts_nothing}
+use Rattle.text.proofs.Added.{adds_nothing}
 use Rattle.rolecheck.specs.Report.{flow_line}
 use Rattle.rolecheck.proofs.report.flow_line.Goals as goal
 
-pub returns-then-not-flows : goal.returns-then-not-flows
+pub returns-then-flows : goal.returns-then-flows
 unfolding flow_line
-returns-then-not-flows c = rw (failed c.flows.ensures c.if-not-flows.true) (puts_nothing _ _ (search rules))
+returns-then-flows c = rw (passed c.flows.ensures c.if-flows.true) c.line.ensures
 
-pub returns : goal.returns
+pub returns-else-flows : goal.returns-else-flows
 unfolding flow_line
-returns c = rw (passed c.flows.ensures c.if-not-flows.false) c.line.ensures
+returns-else-flows c = rw (failed c.flows.ensures c.if-flows.false) (adds_nothing _)

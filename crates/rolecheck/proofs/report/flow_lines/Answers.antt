@@ -1,23 +1,25 @@
 -- Each turn puts the lines of the flows from one role more.
-use mathlib.Core.Path.{◌≡◌, ◌∙◌}
-use native.Mathlib.Omega.{arith}
-use borrow.Author.Rules.{rules}
-use Rattle.text.proofs.Each.{each_none, each_more}
-use Rattle.rolecheck.proofs.Counted.{few_roles}
+use Rattle.std.proofs.Common.{◌≡◌, ◌+◌, ◌-◌, ◌∙◌, arith, rules}
+use Rattle.text.proofs.Each.{each_none, each_next}
 use Rattle.rolecheck.proofs.report.flow_lines.Goals as goal
 
-pub loop-i-init : goal.loop-i-init
-loop-i-init c =
-    let a = c.args in
-    (omega (arith, few_roles a.state.now), search rules, each_none _ (search rules))
+pub loop-from-init : goal.loop-from-init
+loop-from-init c = (search rules, each_none _)
 
-pub loop-i-preserved : goal.loop-i-preserved
-loop-i-preserved c =
-    let w = c.loop-i in
-    (search rules, search rules, each_more _ w.i w.invariant.2 c.flows_from-used.ensures)
+pub loop-from-preserved : goal.loop-from-preserved
+loop-from-preserved c =
+    let w = c.loop-from in
+    let same : w.from + 1 - 1 ≡ w.from = omega arith in
+    (search rules, rw same (each_next _ w.from (search rules) w.invariant.1 c.flows_from.ensures))
 
 pub returns : goal.returns
 returns c =
-    let w = c.loop-i in
-    let all : w.i ≡ c.roles-n.result = omega arith in
-    rw (all ∙ c.roles-n.ensures) at w.invariant.2
+    let w = c.loop-from in
+    let all : w.from - 1 ≡ c.roles-from-end.result = omega arith in
+    rw (all ∙ c.roles-from-end.ensures) at w.invariant.1
+
+pub returns-2 : goal.returns-2
+returns-2 c =
+    let w = c.loop-from in
+    let all : w.from ≡ c.roles-from-end.result = omega arith in
+    rw (all ∙ c.roles-from-end.ensures) at (each_next _ w.from (search rules) w.invariant.1 c.flows_from.ensures)

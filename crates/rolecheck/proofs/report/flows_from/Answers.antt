@@ -1,23 +1,25 @@
 -- Each turn puts the line of the flow to one role more.
-use mathlib.Core.Path.{◌≡◌, ◌∙◌}
-use native.Mathlib.Omega.{arith}
-use borrow.Author.Rules.{rules}
-use Rattle.text.proofs.Each.{each_none, each_more}
-use Rattle.rolecheck.proofs.Counted.{few_roles}
+use Rattle.std.proofs.Common.{◌≡◌, ◌+◌, ◌-◌, ◌∙◌, arith, rules}
+use Rattle.text.proofs.Each.{each_none, each_next}
 use Rattle.rolecheck.proofs.report.flows_from.Goals as goal
 
-pub loop-i-init : goal.loop-i-init
-loop-i-init c =
-    let a = c.args in
-    (omega (arith, few_roles a.state.now), search rules, each_none _ (search rules))
+pub loop-to-init : goal.loop-to-init
+loop-to-init c = (search rules, each_none _)
 
-pub loop-i-preserved : goal.loop-i-preserved
-loop-i-preserved c =
-    let w = c.loop-i in
-    (search rules, search rules, each_more _ w.i w.invariant.2 c.flow_line-used.ensures)
+pub loop-to-preserved : goal.loop-to-preserved
+loop-to-preserved c =
+    let w = c.loop-to in
+    let same : w.to + 1 - 1 ≡ w.to = omega arith in
+    (search rules, rw same (each_next _ w.to (search rules) w.invariant.1 c.flow_line.ensures))
 
 pub returns : goal.returns
 returns c =
-    let w = c.loop-i in
-    let all : w.i ≡ c.roles-n.result = omega arith in
-    rw (all ∙ c.roles-n.ensures) at w.invariant.2
+    let w = c.loop-to in
+    let all : w.to - 1 ≡ c.roles-roles.result = omega arith in
+    rw (all ∙ c.roles-roles.ensures) at w.invariant.1
+
+pub returns-2 : goal.returns-2
+returns-2 c =
+    let w = c.loop-to in
+    let all : w.to ≡ c.roles-roles.result = omega arith in
+    rw (all ∙ c.roles-roles.ensures) at (each_next _ w.to (search rules) w.invariant.1 c.flow_line.ensures)

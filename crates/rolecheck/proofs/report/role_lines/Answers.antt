@@ -1,23 +1,25 @@
 -- Each turn puts the line of one role more.
-use mathlib.Core.Path.{◌≡◌, ◌∙◌}
-use native.Mathlib.Omega.{arith}
-use borrow.Author.Rules.{rules}
-use Rattle.text.proofs.Each.{each_none, each_more}
-use Rattle.rolecheck.proofs.Counted.{few_roles}
+use Rattle.std.proofs.Common.{◌≡◌, ◌+◌, ◌-◌, ◌∙◌, arith, rules}
+use Rattle.text.proofs.Each.{each_none, each_next}
 use Rattle.rolecheck.proofs.report.role_lines.Goals as goal
 
-pub loop-i-init : goal.loop-i-init
-loop-i-init c =
-    let a = c.args in
-    (omega (arith, few_roles a.state.now), search rules, each_none _ (search rules))
+pub loop-role-init : goal.loop-role-init
+loop-role-init c = (search rules, each_none _)
 
-pub loop-i-preserved : goal.loop-i-preserved
-loop-i-preserved c =
-    let w = c.loop-i in
-    (search rules, search rules, each_more _ w.i w.invariant.2 (rw (c.r_level-r.ensures, c.w_level-w.ensures) at c.line-used.ensures))
+pub loop-role-preserved : goal.loop-role-preserved
+loop-role-preserved c =
+    let w = c.loop-role in
+    let same : w.role + 1 - 1 ≡ w.role = omega arith in
+    (search rules, rw same (each_next _ w.role (search rules) w.invariant.1 (rw (c.r_level-reads.ensures, c.w_level-writes.ensures) at c.line.ensures)))
 
 pub returns : goal.returns
 returns c =
-    let w = c.loop-i in
-    let all : w.i ≡ c.roles-n.result = omega arith in
-    rw (all ∙ c.roles-n.ensures) at w.invariant.2
+    let w = c.loop-role in
+    let all : w.role - 1 ≡ c.roles-role-end.result = omega arith in
+    rw (all ∙ c.roles-role-end.ensures) at w.invariant.1
+
+pub returns-2 : goal.returns-2
+returns-2 c =
+    let w = c.loop-role in
+    let all : w.role ≡ c.roles-role-end.result = omega arith in
+    rw (all ∙ c.roles-role-end.ensures) at (each_next _ w.role (search rules) w.invariant.1 (rw (c.r_level-reads.ensures, c.w_level-writes.ensures) at c.line.ensures))
