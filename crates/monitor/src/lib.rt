@@ -27,7 +27,7 @@ use things::Mode;
 
 // The answer of a load, as C has it.
 #[repr(C)]
-#[derive(Clone, Copy)]
+#[derive(Clone, Copy, Debug, PartialEq, Eq)]
 pub struct LoadAnswer {
     pub number: u64,
     pub first: u64,
@@ -36,7 +36,7 @@ pub struct LoadAnswer {
 
 // The answer of a report or of a review call, as C has it.
 #[repr(C)]
-#[derive(Clone, Copy)]
+#[derive(Clone, Copy, Debug, PartialEq, Eq)]
 pub struct Figure {
     pub number: u64,
     pub figure: u64,
@@ -44,7 +44,7 @@ pub struct Figure {
 
 // The answer that tells how many of each thing there are, as C has it.
 #[repr(C)]
-#[derive(Clone, Copy)]
+#[derive(Clone, Copy, Debug, PartialEq, Eq)]
 pub struct Counts {
     pub number: u64,
     pub labels: u64,
@@ -56,7 +56,7 @@ pub struct Counts {
 // The answer that tells a session, as C has it. Of the roles held role r is bit r - 1 of `low`, or
 // from 65 on bit r - 65 of `high`.
 #[repr(C)]
-#[derive(Clone, Copy)]
+#[derive(Clone, Copy, Debug, PartialEq, Eq)]
 pub struct Session {
     pub number: u64,
     pub user: u64,
@@ -67,7 +67,7 @@ pub struct Session {
 
 // The answer that tells a set of roles, as C has it.
 #[repr(C)]
-#[derive(Clone, Copy)]
+#[derive(Clone, Copy, Debug, PartialEq, Eq)]
 pub struct RoleSet {
     pub number: u64,
     pub low: u64,

@@ -32,7 +32,7 @@ fn check_open(s: &[u8], place: u64, user: u64, label: u64) -> Result<Opening, Re
     ensures long { IfOk result (λ _. state_size ≤ length s.now) }
 {
     let policy = Policy::new(s)?;
-    let place = Place::new(place)?;
+    let place = Place::try_from(place)?;
     if policy.in_use(place) {
         return Err(Refusal::InUse);
     }

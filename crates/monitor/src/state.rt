@@ -293,7 +293,7 @@ impl<'a> OpenPlace<'a> {
         ensures place { IfOk result (λ session. session.place.number ≡ place) }
     {
         let policy = Policy::new(bytes)?;
-        let place = Place::new(place)?;
+        let place = Place::try_from(place)?;
         if !policy.in_use(place) {
             return Err(Refusal::NoSession);
         }

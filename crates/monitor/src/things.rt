@@ -27,13 +27,14 @@ pub type Role = Thing<{ layout::ROLES }>;
 
 pub type Card = Thing<{ layout::CARDS }>;
 
-impl Place {
-    // The place of that number: 22.
+// The place of that number: 22.
+impl TryFrom<u64> for Place {
+    type Error = Refusal;
+
+    ghost try_from_gives = { λ x answer. (told answer ≡ unless (among 64 x) 22 0) × IfOk answer (λ place. place.number ≡ x) };
+
     #[tactic(auto, unfolding(crate::specs::Calls::unless))]
-    pub fn new(x: u64) -> Result<Place, Refusal>
-        ensures refused { told result ≡ unless (among 64 x) 22 0 }
-        ensures done { IfOk result (λ place. place.number ≡ x) }
-    {
+    fn try_from(x: u64) -> Result<Place, Refusal> {
         if !search::among(PLACES as u64, x) {
             return Err(Refusal::Place);
         }
@@ -63,13 +64,14 @@ pub enum Mode {
     Write = 2,
 }
 
-impl Mode {
-    // The mode of that number: 25.
+// The mode of that number: 25.
+impl TryFrom<u64> for Mode {
+    type Error = Refusal;
+
+    ghost try_from_gives = { λ x answer. (told answer ≡ unless (among 2 x) 25 0) × IfOk answer (λ mode. mode_of mode ≡ x) };
+
     #[tactic(auto, unfolding(crate::specs::Calls::unless))]
-    pub fn new(x: u64) -> Result<Mode, Refusal>
-        ensures refused { told result ≡ unless (among 2 x) 25 0 }
-        ensures done { IfOk result (λ mode. mode_of mode ≡ x) }
-    {
+    fn try_from(x: u64) -> Result<Mode, Refusal> {
         match x {
             1 => Ok(Mode::Read),
             2 => Ok(Mode::Write),
