@@ -1,5 +1,5 @@
 -- 14 to 16 by the tables: a verdict with no number has no place, and the tables' verdict is that of the settings where the tables are. Assumes nothing.
-use Prim.Native.Nat.{ℕ, ◌≤◌, ◌<◌}
+use Prim.Native.Nat.{ℕ, ◌+◌, ◌≤◌, ◌<◌}
 use mathlib.Core.Path.{◌≡◌, refl, sym, ◌∙◌}
 use mathlib.Core.Logic.{◌⊎◌, inl, inr, ⊎_elim}
 use mathlib.Core.Bool.{Bool, true, false, not, ◌&&◌, ◌||◌, cond, and-false}
@@ -15,6 +15,7 @@ use Rattle.search.proofs.Found.{some_cut}
 use Rattle.order.specs.Closure.{Relation, Agree}
 use Rattle.order.specs.Bound.{converse}
 use Rattle.order.specs.inner.Members.{row_holds, in_row}
+use Rattle.rolefile.specs.declared.Line.{Line}
 use Rattle.rolefile.specs.declared.Verdict.{Verdict}
 use Rattle.rolefile.specs.Line.{A, line_at, lines, part}
 use Rattle.rolefile.specs.Form.{refusal, header, scan}
@@ -30,7 +31,10 @@ use Rattle.policy.specs.Tables.{clearances_at, r_levels_at, w_levels_at, byte_of
 use Rattle.policy.specs.inner.Filling.{level_row, some_serves, assign_by_tables}
 use Rattle.policy.specs.Image.{Labelled, Dominating, Levelled}
 use Rattle.policy.specs.Verdict.{serves, assign_verdict, assignment_verdict}
-use Rattle.policy.proofs.Readying.{one_within, two_within, limits_a}
+use Rattle.policy.specs.inner.Stages.{Stands, Ready, Closed}
+use Rattle.policy.proofs.Fronts.{one_same, two_same, scan_same}
+use Rattle.policy.proofs.Readying.{good_of, counts_of, a_lines, one_within, two_within, limits_a}
+use Rattle.policy.proofs.Inside.{dominates_inside}
 use Rattle.policy.proofs.Levels.{Tells, level_tells}
 use Rattle.policy.proofs.Checks.{assignment_clean}
 
@@ -181,8 +185,8 @@ module _ (σ : Settings) (ys : List ℕ) (few : σ.labels ≤ 32) (inside : Insi
 -- ---- the assignments of a file, by the section of its A lines
 
 module _ (f : List ℕ) (good : GoodLines f) (counts : GoodCounts (header f)) {j m : ℕ} (s : Section f A j m) where
-  pub numbers_within : (i : ℕ) → Among m i → Among 256 (one (part f j) i) × Among 128 (two (part f j) i)
-  numbers_within i w =
+  section_within : (i : ℕ) → Among m i → Among 256 (one (part f j) i) × Among 128 (two (part f j) i)
+  section_within i w =
       let u = rw (limits_a (header f)).0 at (one_within f good s (omega arith) i w) in
       let r = rw (limits_a (header f)).1 at (two_within f good s (omega arith) i w) in
       let users = counts.users in
@@ -190,14 +194,38 @@ module _ (f : List ℕ) (good : GoodLines f) (counts : GoodCounts (header f)) {j
       omega arith
 
   -- v says of a user and a role what the file does
-  pub scan_assignments : (v : ℕ → ℕ → Verdict) → ((u r : ℕ) → Among 256 u → Among 128 r → v u r ≡ assign_verdict (settings f) u r)
+  section_scan : (v : ℕ → ℕ → Verdict) → ((u r : ℕ) → Among 256 u → Among 128 r → v u r ≡ assign_verdict (settings f) u r)
       → scan m (λ i. v (one (part f j) i) (two (part f j) i)) ≡ scan (lines f) (assignment_verdict f)
   unfolding assignment_verdict
-  scan_assignments v agree =
+  section_scan v agree =
       sym (scan_within (lines f) j m s.fits (assignment_verdict f) (λ i. v (one (part f j) i) (two (part f j) i))
       (λ i w. assignment_clean f i)
       (λ i w out. rw (ne_eqb (line_at f i).letter A (λ e. out (s.only i w e))))
       (λ i w.
-      let n = numbers_within i w in
+      let n = section_within i w in
       let numbers = told f good s in
       rw (s.inside i w, ← (numbers.a i w), ← (numbers.b i w)) (sym (agree (one (part f j) i) (two (part f j) i) n.0 n.1))))
+
+module _ {f d s u o p a : List ℕ} {h : Line} (ready : Ready f h d s u o p a) where
+  good : GoodLines f
+  good = good_of f ready.lines
+
+  counts : GoodCounts (header f)
+  counts = counts_of f ready.lines
+
+  stands : Stands f A (1 + lines d + lines s + lines u + lines o + lines p) a
+  stands = ready.laid.a_stands
+
+  pub numbers_within : (i : ℕ) → Among (lines a) i → Among 256 (one a i) × Among 128 (two a i)
+  numbers_within i w =
+      rw (one_same stands.leads stands.front i w, two_same stands.leads stands.front i w)
+      (section_within f good counts (a_lines ready.lines ready.laid) i w)
+
+  -- what the tables of ys and the rows of dominance tell of each is what the file does
+  pub scan_assignments : (ys under over : List ℕ) → Labelled (settings f) ys → Dominating (settings f) ys → Levelled (settings f) ys
+      → Closed f (row_holds under) → Closed f (converse (row_holds over))
+      → scan (lines a) (λ i. assign_by_tables ys under over (one a i) (two a i)) ≡ scan (lines f) (assignment_verdict f)
+  scan_assignments ys under over labelled dominating levelled lower upper =
+      scan_same stands.leads stands.front (assign_by_tables ys under over)
+      ∙ section_scan f good counts (a_lines ready.lines ready.laid) (assign_by_tables ys under over)
+      (tables_verdict (settings f) ys counts.labels.1 (dominates_inside f good) dominating labelled levelled under over lower upper)

@@ -1,37 +1,47 @@
 -- Dominance in tables: the D lines' paths and their closure, and what 11 and 12 find in them. Assumes nothing.
-use Prim.Native.Nat.{ℕ, zero, suc, ◌≤◌}
+use Prim.Native.Nat.{ℕ, zero, suc, ◌≤◌, min}
+use Rattle.std.proofs.Common.{Some, None}
 use mathlib.Core.Path.{◌≡◌, refl, ◌∙◌}
 use mathlib.Core.List.{List}
 use mathlib.Core.Bool.{Bool, ◌&&◌, cond}
 use native.Mathlib.Omega.{arith}
 use lib.Dec.{leb, ltb}
-use borrow.Author.Tests.{le-leb, lt-ltb}
+use borrow.Author.Tests.{le-leb, lt-ltb, ne_eqb}
 use Rattle.search.proofs.Truth.{and_when}
-use Rattle.order.specs.Closure.{Relation, Agree, path, with_itself}
-use Rattle.order.specs.Bound.{partner_without_bound, lowest_without_bound, FirstWithoutBound}
+use Rattle.search.specs.Search.{thing}
+use Rattle.search.proofs.Thing.{thing_none, thing_some}
+use Rattle.order.specs.declared.bounds.Pair.{Pair}
+use Rattle.order.specs.Closure.{Relation, Agree, path, loop, with_itself}
+use Rattle.order.specs.Bound.{partner_without_bound, lowest_without_bound, first_without_bound, FirstWithoutBound}
 use Rattle.order.specs.Table.{mark, Rows}
 use Rattle.order.proofs.Closure.{loop_circle}
-use Rattle.order.proofs.Bound.{first_without_agree}
-use Rattle.rolefile.specs.Line.{D, fields, part}
-use Rattle.rolefile.specs.Form.{refusal, found}
+use Rattle.order.proofs.Bound.{first_without_agree, first_without_none, first_without_some}
+use Rattle.rolefile.specs.declared.Line.{Line}
+use Rattle.rolefile.specs.Line.{fields, lines}
+use Rattle.rolefile.specs.Form.{fine, refusal, found}
 use Rattle.rolefile.specs.Said.{labels, over}
-use Rattle.rolefile.proofs.Sections.{Section, says_two}
-use Rattle.rolefile.specs.WellFormed.{GoodLines}
+use Rattle.rolefile.proofs.Sections.{says_two}
 use Rattle.policy.specs.Settings.{dominates}
 use Rattle.policy.specs.inner.Filling.{Marking}
 use Rattle.policy.specs.Verdict.{order_verdict, label_verdict, pair_verdict}
-use Rattle.policy.specs.inner.Stages.{Paths, Closed}
+use Rattle.policy.specs.inner.Stages.{Ready, Paths, Closed}
+use Rattle.policy.proofs.Fronts.{pairs_same}
+use Rattle.policy.proofs.Readying.{good_of, counts_of, d_lines, head_labels}
 use Rattle.policy.proofs.Inside.{over_between}
 use Rattle.policy.proofs.Closing.{paths_table, closed_table}
 
 -- ---- the tables
 
-module _ (f : List ℕ) (good : GoodLines f) (few : labels f ≤ 32) {j m : ℕ} (s : Section f D j m) where
-  -- t has the marks of the D lines, and u its paths
-  pub paths_of : (t u : List (List Bool)) → Marking (part f j) m t → Rows 32 (labels f) (path (labels f) (mark t)) (mark t) (mark u) → Paths f u
-  unfolding fields
-  paths_of t u said =
-      paths_table 32 (labels f) (over f) (mark t) (mark u) few (over_between f good) (λ a b v w. said a b v w ∙ says_two f good s refl a b)
+-- t has the marks of the D lines, and v its paths
+pub paths_are : {f d s u o p a : List ℕ} {h : Line} (ready : Ready f h d s u o p a) (t v : List (List Bool)) → Marking d (lines d) t
+    → Rows 32 (min h.a 32) (path (min h.a 32) (mark t)) (mark t) (mark v) → Paths f v
+unfolding fields
+paths_are {f} ready t v said closes =
+    let good = good_of f ready.lines in
+    let stands = ready.laid.d_stands in
+    paths_table 32 (labels f) (over f) (mark t) (mark v) (counts_of f ready.lines).labels.1 (over_between f good)
+    (λ x y i j. said x y i j ∙ pairs_same stands.leads stands.front x y ∙ says_two f good (d_lines ready.lines ready.laid).0 refl x y)
+    (rw (head_labels ready) at closes)
 
 pub closed_of : (f : List ℕ) (t c : List (List Bool)) → Paths f t
     → Rows 32 (labels f) (with_itself (mark t)) (mark t) (mark c) → Closed f (mark c)
@@ -75,3 +85,23 @@ order_verdict_is f t ge few p agree =
 
     here : FirstWithoutBound n ge a b
     here = record { lower = refl; higher = refl }
+
+-- what the two searches find, and what is answered
+module _ (n : ℕ) (paths ge : Relation) where
+  pub circle_refused : {a : ℕ} → Some a ≡ thing (loop n paths) → refusal 11 a 0 ≡ order_verdict n paths ge
+  unfolding order_verdict
+  circle_refused {a} e = let (q, l) = (thing_some (loop n paths) a).0 e in rw (← q, ne_eqb a 0 (λ z. omega arith)) refl
+
+  module _ (none : None ≡ thing (loop n paths)) where
+    no_circle : loop n paths ≡ 0
+    no_circle = (thing_none (loop n paths)).0 none
+
+    pub pair_refused : {p : Pair} → Some p ≡ first_without_bound n ge → refusal 12 p.lower p.higher ≡ order_verdict n paths ge
+    unfolding order_verdict
+    pair_refused {p} e =
+        let (h, l) = first_without_some n ge p e in
+        rw (no_circle, pair_verdict_lem n ge p.lower p.higher h, ne_eqb p.lower 0 (λ z. omega arith)) refl
+
+    pub none_refused : None ≡ first_without_bound n ge → fine ≡ order_verdict n paths ge
+    unfolding order_verdict
+    none_refused e = rw (no_circle, pair_verdict_lem n ge 0 0 (first_without_none n ge e)) refl

@@ -7,13 +7,13 @@ use native.Mathlib.Omega.{arith}
 use Rattle.roleset.specs.Row.{row_of, Kept}
 use Rattle.roleset.proofs.Rows.{row_kept, kept_both}
 use Rattle.rolefile.specs.declared.Line.{Line}
-use Rattle.rolefile.specs.Line.{fields, part}
+use Rattle.rolefile.specs.Line.{fields, lines}
 use Rattle.rolefile.specs.inner.Section.{pairs}
 use Rattle.rolefile.proofs.Sections.{says_two}
-use Rattle.policy.specs.declared.build.Parts.{Parts}
 use Rattle.policy.specs.Tables.{word, assigned_at}
 use Rattle.policy.specs.inner.Filling.{Related}
 use Rattle.policy.specs.inner.Stages.{Ready, Zeros, Counting, Finishing}
+use Rattle.policy.proofs.Fronts.{pairs_same}
 use Rattle.policy.proofs.Readying.{good_of, a_lines}
 use Rattle.policy.proofs.Relating.{unites_zeros}
 use Rattle.policy.proofs.Builds.{word_stays}
@@ -31,15 +31,16 @@ module _ (h : Line) (v w x y z : List ℕ) (first : (word w 0 ≡ h.a) × Kept 0
     rest = kept_both v y z (omega arith) three fourth.1;
   }
 
-module _ (f : List ℕ) (q : Parts) (h : Line) (ready : Ready f q h) (xs ys zs p : List ℕ) (zeros : Zeros 4112 8208 xs)
-    (its : p ≡ part f q.a.start) (filled : Related 4112 256 (pairs p q.a.count) xs ys) (counted : Counting h ys zs) where
+module _ {f d s u o p a : List ℕ} {h : Line} (ready : Ready f h d s u o p a) (xs ys zs : List ℕ) (zeros : Zeros 4112 8208 xs)
+    (filled : Related 4112 256 (pairs a (lines a)) xs ys) (counted : Counting h ys zs) where
   pub finished : Finishing f xs zs
   unfolding fields
-  finished = record {
-    assigning = λ u r v w.
-        row_kept ys zs counted.rest (row_of assigned_at u) r (inr (omega arith))
-        ∙ unites_zeros assigned_at 256 _ xs ys filled.rows zeros u r v w
-        ∙ rw its (says_two f (good_of f ready.lines) (a_lines f q ready.lines ready.laid) refl u r);
+  finished = let stands = ready.laid.a_stands in record {
+    assigning = λ v r w t.
+        row_kept ys zs counted.rest (row_of assigned_at v) r (inr (omega arith))
+        ∙ unites_zeros assigned_at 256 _ xs ys filled.rows zeros v r w t
+        ∙ pairs_same stands.leads stands.front v r
+        ∙ says_two f (good_of f ready.lines) (a_lines ready.lines ready.laid) refl v r;
     counted = rw ready.head at counted.counts;
     rest = λ i l out. counted.rest i (λ m. l) ∙ filled.rest i (λ m. let far = out m in omega arith);
   }

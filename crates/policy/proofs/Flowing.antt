@@ -74,7 +74,7 @@ pub record Turn (t u xs : List ℕ) (o i w : ℕ) : Type 0 where
   pub same : length u ≡ length t
   pub fits : 28688 ≤ length xs
   pub card : o < 512
-  pub before : i < 128
+  pub before : i ≤ 128
   pub next : w ≡ next_member xs (writers_at + 16 * o) i
   pub done : Tabled 0 i (past_card t xs (o + 1)) t u
 
@@ -141,10 +141,9 @@ module _ (xs t : List ℕ) (m : ℕ) (said : Agree 128 128 (related t 0) (λ r q
   ]
 
 -- the circles of flow by a table that has it, as the lowest on one is answered for n roles
-pub flow_circles : (xs t v : List ℕ) (m n r : ℕ) → Agree 128 128 (related t 0) (flowing xs m)
+pub flow_circles : (xs t v : List ℕ) (m n : ℕ) → Agree 128 128 (related t 0) (flowing xs m)
     → 2048 ≤ length t → length v ≡ length t → n ≤ 128 → Tabled 0 n (path n (related t 0)) t v
-    → r ≡ cond (leb (0 + 2048) (length v)) (loop n (related v 0)) 0 → r ≡ circle n (flowing xs m)
-flow_circles xs t v m n r has long kept l closed e =
-    e
-    ∙ rw (le-leb (0 + 2048) (length v) (omega arith)) (loop_circle (related t 0) l (closed.rows (omega arith)))
+    → cond (leb (0 + 2048) (length v)) (loop n (related v 0)) 0 ≡ circle n (flowing xs m)
+flow_circles xs t v m n has long kept l closed =
+    rw (le-leb (0 + 2048) (length v) (omega arith)) (loop_circle (related t 0) l (closed.rows (omega arith)))
     ∙ circle_agree n 128 (related t 0) (flowing xs m) l (λ a b v w. has a b (omega arith) w)

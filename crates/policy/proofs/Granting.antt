@@ -19,25 +19,25 @@ use Rattle.order.specs.Bound.{converse}
 use Rattle.order.specs.Table.{mark, related}
 use Rattle.order.specs.inner.Members.{row_holds}
 use Rattle.rolefile.specs.declared.Line.{Line}
-use Rattle.rolefile.specs.Line.{P, part}
+use Rattle.rolefile.specs.Line.{P, lines, part}
 use Rattle.rolefile.specs.Form.{header}
 use Rattle.rolefile.specs.Said.{labels, roles, cards, above, permits, card_label}
 use Rattle.rolefile.specs.inner.Section.{one, two, three}
 use Rattle.rolefile.specs.WellFormed.{GoodCounts, GoodLines}
 use Rattle.rolefile.proofs.Sections.{Section, says_three}
-use Rattle.policy.specs.declared.build.Parts.{Parts}
 use Rattle.policy.specs.Settings.{dominates, senior, settings}
 use Rattle.policy.specs.Policy.{may, may_at, level, r_level, w_level, level_number}
 use Rattle.policy.specs.Tables.{r_levels_at, seniors_at, readers_at, writers_at, table_of, byte_of, mark_at}
-use Rattle.policy.specs.inner.Filling.{line_grants, granted_by_lines, brings, gathered, by_mode, levels_at, gathered_at, LevelBytes, GrantedRows, DominanceRows}
+use Rattle.policy.specs.inner.Filling.{line_grants, granted_by_lines, brings, gathered, by_mode, levels_at, LevelBytes, GrantedRows, DominanceRows}
 use Rattle.policy.specs.Image.{Labelled, Seniors, Permitting, Levelled, Allows}
 use Rattle.policy.specs.inner.Stages.{Ready, Zeros, Closed, Granting}
+use Rattle.policy.proofs.Fronts.{granted_same}
 use Rattle.policy.proofs.Readying.{good_of, counts_of, p_lines, one_within, limits_p}
 use Rattle.policy.proofs.Inside.{Between, closure_between, above_between}
 use Rattle.policy.proofs.Dominance.{closed_agree}
 use Rattle.policy.proofs.Builds.{seniors_stay, permitting_stays, labelled_stays}
 use Rattle.policy.proofs.Gathering.{level_empty, level_agree}
-use Rattle.policy.proofs.Relating.{unites_zeros, by_mode_lem}
+use Rattle.policy.proofs.Relating.{unites_zeros, by_mode_lem, granted_as}
 
 -- ---- permissions
 
@@ -117,15 +117,15 @@ module _ (f : List ℕ) (between : Between (roles f) (above f)) (r : ℕ) (past 
   no_label d l = (some_none (λ o. may (settings f) d r o && eqb (card_label f o) l) (cards f)).1 (λ o w. rw (no_card d o))
 
   free_past : (n d : ℕ) (ge : Relation) → 0 ≡ level_number (level n ge (may_at (settings f) d r))
-  free_past n d ge = level_empty n ge (may_at (settings f) d r) ((some_none (may_at (settings f) d r) n).1 (λ l w. no_label d l))
+  free_past n d ge = ap level_number (level_empty n ge (may_at (settings f) d r) ((some_none (may_at (settings f) d r) n).1 (λ l w. no_label d l)))
 
 -- where a mode's levels stand
 levels_stand : (d : ℕ) → Among 2 d → levels_at d ≡ r_levels_at + 128 * (d - 1)
 levels_stand = by_mode_lem (λ d. levels_at d ≡ r_levels_at + 128 * (d - 1)) refl refl
 
 -- the levels of a mode: the roles' are stored, and the others stay 0
-module _ (f : List ℕ) (counts : GoodCounts (header f)) (between : Between (roles f) (above f)) (ge : ℕ → Relation) (g xs ys : List ℕ)
-    (put : LevelBytes (roles f) (λ d r. level_number (level (labels f) (ge d) (λ l. related g (gathered_at d) l r))) xs ys) (zeros : Zeros r_levels_at seniors_at xs)
+module _ (f : List ℕ) (counts : GoodCounts (header f)) (between : Between (roles f) (above f)) (ge : ℕ → Relation) (g : ℕ → List ℕ) (xs ys : List ℕ)
+    (put : LevelBytes (roles f) (λ d r. level_number (level (labels f) (ge d) (λ l. related (g d) 0 l r))) xs ys) (zeros : Zeros r_levels_at seniors_at xs)
     (d : ℕ) (m : Among 2 d) (le : Relation) where
   past : (r : ℕ) → Among 128 r → roles f < r → byte_of ys (levels_at d) r ≡ 0
   past r w l =
@@ -133,24 +133,25 @@ module _ (f : List ℕ) (counts : GoodCounts (header f)) (between : Between (rol
       put.rest (levels_at d + (r - 1)) (λ e n k. omega (arith, levels_stand e n)) ∙ zeros (levels_at d + (r - 1)) (omega arith) (omega arith)
 
   levels_are : Agree (labels f) (labels f) (ge d) le
-      → Agree 32 128 (related g (gathered_at d)) (λ l r. may_at (settings f) d r l)
+      → Agree 32 128 (related (g d) 0) (λ l r. may_at (settings f) d r l)
       → (r : ℕ) → Among 128 r → byte_of ys (levels_at d) r ≡ level_number (level (labels f) le (may_at (settings f) d r))
   levels_are order set r w = elim (dec_lt (roles f) r) [
     | yes l ↦ past r w l ∙ free_past f between r l (labels f) d le
     | no l ↦
         put.levels d m r (omega arith)
-        ∙ ap level_number (level_agree (labels f) (ge d) le (λ l. related g (gathered_at d) l r) (may_at (settings f) d r) order (λ l v. set l r (omega (arith, counts.labels)) w))
+        ∙ ap level_number (level_agree (labels f) (ge d) le (λ l. related (g d) 0 l r) (may_at (settings f) d r) order (λ l v. set l r (omega (arith, counts.labels)) w))
   ]
 
 -- ---- the whole stage, from x₀: the table of dominance, the lines' permissions, and both levels
 
-module _ (f : List ℕ) (q : Parts) (h : Line) (down : List (List Bool)) (under over x₀ x₁ x₂ x₃ g : List ℕ) (ready : Ready f q h)
+module _ {f d s u o p a : List ℕ} {h : Line} (ready : Ready f h d s u o p a) (down : List (List Bool)) (under over x₀ x₁ x₂ x₃ readers writers : List ℕ)
     (labelled : Labelled (settings f) x₀) (seniors : Seniors (settings f) x₀)
     (closed : Closed f (mark down)) (lower : Closed f (row_holds under)) (upper : Closed f (converse (row_holds over))) (no-level : Zeros 1808 2064 x₀) (no_role : Zeros 12304 28688 x₀)
     (put : DominanceRows 32 down x₀ x₁)
-    (grants : GrantedRows (granted_by_lines x₁ (part f q.p.start) q.p.count) x₁ x₂)
-    (gathers : (d : ℕ) → Among 2 d → Agree 32 128 (related g (gathered_at d)) (gathered x₂ (table_of d) h.d))
-    (levels : LevelBytes h.b (λ d r. level_number (level h.a (converse (row_holds (by_mode over under d))) (λ l. related g (gathered_at d) l r))) x₂ x₃) where
+    (grants : GrantedRows (granted_by_lines x₁ p (lines p)) x₁ x₂)
+    (reads : Agree 32 128 (related readers 0) (gathered x₂ readers_at h.d))
+    (writes : Agree 32 128 (related writers 0) (gathered x₂ writers_at h.d))
+    (levels : LevelBytes h.b (λ d r. level_number (level h.a (converse (row_holds (by_mode over under d))) (λ l. related (by_mode readers writers d) 0 l r))) x₂ x₃) where
   counts : GoodCounts (header f)
   counts = counts_of f ready.lines
 
@@ -166,7 +167,7 @@ module _ (f : List ℕ) (q : Parts) (h : Line) (down : List (List Bool)) (under 
   permitting₂ =
       permitted f x₁ (good_of f ready.lines) counts.roles
       (seniors_stay (settings f) x₀ x₁ (λ i l m. kept i (λ n. omega arith)) seniors)
-      (p_lines f q ready.lines ready.laid).0 x₂ grants
+      (p_lines ready.lines ready.laid).0 x₂ (granted_as (granted_same ready.laid.p_stands.leads ready.laid.p_stands.front x₁) grants)
       (λ i l m. kept i (λ n. omega arith) ∙ no_role i l m)
 
   labelled₂ : Labelled (settings f) x₂
@@ -175,13 +176,16 @@ module _ (f : List ℕ) (q : Parts) (h : Line) (down : List (List Bool)) (under 
   zeros₂ : Zeros 1808 2064 x₂
   zeros₂ i l m = grants.rest i (λ n. omega arith) ∙ kept i (λ n. omega arith) ∙ no-level i l m
 
-  gathered₂ : (d : ℕ) → Among 2 d → Allows (settings f) d (table_of d) x₂ → Agree 32 128 (related g (gathered_at d)) (λ l r. may_at (settings f) d r l)
+  gathers : (d : ℕ) → Among 2 d → Agree 32 128 (related (by_mode readers writers d) 0) (gathered x₂ (table_of d) h.d)
+  gathers = by_mode_lem (λ d. Agree 32 128 (related (by_mode readers writers d) 0) (gathered x₂ (table_of d) h.d)) reads writes
+
+  gathered₂ : (d : ℕ) → Among 2 d → Allows (settings f) d (table_of d) x₂ → Agree 32 128 (related (by_mode readers writers d) 0) (λ l r. may_at (settings f) d r l)
   gathered₂ d m allows l r v w = rw ready.head at gathers d m l r v w ∙ may_at_is f x₂ counts.cards labelled₂ d (table_of d) allows l r w
 
   leveled : (d : ℕ) → Among 2 d → (le : Relation) → Agree (labels f) (labels f) (converse (row_holds (by_mode over under d))) le → Allows (settings f) d (table_of d) x₂
       → (r : ℕ) → Among 128 r → byte_of x₃ (levels_at d) r ≡ level_number (level (labels f) le (may_at (settings f) d r))
   leveled d m le order allows =
-      levels_are f counts (above_between f (good_of f ready.lines)) (λ d. converse (row_holds (by_mode over under d))) g x₂ x₃ (rw ready.head at levels) zeros₂ d m le
+      levels_are f counts (above_between f (good_of f ready.lines)) (λ d. converse (row_holds (by_mode over under d))) (by_mode readers writers) x₂ x₃ (rw ready.head at levels) zeros₂ d m le
       order (gathered₂ d m allows)
 
   levelled₃ : Levelled (settings f) x₃

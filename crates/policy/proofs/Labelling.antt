@@ -1,7 +1,8 @@
 -- The byte that the lines of a section note for a thing is its label, or 255 where several lines give it one. So the bytes tell the lowest thing without
 -- just one label, and where there is none, each byte is the label that the file gives. Assumes nothing.
 use Prim.Native.Nat.{ℕ, zero, suc, ◌+◌, ◌-◌, ◌≤◌, ◌<◌}
-use mathlib.Core.Path.{◌≡◌, refl, sym, ◌∙◌}
+use Rattle.std.proofs.Common.{Some, None}
+use mathlib.Core.Path.{◌≡◌, refl, ◌∙◌}
 use mathlib.Core.List.{List}
 use mathlib.Core.Bool.{Bool, true, false, not, cond}
 use native.Mathlib.Omega.{arith}
@@ -9,23 +10,23 @@ use native.Mathlib.Nat.{add-zero}
 use native.Mathlib.Decide.{dec_lt}
 use lib.Dec.{leb, eqb}
 use borrow.Author.Tests.{eqb-true, not-false, le-leb, lt-leb, ne_eqb}
-use Rattle.search.specs.Search.{Among, first}
+use Rattle.search.specs.Search.{Among, first, thing}
+use Rattle.search.proofs.Thing.{thing_none, thing_some}
 use Rattle.search.proofs.Found.{first_none, first_agree}
 use Rattle.roleset.specs.Row.{Kept}
 use Rattle.roleset.proofs.Rows.{kept_both}
-use Rattle.rolefile.specs.declared.Verdict.{Verdict}
-use Rattle.rolefile.specs.Line.{H, U, O, part}
-use Rattle.rolefile.specs.Form.{fine, refusal, header, first_limit, second_limit, lines_about, not_one, unlabelled, lines_verdict, unlabelled_verdict, count}
+use Rattle.rolefile.specs.declared.Line.{Line}
+use Rattle.rolefile.specs.Line.{H, U, O, lines, part}
+use Rattle.rolefile.specs.Form.{fine, refusal, header, first_limit, second_limit, lines_about, not_one, unlabelled, unlabelled_verdict, count}
 use Rattle.rolefile.specs.Said.{users, cards, last, label_by}
 use Rattle.rolefile.specs.inner.Section.{one, two}
 use Rattle.rolefile.proofs.Counts.{count_none}
 use Rattle.rolefile.proofs.Sections.{Section, count_about, label_section}
 use Rattle.rolefile.specs.WellFormed.{GoodLines}
-use Rattle.rolefile.proofs.Verdicts.{refuses}
-use Rattle.policy.specs.declared.build.Parts.{Parts}
 use Rattle.policy.specs.Tables.{clearances_at, card_labels_at, byte_of}
 use Rattle.policy.specs.inner.Filling.{noted, notes, NotedBytes, unlabelled_byte, unlabelled_in}
-use Rattle.policy.specs.inner.Stages.{Laid, Zeros, Noting}
+use Rattle.policy.specs.inner.Stages.{Ready, Zeros, Noting}
+use Rattle.policy.proofs.Fronts.{notes_same}
 use Rattle.policy.proofs.Readying.{good_of, counts_of, u_lines, o_lines, one_within, two_within, limits_u, limits_o}
 
 -- ---- one byte
@@ -117,56 +118,56 @@ pub record Tables (f xs ys : List ℕ) : Type 0 where
   pub card : Table f O (cards f) card_labels_at 512 ys
   pub rest : Kept clearances_at 1808 xs ys
 
-pub tables_of : (f : List ℕ) (q : Parts) → (lines_verdict f).number ≡ 0 → Laid f q → (xs ys zs : List ℕ) → Zeros clearances_at 1808 xs
-    → NotedBytes clearances_at 256 (part f q.u.start) q.u.count xs ys
-    → NotedBytes card_labels_at 512 (part f q.o.start) q.o.count ys zs
+pub tables_of : {f d s u o p a : List ℕ} {h : Line} → Ready f h d s u o p a → (xs ys zs : List ℕ) → Zeros clearances_at 1808 xs
+    → NotedBytes clearances_at 256 u (lines u) xs ys → NotedBytes card_labels_at 512 o (lines o) ys zs
     → Tables f xs zs
-tables_of f q e laid xs ys zs clear u o =
+tables_of {f} ready xs ys zs clear u o =
     let h = header f in
+    let e = ready.lines in
     let good = good_of f e in
     let counts = counts_of f e in
+    let users_stand = ready.laid.u_stands in
+    let cards_stand = ready.laid.o_stands in
     record {
-      user = noted_table f good (u_lines f q e laid).0 (omega arith) (users f) (limits_u h).0 (omega (arith, (limits_u h).1, counts.labels))
+      user = noted_table f good (u_lines e ready.laid).0 (omega arith) (users f) (limits_u h).0 (omega (arith, (limits_u h).1, counts.labels))
           clearances_at 256 zs counts.users
           (λ x w. o.rest (clearances_at + (x - 1)) (λ l. omega arith)
           ∙ u.bytes x w
-          ∙ rw (clear (clearances_at + (x - 1)) (omega arith) (omega arith)));
-      card = noted_table f good (o_lines f q e laid).0 (omega arith) (cards f) (limits_o h).0 (omega (arith, (limits_o h).1, counts.labels))
+          ∙ rw (clear (clearances_at + (x - 1)) (omega arith) (omega arith)) (notes_same users_stand.leads users_stand.front x 0));
+      card = noted_table f good (o_lines e ready.laid).0 (omega arith) (cards f) (limits_o h).0 (omega (arith, (limits_o h).1, counts.labels))
           card_labels_at 512 zs counts.cards
           (λ x w. o.bytes x w
-          ∙ rw (u.rest (card_labels_at + (x - 1)) (λ l. omega arith), clear (card_labels_at + (x - 1)) (omega arith) (omega arith)));
+          ∙ rw (u.rest (card_labels_at + (x - 1)) (λ l. omega arith), clear (card_labels_at + (x - 1)) (omega arith) (omega arith))
+          (notes_same cards_stand.leads cards_stand.front x 0));
       rest = kept_both xs ys zs (omega arith) u.rest o.rest;
     }
 
 -- what the searches find, and what is answered
-module _ {f xs ys : List ℕ} (t : Tables f xs ys) {u : ℕ} (lowest : u ≡ first (users f) (unlabelled_in ys clearances_at)) where
-  user_is : u ≡ unlabelled f U (users f)
-  user_is = lowest ∙ t.user.lowest
-
-  pub user_refused : {v : Verdict} → (u ≡ 0 → ⊥) → v ≡ refusal 6 1 u → Noting f v xs ys
+module _ {f xs ys : List ℕ} (t : Tables f xs ys) where
+  pub user_refused : {u : ℕ} → Some u ≡ thing (first (users f) (unlabelled_in ys clearances_at)) → Noting f (refusal 6 1 u) xs ys
   unfolding unlabelled_verdict
-  user_refused some r = record {
-    answer = rw (← user_is, ne_eqb u 0 some) r;
-    done = λ z. absurd (refuses r (omega arith) z);
+  user_refused {u} e = let (q, l) = (thing_some (unlabelled f U (users f)) u).0 (rw t.user.lowest at e) in record {
+    answer = rw (← q, ne_eqb u 0 (λ z. omega arith)) refl;
+    done = λ z. absurd (omega arith);
     rest = t.rest;
   }
 
-  module _ (no-user : u ≡ 0) {o : ℕ} (lowest-card : o ≡ first (cards f) (unlabelled_in ys card_labels_at)) where
-    card_is : o ≡ unlabelled f O (cards f)
-    card_is = lowest-card ∙ t.card.lowest
+  module _ (none : None ≡ thing (first (users f) (unlabelled_in ys clearances_at))) where
+    no_user : unlabelled f U (users f) ≡ 0
+    no_user = (thing_none (unlabelled f U (users f))).0 (rw t.user.lowest at none)
 
-    pub card_refused : {v : Verdict} → (o ≡ 0 → ⊥) → v ≡ refusal 6 2 o → Noting f v xs ys
+    pub card_refused : {o : ℕ} → Some o ≡ thing (first (cards f) (unlabelled_in ys card_labels_at)) → Noting f (refusal 6 2 o) xs ys
     unfolding unlabelled_verdict
-    card_refused some r = record {
-      answer = rw (← user_is, no-user, ← card_is, ne_eqb o 0 some) r;
-      done = λ z. absurd (refuses r (omega arith) z);
+    card_refused {o} e = let (q, l) = (thing_some (unlabelled f O (cards f)) o).0 (rw t.card.lowest at e) in record {
+      answer = rw (no_user, ← q, ne_eqb o 0 (λ z. omega arith)) refl;
+      done = λ z. absurd (omega arith);
       rest = t.rest;
     }
 
-    pub none_refused : {v : Verdict} → o ≡ 0 → v ≡ fine → Noting f v xs ys
+    pub none_refused : None ≡ thing (first (cards f) (unlabelled_in ys card_labels_at)) → Noting f fine xs ys
     unfolding unlabelled_verdict
-    none_refused no_card r = record {
-      answer = rw (← user_is, no-user, ← card_is, no_card) r;
-      done = λ z. record { users = t.user.all (sym user_is ∙ no-user); cards = t.card.all (sym card_is ∙ no_card) };
+    none_refused e = let no_card = (thing_none (unlabelled f O (cards f))).0 (rw t.card.lowest at e) in record {
+      answer = rw (no_user, no_card) refl;
+      done = λ z. record { users = t.user.all no_user; cards = t.card.all no_card };
       rest = t.rest;
     }

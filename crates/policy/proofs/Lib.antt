@@ -8,6 +8,8 @@ pub mod Gathering
 pub mod Noted
 pub mod Marked
 pub mod Assigning
+pub mod Fronts
+pub mod Told
 pub mod Readying
 pub mod Ranks
 pub mod Finishes

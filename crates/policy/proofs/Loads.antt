@@ -1,10 +1,11 @@
 -- A load: a state that is too short is refused first; the image is copied from a scratch state that began as zeros. Assumes nothing.
-use Prim.Native.Nat.{ℕ, ◌≤◌, ◌<◌}
-use mathlib.Core.Path.{◌≡◌, refl, sym, ◌∙◌}
+use Prim.Native.Nat.{ℕ, ◌+◌, ◌-◌, ◌≤◌, ◌<◌}
+use mathlib.Core.Path.{◌≡◌, refl, sym, ap, ◌∙◌}
 use mathlib.Core.Logic.{◌↔◌}
-use mathlib.Core.List.{List}
+use mathlib.Core.List.{List, ◌++◌}
 use native.Mathlib.Omega.{arith}
-use lib.ListN.{length, replicate, get_or-replicate}
+use lib.ListN.{length, get_or, drop, replicate, get_or-replicate}
+use Rattle.std.proofs.lemmas.List.{get_or_append_left, get_or-append_right, get_or-drop, length-append, length-drop}
 use borrow.Author.Tests.{le-leb, lt-leb}
 use Rattle.rolefile.specs.declared.Verdict.{Verdict}
 use Rattle.order.specs.Closure.{Relation}
@@ -29,6 +30,19 @@ image_copied σ α xs ys zs c t = record {
   assigning = assigning_stays ys zs α (λ i l m. c.done i (omega arith)) t.assigning;
   unused = λ i out l. c.done i l ∙ t.unused i out l;
 }
+
+-- a whole state in the place of the first bytes of another
+pub copied_front : {xs ys : List ℕ} → length ys ≡ 65536 → 65536 ≤ length xs
+    → Copied 65536 ys xs (ys ++ drop 65536 xs) × (length (ys ++ drop 65536 xs) ≡ length xs)
+copied_front {xs} {ys} whole long = (
+  record {
+    done = λ i l. get_or_append_left ys (drop 65536 xs) 0 i (omega arith);
+    rest = λ i l.
+        let e : 65536 + (i - 65536) ≡ i = omega arith in
+        get_or-append_right ys (drop 65536 xs) 65536 i 0 whole l ∙ get_or-drop 65536 xs (i - 65536) 0 ∙ ap (λ j. get_or xs j 0) e;
+  },
+  rw (length-append ys (drop 65536 xs), length-drop 65536 xs) (omega arith),
+)
 
 -- ---- the three answers
 

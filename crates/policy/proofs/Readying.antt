@@ -1,13 +1,13 @@
 -- A file whose lines have nothing to refuse, laid out by letter: its lines are good, its counts within their limits, the lines of each letter are a
 -- section of it, and their numbers are within the counts. Assumes nothing.
 use Prim.Native.Nat.{ℕ, ◌+◌, ◌≤◌, ◌<◌, min}
-use mathlib.Core.Path.{◌≡◌, refl, ap}
+use mathlib.Core.Path.{◌≡◌, refl, ap, ◌∙◌}
 use mathlib.Core.List.{List}
 use native.Mathlib.Omega.{arith}
 use native.Mathlib.Decide.{ℕ_discrete}
 use Rattle.search.specs.Search.{Among}
 use Rattle.rolefile.specs.declared.Line.{Line}
-use Rattle.rolefile.specs.Line.{H, D, S, U, O, P, A, line_at, lines, part}
+use Rattle.rolefile.specs.Line.{H, D, S, U, O, P, A, letter_byte, line_at, lines, part}
 use Rattle.rolefile.specs.Form.{header, first_limit, second_limit, lines_verdict}
 use Rattle.rolefile.specs.Said.{labels, roles}
 use Rattle.rolefile.specs.inner.Section.{one, two}
@@ -15,8 +15,8 @@ use Rattle.rolefile.specs.WellFormed.{Sized, GoodCounts, GoodNumbers, GoodLines}
 use Rattle.rolefile.proofs.Decides.{decides_zero}
 use Rattle.rolefile.proofs.Formed.{header_counts, lines_decides}
 use Rattle.rolefile.proofs.Sections.{Cut, Section, cut_first, section_next, told}
-use Rattle.policy.specs.declared.build.Parts.{Parts}
-use Rattle.policy.specs.inner.Stages.{Laid, Ready}
+use Rattle.policy.specs.inner.Stages.{Taken, Stands, Laid, Ready}
+use Rattle.policy.proofs.Fronts.{part_part}
 
 -- what no refusal among 1 to 5 means
 module _ (f : List ℕ) (e : (lines_verdict f).number ≡ 0) where
@@ -33,33 +33,30 @@ module _ (f : List ℕ) (e : (lines_verdict f).number ≡ 0) where
   counts_of = header_counts f sized_of good_of
 
 -- the sections, one after the other: each letter's lines, and where the next letter begins
-module _ (f : List ℕ) (q : Parts) (e : (lines_verdict f).number ≡ 0) (laid : Laid f q) where
+module _ {f d s u o p a : List ℕ} (e : (lines_verdict f).number ≡ 0) (laid : Laid f d s u o p a) where
   good : GoodLines f
   good = good_of f e
 
-  d_begins : Cut f D q.d.start
-  d_begins = rw laid.first (cut_first f good (some_line f e))
+  pub d_lines : Section f D 1 (lines d) × Cut f S (1 + lines d)
+  d_lines = section_next f good (cut_first f good (some_line f e)) (omega arith) laid.d_stands.leads
 
-  pub d_lines : Section f D q.d.start q.d.count × Cut f S q.s.start
-  d_lines = rw laid.s_after (section_next f good d_begins (omega arith) laid.d)
+  pub s_lines : Section f S (1 + lines d) (lines s) × Cut f U (1 + lines d + lines s)
+  s_lines = section_next f good d_lines.1 (omega arith) laid.s_stands.leads
 
-  pub s_lines : Section f S q.s.start q.s.count × Cut f U q.u.start
-  s_lines = rw laid.u_after (section_next f good d_lines.1 (omega arith) laid.s)
+  pub u_lines : Section f U (1 + lines d + lines s) (lines u) × Cut f O (1 + lines d + lines s + lines u)
+  u_lines = section_next f good s_lines.1 (omega arith) laid.u_stands.leads
 
-  pub u_lines : Section f U q.u.start q.u.count × Cut f O q.o.start
-  u_lines = rw laid.o_after (section_next f good s_lines.1 (omega arith) laid.u)
+  pub o_lines : Section f O (1 + lines d + lines s + lines u) (lines o) × Cut f P (1 + lines d + lines s + lines u + lines o)
+  o_lines = section_next f good u_lines.1 (omega arith) laid.o_stands.leads
 
-  pub o_lines : Section f O q.o.start q.o.count × Cut f P q.p.start
-  o_lines = rw laid.p_after (section_next f good u_lines.1 (omega arith) laid.o)
+  pub p_lines : Section f P (1 + lines d + lines s + lines u + lines o) (lines p) × Cut f A (1 + lines d + lines s + lines u + lines o + lines p)
+  p_lines = section_next f good o_lines.1 (omega arith) laid.p_stands.leads
 
-  pub p_lines : Section f P q.p.start q.p.count × Cut f A q.a.start
-  p_lines = rw laid.a_after (section_next f good o_lines.1 (omega arith) laid.p)
-
-  pub a_lines : Section f A q.a.start q.a.count
-  a_lines = (section_next f good p_lines.1 (omega arith) laid.a).0
+  pub a_lines : Section f A (1 + lines d + lines s + lines u + lines o + lines p) (lines a)
+  a_lines = (section_next f good p_lines.1 (omega arith) laid.a_stands.leads).0
 
 -- the counts in line 1
-module _ (f : List ℕ) (q : Parts) (h : Line) (ready : Ready f q h) where
+module _ {f d s u o p a : List ℕ} {h : Line} (ready : Ready f h d s u o p a) where
   pub head_counts : GoodCounts h
   head_counts = rw ready.head (counts_of f ready.lines)
 
@@ -68,6 +65,26 @@ module _ (f : List ℕ) (q : Parts) (h : Line) (ready : Ready f q h) where
 
   pub head_roles : min h.b 128 ≡ roles f
   head_roles = let few = head_counts.roles in omega (arith, ap (λ (l : Line). l.b) ready.head)
+
+-- what is taken off a part's front, and where the rest stands
+pub stands_of : {f whole p rest : List ℕ} (k j : ℕ) → Taken (letter_byte k) whole p rest → whole ≡ part f j
+    → Stands f k j p × (rest ≡ part f (j + lines p))
+stands_of {f} {whole} {p} k j t e = (
+  record { leads = rw e at t.leads; front = rw e at t.front },
+  t.after ∙ ap (λ w. part w (lines p)) e ∙ part_part f j (lines p),
+)
+
+-- what six takings in turn make of the lines after the first
+pub laid_of : {f r₀ d r₁ s r₂ u r₃ o r₄ p r₅ a r₆ : List ℕ} → r₀ ≡ part f 1
+    → Taken (letter_byte D) r₀ d r₁ → Taken (letter_byte S) r₁ s r₂ → Taken (letter_byte U) r₂ u r₃
+    → Taken (letter_byte O) r₃ o r₄ → Taken (letter_byte P) r₄ p r₅ → Taken (letter_byte A) r₅ a r₆ → Laid f d s u o p a
+laid_of first td ts tu to tp ta =
+    let (d, rd) = stands_of D _ td first in
+    let (s, rs) = stands_of S _ ts rd in
+    let (u, ru) = stands_of U _ tu rs in
+    let (o, ro) = stands_of O _ to ru in
+    let (p, rp) = stands_of P _ tp ro in
+    record { d_stands = d; s_stands = s; u_stands = u; o_stands = o; p_stands = p; a_stands = (stands_of A _ ta rp).0 }
 
 -- a line of a letter after H is not the first, so its numbers are within the counts
 pub numbers_known : (f : List ℕ) → GoodLines f → (k : ℕ) → H < k → (i : ℕ) → Among (lines f) i → (line_at f i).letter ≡ k → GoodNumbers (header f) (line_at f i)

@@ -17,8 +17,10 @@ use Rattle.roleset.proofs.Rows.{row_kept, other_kept, kept_wider, kept_both, who
 use Rattle.order.specs.Closure.{Relation, Agree}
 use Rattle.rolefile.specs.inner.Section.{one, two, three, pairs}
 use Rattle.order.specs.Table.{related}
+use Rattle.policy.specs.declared.rows.Mode.{Mode}
+use Rattle.policy.specs.declared.rows.Mode.TheVariants.{Read, Write}
 use Rattle.policy.specs.Tables.{seniors_at, readers_at, table_of}
-use Rattle.policy.specs.inner.Filling.{line_grants, granted_by_lines, Related, GrantedRows, Unites}
+use Rattle.policy.specs.inner.Filling.{mode_number, line_grants, granted_by_lines, Related, GrantedRows, Unites}
 use Rattle.policy.specs.inner.Stages.{Zeros}
 
 -- where one row of a table is placed, what stands outside the table stays
@@ -122,6 +124,10 @@ by_mode_lem P reads writes zero w = absurd (omega arith)
 by_mode_lem P reads writes (suc zero) w = reads
 by_mode_lem P reads writes (suc (suc zero)) w = writes
 by_mode_lem P reads writes (suc (suc (suc m))) w = absurd (omega arith)
+
+pub mode_among : (m : Mode) → Among 2 (mode_number m)
+mode_among Read = omega arith
+mode_among Write = omega arith
 
 -- the writers' table comes right after the readers'
 stands_at : (d : ℕ) → Among 2 d → table_of d ≡ readers_at + 8192 * (d - 1)

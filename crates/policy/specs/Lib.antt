@@ -5,4 +5,5 @@ pub mod Flow
 pub mod Accepted
 pub mod Tables
 pub mod Image
+pub mod Refusal
 pub mod inner

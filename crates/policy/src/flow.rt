@@ -2,7 +2,7 @@
 //
 // Every public function takes any slice. One that is too short to be a state has no roles.
 ghost use Rattle.std.specs.Prelude.{◌≡◌, ◌+◌, ◌*◌, ◌≤◌, ◌<◌, length};
-ghost use Rattle.search.specs.Search.{some};
+ghost use Rattle.search.specs.Search.{some, thing};
 ghost use Rattle.order.specs.Closure.{Agree};
 ghost use Rattle.order.specs.Table.{related, Tabled};
 ghost use Rattle.policy.specs.Tables.{r_levels_at, w_levels_at, writers_at, state_size, flows_by_card, count_in, role_count, level_in, flows_in, circle_in};
@@ -19,7 +19,7 @@ fn count(s: &[u8], at: u16, most: usize) -> usize
     if s.len() < layout::STATE_SIZE {
         return 0;
     }
-    order::marks::lesser(tables::word(s, at) as usize, most)
+    (tables::word(s, at) as usize).min(most)
 }
 
 // How many roles the state holds.
@@ -77,13 +77,10 @@ pub fn flows(s: &[u8], from: usize, to: usize) -> bool
     if from == to {
         return false;
     }
-    let n = count(s, layout::CARD_COUNT_AT, layout::CARDS);
-    let mut o = 0;
-    while o < n {
+    for o in 0..count(s, layout::CARD_COUNT_AT, layout::CARDS) {
         if flows_by_card(s, o, from, to) {
             return true;
         }
-        o += 1;
     }
     false
 }
@@ -100,18 +97,14 @@ fn readers_or_writers(s: &[u8], o: usize) -> [u8; ROW_BYTES]
 }
 
 // Relates each role that may write card o + 1 to each role that may read or write it.
-fn flow_past(t: &mut [u8], s: &[u8], o: usize)
-    requires { (2048 ≤ length t.old) × (writers_at + 16 * 512 ≤ length s.now) × (o < 512) }
+fn flow_past(t: &mut [u8; TABLE_BYTES], s: &[u8], o: usize)
+    requires { (writers_at + 16 * 512 ≤ length s.now) × (o < 512) }
     ensures { Tabled 0 128 (past_card t.old s.now (o + 1)) t.old t.new }
 {
     let writers = roleset::row(s, layout::WRITERS_AT + ROW_BYTES * o);
     let either = readers_or_writers(s, o);
     let mut i = 0;
-    while i < layout::ROLES {
-        let writer = roleset::next(&writers, 0, i);
-        if writer == 0 {
-            return;
-        }
+    while let Some(writer) = roleset::next(&writers, 0, i) {
         roleset::unite(t, ROW_BYTES * (writer - 1), either);
         i = writer;
     }
@@ -124,23 +117,18 @@ fn flow_table(s: &[u8], n: usize) -> [u8; TABLE_BYTES]
     ensures { Agree 128 128 (related result 0) (λ r q. some n (flows_by_card s.now r q)) }
 {
     let mut t = [0u8; TABLE_BYTES];
-    let mut o = 0;
-    while o < n {
+    for o in 0..n {
         flow_past(&mut t, s, o);
-        o += 1;
     }
     t
 }
 
 // Takes each role out of its own row.
-fn remove_itself(t: &mut [u8])
-    requires { 2048 ≤ length t.old }
+fn remove_itself(t: &mut [u8; TABLE_BYTES])
     ensures { Tabled 0 128 (without_loops t.old) t.old t.new }
 {
-    let mut i = 0;
-    while i < layout::ROLES {
+    for i in 0..layout::ROLES {
         roleset::remove(t, ROW_BYTES * i, i + 1);
-        i += 1;
     }
 }
 
@@ -156,12 +144,12 @@ pub fn table(s: &[u8]) -> [u8; TABLE_BYTES]
     t
 }
 
-// The lowest role on a circle of flow, or 0.
-pub fn flow_circle(s: &[u8]) -> usize
-    ensures { result ≡ circle_in s.now }
+// The lowest role on a circle of flow.
+pub fn flow_circle(s: &[u8]) -> Option<usize>
+    ensures { result ≡ thing (circle_in s.now) }
 {
     if s.len() < layout::STATE_SIZE {
-        return 0;
+        return None;
     }
     let n = roles(s);
     let mut t = table(s);

@@ -16,6 +16,9 @@ pub const CARDS: usize = 512;
 // The bytes of a whole state.
 pub const STATE_SIZE: usize = 65536;
 
+// A whole state.
+pub type State = [u8; STATE_SIZE];
+
 // The count of labels: two bytes, the lower first, as of every count.
 pub const LABEL_COUNT_AT: u16 = 0;
 

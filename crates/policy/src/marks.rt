@@ -1,18 +1,35 @@
 // Dominance: the marks of the D lines, and the closed marks as bytes.
-ghost use Rattle.std.specs.Prelude.{◌≡◌, cond, ◌+◌, ◌≤◌, length};
-ghost use Rattle.order.specs.Table.{marks};
+ghost use Rattle.std.specs.Prelude.{◌≡◌, cond, ◌+◌, ◌≤◌};
+ghost use Rattle.order.specs.Bound.{converse};
+ghost use Rattle.order.specs.Table.{mark, marks};
+ghost use Rattle.order.specs.inner.Members.{row_holds};
 ghost use Rattle.rolefile.specs.Line.{lines};
-ghost use Rattle.policy.specs.Tables.{clearances_at};
+ghost use Rattle.policy.specs.Tables.{state_size};
 ghost use Rattle.policy.specs.inner.Filling.{Bytes, Marking, WithPair, DominanceRows};
+ghost use Rattle.policy.specs.inner.Stages.{Closed};
 
+use super::file::File;
 use super::layout;
+use super::layout::State;
+use order::bounds::MemberRows;
 use order::marks::{Set, Table};
 use rolefile::read;
 
+// Dominance as marks, and as rows of labels: those under each label, and those over it.
+#[derive(Drop)]
+pub struct Dominance<'a> {
+    pub file: &'a File<'a>,
+    pub marks: &'a Table,
+    pub under: MemberRows,
+    pub over: MemberRows,
+    ghost marked: { Closed file.now.bytes.now (mark marks.now) },
+    ghost lower: { Closed file.now.bytes.now (row_holds under) },
+    ghost upper: { Closed file.now.bytes.now (converse (row_holds over)) },
+}
+
 // Marks a over b in the table, if both are labels.
 fn add_pair(t: &mut Table, a: usize, b: usize)
-    requires { length t.old ≡ 32 }
-    ensures { (length t.new ≡ 32) × WithPair a b t.old t.new }
+    ensures { WithPair a b t.old t.new }
 {
     if !search::among(layout::LABELS as u64, a as u64) {
         return;
@@ -22,18 +39,13 @@ fn add_pair(t: &mut Table, a: usize, b: usize)
     t[i] = order::marks::with_mark(row, b);
 }
 
-// The marks of the first m lines of a part.
-pub fn marks_of(p: &[u8], m: usize) -> Table
-    requires { m ≤ lines p.now }
-    ensures { Marking p.now m result }
+// The marks of the lines.
+pub fn marks_of(p: &[u8]) -> Table
+    ensures { Marking p.now (lines p.now) result }
 {
     let mut t = [[false; layout::LABELS]; layout::LABELS];
-    let mut i = 0;
-    while i < m {
-        let a = read::first_number(p, i);
-        let b = read::second_number(p, i);
-        add_pair(&mut t, a, b);
-        i += 1;
+    for i in 0..p.len() / read::LINE_LENGTH {
+        add_pair(&mut t, read::first_number(p, i), read::second_number(p, i));
     }
     t
 }
@@ -46,26 +58,20 @@ fn byte(on: bool) -> u8
 }
 
 // Puts a row of marks at `at`, a byte for each.
-fn put_row(s: &mut [u8], at: usize, row: Set)
-    requires { at + 32 ≤ length s.old }
-    ensures { Bytes at 32 (λ b. cond (marks row b) 1 0) s.old s.new }
+fn put_row(s: &mut State, at: usize, row: &Set)
+    requires { at + 32 ≤ state_size }
+    ensures { Bytes at 32 (λ b. cond (marks row.now b) 1 0) s.old s.new }
 {
-    let mut j = 0;
-    while j < layout::LABELS {
+    for j in 0..layout::LABELS {
         s[at + j] = byte(row[j]);
-        j += 1;
     }
 }
 
 // Puts the table where dominance stands.
-pub fn put_table(s: &mut [u8], t: Table)
-    requires { clearances_at ≤ length s.old }
-    ensures { DominanceRows 32 t s.old s.new }
+pub fn put_table(s: &mut State, t: &Table)
+    ensures { DominanceRows 32 t.now s.old s.new }
 {
-    let mut i = 0;
-    while i < layout::LABELS {
-        let row = t[i];
-        put_row(s, layout::DOMINANCE_AT + layout::LABELS * i, row);
-        i += 1;
+    for i in 0..layout::LABELS {
+        put_row(s, layout::DOMINANCE_AT + layout::LABELS * i, &t[i]);
     }
 }

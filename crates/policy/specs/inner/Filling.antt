@@ -8,6 +8,11 @@ use Rattle.order.specs.inner.Members.{in_row}
 use Rattle.rolefile.specs.declared.Verdict.{Verdict}
 use Rattle.rolefile.specs.Form.{fine, refusal, unless}
 use Rattle.rolefile.specs.inner.Section.{one, two, three, pairs}
+use Rattle.policy.specs.declared.gather.Level as program
+use Rattle.policy.specs.declared.gather.Level.TheVariants as kept
+use Rattle.policy.specs.declared.rows.Mode.{Mode}
+use Rattle.policy.specs.declared.rows.Mode.TheVariants.{Read, Write}
+use Rattle.policy.specs.Policy.{Level, Free, Label, Undefined}
 use Rattle.policy.specs.Tables.{dominance_at, clearances_at, card_labels_at, r_levels_at, w_levels_at, seniors_at, readers_at, writers_at, table_of, byte_of, mark_at, flows_by_card, passes_in}
 
 -- ---- what the first m lines of a part put into the tables
@@ -39,16 +44,24 @@ line_grants xs role card mode d o r = eqb card o && (eqb mode d && (among 128 ro
 unfoldable pub granted_by_lines : List ℕ → List ℕ → ℕ → ℕ → ℕ → ℕ → Bool
 granted_by_lines xs p m d o r = some m (λ i. line_grants xs (one p i) (two p i) (three p i) d o r)
 
+-- the number of a mode
+abbrev pub mode_number : Mode → ℕ
+mode_number Read = 1
+mode_number Write = 2
+
+-- a level as the program has it
+abbrev pub level_of : program.Level → Level
+level_of kept.Free = Free
+level_of (kept.Label a) = Label a
+level_of kept.Undefined = Undefined
+
 -- what is of reading, mode 1, and what is of writing, mode 2
 abbrev pub by_mode : {A : Type 0} → A → A → ℕ → A
 by_mode reads writes d = cond (eqb d 1) reads writes
 
--- where each mode's levels start, and where its rows do among the roles gathered by label
+-- where each mode's levels start
 abbrev pub levels_at : ℕ → ℕ
 levels_at d = by_mode r_levels_at w_levels_at d
-
-abbrev pub gathered_at : ℕ → ℕ
-gathered_at d = by_mode 0 512 d
 
 -- card o has label l, and r in its row of the table at `at`
 abbrev pub brings : List ℕ → ℕ → ℕ → ℕ → ℕ → Bool

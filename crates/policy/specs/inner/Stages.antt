@@ -1,40 +1,44 @@
 -- What each stage of a load finds and leaves, for the contracts of the functions that make it. Assumes nothing.
-use Rattle.std.specs.Prelude.{ℕ, ◌+◌, ◌*◌, ◌≤◌, ◌<◌, ◌≡◌, List, Bool, false, ◌&&◌, leb, get_or}
+use Rattle.std.specs.Prelude.{ℕ, ◌+◌, ◌*◌, ◌≤◌, ◌<◌, ◌≡◌, List, Bool, false, ◌&&◌, leb, get_or, take}
 use Rattle.roleset.specs.Row.{Kept}
 use Rattle.order.specs.Closure.{Relation, Agree, path}
 use Rattle.order.specs.Table.{mark, Rows}
 use Rattle.rolefile.specs.declared.Line.{Line}
 use Rattle.rolefile.specs.declared.Verdict.{Verdict}
-use Rattle.rolefile.specs.Line.{D, S, U, O, P, A, letter_byte, part}
+use Rattle.rolefile.specs.Line.{D, S, U, O, P, A, line_length, letter_byte, lines, part}
 use Rattle.rolefile.specs.Form.{header, lines_verdict, unlabelled_verdict}
 use Rattle.rolefile.specs.Said.{labels, over, assigned}
 use Rattle.rolefile.specs.inner.Section.{Leads}
-use Rattle.policy.specs.declared.build.Parts.{Parts}
 use Rattle.policy.specs.Settings.{dominates, settings}
 use Rattle.policy.specs.Tables.{label_count_at, card_count_at, dominance_at, clearances_at, r_levels_at, seniors_at, assigned_at, readers_at, writers_at}
 use Rattle.policy.specs.Verdict.{role_verdict, verdict}
 use Rattle.policy.specs.Image.{Labelled, Dominating, Seniors, Permitting, Levelled, Assigning, Counts, Counted, Image}
 
--- the lines of each letter stand where q says
-pub record Laid (f : List ℕ) (q : Parts) : Type 0 where
-  pub first : q.d.start ≡ 1
-  pub d : Leads (part f q.d.start) (letter_byte D) q.d.count
-  pub s_after : q.s.start ≡ q.d.start + q.d.count
-  pub s : Leads (part f q.s.start) (letter_byte S) q.s.count
-  pub u_after : q.u.start ≡ q.s.start + q.s.count
-  pub u : Leads (part f q.u.start) (letter_byte U) q.u.count
-  pub o_after : q.o.start ≡ q.u.start + q.u.count
-  pub o : Leads (part f q.o.start) (letter_byte O) q.o.count
-  pub p_after : q.p.start ≡ q.o.start + q.o.count
-  pub p : Leads (part f q.p.start) (letter_byte P) q.p.count
-  pub a_after : q.a.start ≡ q.p.start + q.p.count
-  pub a : Leads (part f q.a.start) (letter_byte A) q.a.count
+-- the lines at the front of a part that have the letter whose byte is b, and the part after them
+pub record Taken (b : ℕ) (whole p rest : List ℕ) : Type 0 where
+  pub leads : Leads whole b (lines p)
+  pub front : p ≡ take (line_length * lines p) whole
+  pub after : rest ≡ part whole (lines p)
 
--- a file whose lines have nothing to refuse, laid out, with its counts in h
-pub record Ready (f : List ℕ) (q : Parts) (h : Line) : Type 0 where
+-- p is those of the letter k where j lines stand before them
+pub record Stands (f : List ℕ) (k j : ℕ) (p : List ℕ) : Type 0 where
+  pub leads : Leads (part f j) (letter_byte k) (lines p)
+  pub front : p ≡ take (line_length * lines p) (part f j)
+
+-- the lines of each letter after H, one letter after the other
+pub record Laid (f d s u o p a : List ℕ) : Type 0 where
+  pub d_stands : Stands f D 1 d
+  pub s_stands : Stands f S (1 + lines d) s
+  pub u_stands : Stands f U (1 + lines d + lines s) u
+  pub o_stands : Stands f O (1 + lines d + lines s + lines u) o
+  pub p_stands : Stands f P (1 + lines d + lines s + lines u + lines o) p
+  pub a_stands : Stands f A (1 + lines d + lines s + lines u + lines o + lines p) a
+
+-- a file whose lines have nothing to refuse, with its counts in h, and the lines of each letter
+pub record Ready (f : List ℕ) (h : Line) (d s u o p a : List ℕ) : Type 0 where
   pub lines : (lines_verdict f).number ≡ 0
-  pub laid : Laid f q
   pub head : h ≡ header f
+  pub laid : Laid f d s u o p a
 
 -- the bytes from a up to b are 0
 abbrev pub Zeros : ℕ → ℕ → List ℕ → Type 0
@@ -82,12 +86,12 @@ pub record Finishing (f xs ys : List ℕ) : Type 0 where
   pub counted : Counted (settings f) ys
   pub rest : (i : ℕ) → card_count_at + 2 ≤ i → (assigned_at ≤ i → assigned_at + 16 * 256 ≤ i) → get_or ys i 0 ≡ get_or xs i 0
 
--- the whole check, into bytes that were all 0; after a refusal nobody reads them
-pub record Built (f : List ℕ) (v : Verdict) (ys : List ℕ) : Type 0 where
-  pub answer : v ≡ verdict f
-  pub done : v.number ≡ 0 → Image (settings f) (assigned f) ys
-
 -- zs is ys with its first n bytes as in xs
 pub record Copied (n : ℕ) (xs ys zs : List ℕ) : Type 0 where
   pub done : (i : ℕ) → i < n → get_or zs i 0 ≡ get_or xs i 0
   pub rest : (i : ℕ) → n ≤ i → get_or zs i 0 ≡ get_or ys i 0
+
+-- the whole check, into bytes that were all 0; after a refusal nobody reads them
+pub record Built (f : List ℕ) (v : Verdict) (ys : List ℕ) : Type 0 where
+  pub answer : v ≡ verdict f
+  pub done : v.number ≡ 0 → Image (settings f) (assigned f) ys

@@ -1,5 +1,5 @@
 -- The three tests in turn.
-use mathlib.Core.Path.{◌≡◌}
+use mathlib.Core.Path.{◌≡◌, refl}
 use borrow.Author.Tests.{eq-eqb, ne_eqb}
 use Rattle.search.proofs.Truth.{passed, failed}
 use Rattle.policy.specs.Tables.{byte_of, passes_in, clearances_at, r_levels_at, w_levels_at}
@@ -8,23 +8,23 @@ use Rattle.policy.proofs.assign.assign.Goals.{After-passes, After-some_serves}
 use Rattle.policy.proofs.assign.assign.Goals as goal
 
 -- what the tests of 15 and 16 find
-reading : (c : After-passes) → let a = c.args in let reads = byte_of a.s.now r_levels_at a.r in
-    c.passes.result ≡ passes_in a.s.now reads (byte_of a.s.now clearances_at a.u) reads
+reading : (c : After-passes) → let a = c.args in let reads = byte_of a.s.now r_levels_at a.role in
+    c.passes.result ≡ passes_in a.s.now reads (byte_of a.s.now clearances_at a.user) reads
 reading c = c.passes.ensures
 
 serving : (c : After-some_serves) → let a = c.args in
     c.some_serves.result
-    ≡ some_serves a.under.now a.over.now (byte_of a.s.now clearances_at a.u) (byte_of a.s.now r_levels_at a.r) (byte_of a.s.now w_levels_at a.r)
+    ≡ some_serves a.dominance.now.under a.dominance.now.over (byte_of a.s.now clearances_at a.user) (byte_of a.s.now r_levels_at a.role) (byte_of a.s.now w_levels_at a.role)
 serving c = c.some_serves.ensures
 
 pub returns-then-writes : goal.returns-then-writes
 unfolding assign_by_tables
-returns-then-writes c = rw (eq-eqb _ _ c.if-writes.true) c.refused.ensures
+returns-then-writes c = rw (eq-eqb _ _ c.if-writes.true) refl
 
 pub returns-then-not-passes : goal.returns-then-not-passes
 unfolding assign_by_tables
 returns-then-not-passes c =
-    rw (ne_eqb _ _ c.if-writes.false, failed (reading (goal.at.returns-then-not-passes c).After-passes) c.if-not-passes.true) c.refused-then-not-passes.ensures
+    rw (ne_eqb _ _ c.if-writes.false, failed (reading (goal.at.returns-then-not-passes c).After-passes) c.if-not-passes.true) refl
 
 pub returns-then-not-some_serves : goal.returns-then-not-some_serves
 unfolding assign_by_tables
@@ -33,7 +33,7 @@ returns-then-not-some_serves c =
       ne_eqb _ _ c.if-writes.false,
       passed (reading (goal.at.returns-then-not-some_serves c).After-passes) c.if-not-passes.false,
       failed (serving (goal.at.returns-then-not-some_serves c).After-some_serves) c.if-not-some_serves.true,
-    ) c.refused-then-not-some_serves.ensures
+    ) refl
 
 pub returns : goal.returns
 unfolding assign_by_tables
@@ -42,4 +42,4 @@ returns c =
       ne_eqb _ _ c.if-writes.false,
       passed (reading (goal.at.returns c).After-passes) c.if-not-passes.false,
       passed (serving (goal.at.returns c).After-some_serves) c.if-not-some_serves.false,
-    ) c.nothing.ensures
+    ) refl

@@ -9,4 +9,4 @@ returns-then-s-lt-STATE_SIZE c = refused _ (no_state c.args.s.now (search rules)
 
 pub returns : goal.returns
 returns c =
-    answered (a_state c.args.s.now (search rules)) (rw c.word.ensures.0 at c.lesser.ensures)
+    answered (a_state c.args.s.now (search rules)) (rw c.word.ensures.0 at c.min.ensures)

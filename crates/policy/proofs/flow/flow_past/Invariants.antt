@@ -6,8 +6,12 @@ use Rattle.order.specs.Table.{Tabled}
 use Rattle.policy.specs.inner.Filling.{past_card}
 use Rattle.policy.proofs.flow.flow_past.Given as goal
 
-abbrev pub invariant-loop-i : goal.invariant-loop-i
-invariant-loop-i l = (l.i ≤ 128) × (length l.t ≡ length l.initial.t) × Tabled 0 l.i (past_card l.initial.t l.s (l.o + 1)) l.initial.t l.t
+abbrev pub invariant-loop-writer : goal.invariant-loop-writer
+invariant-loop-writer l = record {
+  within : l.i ≤ 128;
+  same : length l.t ≡ length l.initial.t;
+  done : Tabled 0 l.i (past_card l.initial.t l.s (l.o + 1)) l.initial.t l.t;
+}
 
-abbrev pub decreases-loop-i : goal.decreases-loop-i
-decreases-loop-i l = 128 - l.i
+abbrev pub decreases-loop-writer : goal.decreases-loop-writer
+decreases-loop-writer l = 128 - l.i

@@ -1,7 +1,4 @@
 -- Each turn relates by one card more.
-use Prim.Native.Nat.{◌≤◌, ◌-◌}
-use mathlib.Core.Path.{◌≡◌}
-use lib.ListN.{length}
 use Rattle.search.specs.Search.{some}
 use Rattle.order.specs.Table.{related}
 use Rattle.order.specs.Closure.{Agree}
@@ -9,8 +6,4 @@ use Rattle.policy.specs.Tables.{flows_by_card}
 use Rattle.policy.proofs.flow.flow_table.Given as goal
 
 abbrev pub invariant-loop-o : goal.invariant-loop-o
-invariant-loop-o l =
-    (l.o ≤ l.n) × (length l.t ≡ 2048) × Agree 128 128 (related l.t 0) (λ r q. some l.o (flows_by_card l.s r q))
-
-abbrev pub decreases-loop-o : goal.decreases-loop-o
-decreases-loop-o l = l.n - l.o
+invariant-loop-o l = Agree 128 128 (related l.t 0) (λ r q. some l.o (flows_by_card l.s r q))

@@ -10,6 +10,7 @@ use Rattle.search.specs.Search.{some}
 use Rattle.search.proofs.Found.{some_found, some_still, some_vain, some_yet}
 use Rattle.policy.specs.Tables.{flows_in, cards_up_to, state_size, flows_by_card}
 use Rattle.policy.proofs.Flowing.{no_state, a_state, of_state, flow_self, flow_other}
+use Rattle.policy.proofs.flow.flows.Goals.{After-count-o-end}
 use Rattle.policy.proofs.flow.flows.Goals as goal
 
 -- what is found in a state
@@ -25,28 +26,33 @@ returns-then-from-to c =
     let a = c.args in
     rw (a_state a.s.now (search rules), flow_self a.s.now (cards_up_to a.s.now) a.from a.to c.if-from-to.true)
 
+-- the cards that are searched
+cards_are : (c : After-count-o-end) → c.count-o-end.result ≡ cards_up_to c.args.s.now
+cards_are c = of_state c.args.s.now (search rules) c.count-o-end.ensures
+
 pub loop-o-init : goal.loop-o-init
-loop-o-init c =
-    let a = c.args in
-    (of_state a.s.now (search rules) c.count-n.ensures, search rules, some_yet _)
+loop-o-init c = some_yet _
+
+pub flows_by_card-requires : goal.flows_by_card-requires
+flows_by_card-requires c = (omega arith, omega (arith, cards_are (goal.at.flows_by_card-requires c).After-count-o-end))
 
 pub returns-then-flows_by_card : goal.returns-then-flows_by_card
 returns-then-flows_by_card c =
     let a = c.args in
     let w = c.loop-o in
     found a.s.now a.from a.to (search rules) _ c.if-from-to.false
-    (some_found (flows_by_card a.s.now a.from a.to) (cards_up_to a.s.now) w.o (omega arith) (rw c.flows_by_card.ensures at c.if-flows_by_card.true))
+    (some_found (flows_by_card a.s.now a.from a.to) (cards_up_to a.s.now) w.o (omega (arith, cards_are (goal.at.returns-then-flows_by_card c).After-count-o-end))
+    (rw c.flows_by_card.ensures at c.if-flows_by_card.true))
 
 pub loop-o-preserved : goal.loop-o-preserved
 loop-o-preserved c =
     let a = c.args in
-    let w = c.loop-o in (
-      w.invariant.0,
-      search rules,
-      some_still (flows_by_card a.s.now a.from a.to) w.o w.invariant.2 (rw c.flows_by_card.ensures at c.if-flows_by_card.false),
-    )
+    let w = c.loop-o in
+    some_still (flows_by_card a.s.now a.from a.to) w.o w.invariant (rw c.flows_by_card.ensures at c.if-flows_by_card.false)
 
 pub returns : goal.returns
 returns c =
     let a = c.args in
-    found a.s.now a.from a.to (search rules) _ c.if-from-to.false (some_vain _ (omega arith) c.loop-o.invariant.2)
+    let differ = c.if-from-to.false in
+    found a.s.now a.from a.to (search rules) _ differ
+    (some_vain _ (omega (arith, cards_are (goal.at.returns c).After-count-o-end)) c.loop-o.invariant)

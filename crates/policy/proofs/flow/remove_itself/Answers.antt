@@ -1,6 +1,4 @@
 -- Each turn takes one role more out of its own row.
-use mathlib.Core.Path.{◌≡◌}
-use native.Mathlib.Omega.{arith}
 use borrow.Author.Rules.{rules}
 use Rattle.order.proofs.Placing.{placing_none}
 use Rattle.policy.specs.inner.Filling.{without_loops}
@@ -10,18 +8,9 @@ use Rattle.policy.proofs.flow.remove_itself.Goals as goal
 pub loop-i-preserved : goal.loop-i-preserved
 loop-i-preserved c =
     let t = c.args.t.now in
-    let w = c.loop-i in (
-      search rules,
-      search rules,
-      row_more (without_loops t) t w.t w.i (search rules) (search rules) (search rules) w.invariant.2 _ _ c.remove.ensures
-          (λ q v. loop_removed t w.t w.i q (search rules) (search rules) (search rules) v w.invariant.2),
-    )
-
-pub returns : goal.returns
-returns c =
     let w = c.loop-i in
-    let all : w.i ≡ 128 = omega arith in
-    rw all at w.invariant.2
+    row_more (without_loops t) t w.t w.i (search rules) (search rules) (search rules) w.invariant _ _ c.remove.ensures
+    (λ q v. loop_removed t w.t w.i q (search rules) (search rules) (search rules) v w.invariant)
 
 pub loop-i-init : goal.loop-i-init
-loop-i-init c = (search rules, search rules, placing_none)
+loop-i-init c = placing_none

@@ -1,5 +1,5 @@
 -- Each turn puts in one label more, where its row has the role.
-use Prim.Native.Nat.{ℕ, ◌≤◌, ◌-◌}
+use Prim.Native.Nat.{ℕ}
 use mathlib.Core.Path.{◌≡◌}
 use mathlib.Core.Bool.{◌&&◌}
 use lib.Dec.{leb}
@@ -9,7 +9,4 @@ use Rattle.order.specs.inner.Members.{holds}
 use Rattle.policy.proofs.gather.labels_of.Given as goal
 
 abbrev pub invariant-loop-i : goal.invariant-loop-i
-invariant-loop-i l = (l.i ≤ 32) × ((k : ℕ) → Among 32 k → holds l.r k ≡ (leb k l.i && related l.g l.at k l.role))
-
-abbrev pub decreases-loop-i : goal.decreases-loop-i
-decreases-loop-i l = 32 - l.i
+invariant-loop-i l = (k : ℕ) → Among 32 k → holds l.r k ≡ (leb k l.i && related l.g 0 k l.role)

@@ -1,11 +1,14 @@
 -- Free where the set is empty, undefined where there is no bound, and else the bound.
-use Prim.Native.Nat.{ℕ, ◌-◌}
-use mathlib.Core.Path.{◌≡◌, ◌∙◌}
+use Prim.Native.Nat.{ℕ, ◌-◌, ◌≤◌}
+use mathlib.Core.List.{List}
+use Rattle.std.proofs.Common.{Some}
+use mathlib.Core.Path.{◌≡◌, sym, ap, ◌∙◌}
 use mathlib.Core.Bool.{◌&&◌, and_comm}
 use native.Mathlib.Omega.{arith}
 use lib.Bits.{bit_and}
 use lib.Dec.{leb}
-use Rattle.search.specs.Search.{Among, some}
+use Rattle.search.specs.Search.{Among, some, thing}
+use Rattle.search.proofs.Thing.{thing_some}
 use Rattle.search.proofs.Truth.{passed, failed}
 use Rattle.search.proofs.Found.{some_cut, every_cut}
 use Rattle.roleset.proofs.Bits.{bit_and_lem}
@@ -13,7 +16,7 @@ use Rattle.order.specs.Bound.{lub, converse, upper}
 use Rattle.order.specs.inner.Members.{holds, row_holds, FirstThings}
 use Rattle.order.proofs.Bound.{lub_within, least_cut}
 use Rattle.policy.proofs.Gathering.{level_empty, level_unbounded, level_bound}
-use Rattle.policy.proofs.gather.level_of.Goals.{After-any, After-greatest_lower-bound}
+use Rattle.policy.proofs.gather.level_of.Goals.{After-any, After-greatest_lower}
 use Rattle.policy.proofs.gather.level_of.Goals as goal
 
 -- the set cut down to the first n labels
@@ -31,28 +34,34 @@ pub returns-then-not-any : goal.returns-then-not-any
 returns-then-not-any c = level_empty _ _ _ (failed (some_label (goal.at.returns-then-not-any c).After-any) c.if-not-any.true)
 
 -- the bound that was found
-found : (c : After-greatest_lower-bound) → let a = c.args in c.greatest_lower-bound.result ≡ lub a.n (converse (row_holds a.t.now)) (holds a.s)
+found : (c : After-greatest_lower) → let a = c.args in c.greatest_lower.result ≡ thing (lub a.n (converse (row_holds a.t.now)) (holds a.s))
 unfolding lub upper
 found c =
     let all = c.first_things-all in
     let a = c.args in
     let order = converse (row_holds a.t.now) in
-    c.greatest_lower-bound.ensures
-    ∙ least_cut a.n 32 order (upper a.n order (holds a.s)) _ c.requires (λ x w.
+    c.greatest_lower.ensures
+    ∙ ap thing (least_cut a.n 32 order (upper a.n order (holds a.s)) _ c.requires (λ x w.
     rw (
       all.ensures x w,
       every_cut a.n 32 c.requires (holds a.s) (holds (bit_and a.s all.result)) (order x) (cut a.n all.result a.s all.ensures),
-    ))
+    )))
 
-pub returns-then-bound-eq0 : goal.returns-then-bound-eq0
-returns-then-bound-eq0 c =
-    level_unbounded _ _ _ _ (passed (some_label (goal.at.returns-then-bound-eq0 c).After-any) c.if-not-any.false) (found (goal.at.returns-then-bound-eq0 c).After-greatest_lower-bound) c.if-bound-eq0.true
+pub returns-in-None : goal.returns-in-None
+returns-in-None c =
+    level_unbounded _ _ _ (passed (some_label (goal.at.returns-in-None c).After-any) c.if-not-any.false)
+    (sym c.in-None.is ∙ found (goal.at.returns-in-None c).After-greatest_lower)
+
+-- a label
+bound_within : (n : ℕ) (t : List ℕ) (s b : ℕ) → n ≤ 32 → Some b ≡ thing (lub n (converse (row_holds t)) (holds s)) → b ≤ 32
+bound_within n t s b few e = let (q, l) = (thing_some (lub n (converse (row_holds t)) (holds s)) b).0 e in omega (arith, lub_within n (converse (row_holds t)) (holds s))
 
 pub overflow_cast-result : goal.overflow_cast-result
 overflow_cast-result c =
     let a = c.args in
-    omega (arith, found (goal.at.overflow_cast-result c).After-greatest_lower-bound, lub_within a.n (converse (row_holds a.t.now)) (holds a.s))
+    omega (arith, bound_within a.n a.t.now a.s c.in-Some.bound c.requires (sym c.in-Some.is ∙ found (goal.at.overflow_cast-result c).After-greatest_lower))
 
-pub returns : goal.returns
-returns c =
-    level_bound _ _ _ _ (passed (some_label (goal.at.returns c).After-any) c.if-not-any.false) (found (goal.at.returns c).After-greatest_lower-bound) c.if-bound-eq0.false
+pub returns-in-Some : goal.returns-in-Some
+returns-in-Some c =
+    level_bound _ _ _ (passed (some_label (goal.at.returns-in-Some c).After-any) c.if-not-any.false) _
+    (sym c.in-Some.is ∙ found (goal.at.returns-in-Some c).After-greatest_lower)

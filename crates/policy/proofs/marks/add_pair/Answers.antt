@@ -13,12 +13,12 @@ known c = one_of 32 _ c.among.ensures c.if-not-among.false
 pub returns-then-not-among : goal.returns-then-not-among
 returns-then-not-among c =
     let g = c.args in
-    (search rules, pair_none g.a g.b g.t.now (none_of 32 _ c.among.ensures c.if-not-among.true))
+    pair_none g.a g.b g.t.now (none_of 32 _ c.among.ensures c.if-not-among.true)
 
 pub returns : goal.returns
 returns c =
     let g = c.args in
-    (search rules, pair_one g.a g.b g.t.now c.with_mark.result (known (goal.at.returns c).Else-not-among) (search rules) c.with_mark.ensures)
+    pair_one g.a g.b g.t.now c.with_mark.result (known (goal.at.returns c).Else-not-among) (search rules) c.with_mark.ensures
 
 pub overflow_sub-i : goal.overflow_sub-i
 overflow_sub-i c = omega (arith, known (goal.at.overflow_sub-i c).Else-not-among)

@@ -10,11 +10,10 @@ use Rattle.policy.proofs.marks.put_row.Goals as goal
 pub loop-j-preserved : goal.loop-j-preserved
 loop-j-preserved c =
     let w = c.loop-j in
-    (search rules, write_more w.invariant.1 (search rules) (simp (add-sub_cancel w.j 1) c.byte.ensures))
+    write_more w.invariant (search rules) (simp (add-sub_cancel w.j 1) c.byte.ensures)
 
 pub returns : goal.returns
-returns c =
-    all_stored (byte_at c.args.row) c.loop-j.invariant.1 (omega arith)
+returns c = all_stored (byte_at c.args.row.now) c.loop-j.invariant (omega arith)
 
 pub loop-j-init : goal.loop-j-init
-loop-j-init c = (search rules, write_none)
+loop-j-init c = write_none

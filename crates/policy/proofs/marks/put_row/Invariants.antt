@@ -1,5 +1,5 @@
 -- Each turn stores one byte more.
-use Prim.Native.Nat.{ℕ, ◌+◌, ◌≤◌, ◌-◌}
+use Prim.Native.Nat.{ℕ, ◌+◌}
 use mathlib.Core.Bool.{Bool, cond}
 use mathlib.Core.List.{List}
 use Rattle.roleset.proofs.Rows.{Written}
@@ -10,7 +10,4 @@ abbrev pub byte_at : List Bool → ℕ → ℕ
 byte_at row b = cond (marks row b) 1 0
 
 abbrev pub invariant-loop-j : goal.invariant-loop-j
-invariant-loop-j l = (l.j ≤ 32) × Written l.at l.j (λ k. byte_at l.row (k + 1)) l.initial.s l.s
-
-abbrev pub decreases-loop-j : goal.decreases-loop-j
-decreases-loop-j l = 32 - l.j
+invariant-loop-j l = Written l.at l.j (λ k. byte_at l.row (k + 1)) l.initial.s l.s

@@ -1,9 +1,8 @@
 -- Numbers that are no role's, no card's or no mode's grant nothing; else one row is joined into one.
-use native.Mathlib.Omega.{arith}
 use borrow.Author.Rules.{rules}
 use Rattle.search.specs.Search.{Among}
 use Rattle.search.proofs.Truth.{one_of, none_of}
-use Rattle.policy.proofs.Relating.{no_role, no_card, no_mode, granted}
+use Rattle.policy.proofs.Relating.{no_role, no_card, no_mode, mode_among, granted}
 use Rattle.policy.proofs.rows.grant.Goals.{Else-not-among-2}
 use Rattle.policy.proofs.rows.grant.Goals as goal
 
@@ -19,17 +18,12 @@ returns-then-not-among-2 c =
     let a = c.args in
     no_card a.role a.card _ _ (none_of 512 _ c.among-2.ensures c.if-not-among-2.true)
 
-pub returns-then-mode-eq1 : goal.returns-then-mode-eq1
-returns-then-mode-eq1 c =
-    let a = c.args in
-    let mode = c.if-mode-eq1.true in
-    granted a.role a.card a.mode a.s.now _ (search rules) (known (goal.at.returns-then-mode-eq1 c).Else-not-among-2).0 (known (goal.at.returns-then-mode-eq1 c).Else-not-among-2).1 (omega arith) (rw mode c.join.ensures)
+pub returns-in_default : goal.returns-in_default
+returns-in_default c = no_mode c.args.role _ c.args.mode _ c.in_default.ensures
 
-pub returns-then-mode-eq2 : goal.returns-then-mode-eq2
-returns-then-mode-eq2 c =
+pub returns : goal.returns
+returns c =
     let a = c.args in
-    let mode = c.if-mode-eq2.true in
-    granted a.role a.card a.mode a.s.now _ (search rules) (known (goal.at.returns-then-mode-eq2 c).Else-not-among-2).0 (known (goal.at.returns-then-mode-eq2 c).Else-not-among-2).1 (omega arith) (rw mode c.join-then-mode-eq2.ensures)
-
-pub returns-else-mode-eq2 : goal.returns-else-mode-eq2
-returns-else-mode-eq2 c = no_mode c.args.role _ c.args.mode _ (λ w. omega arith)
+    let (role, card) = known (goal.at.returns c).Else-not-among-2 in
+    granted a.role a.card a.mode a.s.now _ (search rules) role card (rw c.in-Some.ensures at (mode_among c.in-Some.mode))
+    (rw (c.rows_at.ensures, c.in-Some.ensures) at c.join.ensures)

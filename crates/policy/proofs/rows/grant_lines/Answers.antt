@@ -1,25 +1,13 @@
 -- Each line grants its own; the seniors' rows stay as they were.
-use mathlib.Core.Path.{◌≡◌}
-use native.Mathlib.Omega.{arith}
-use borrow.Author.Rules.{rules}
 use Rattle.policy.proofs.Relating.{granted_none, granted_as, granted_more, granted_line, granted_yet}
 use Rattle.policy.proofs.rows.grant_lines.Goals as goal
 
 pub loop-i-preserved : goal.loop-i-preserved
 loop-i-preserved c =
     let w = c.loop-i in
-    let a = c.args in (
-      search rules,
-      search rules,
-      granted_as (λ d o r. granted_line a.s.now w.s a.p.now w.i _ _ _ d o r c.first_number-role.ensures c.second_number-card.ensures c.third_number-mode.ensures w.invariant.2.rest)
-          (granted_more w.invariant.2 c.grant.ensures),
-    )
-
-pub returns : goal.returns
-returns c =
-    let w = c.loop-i in
-    let q : w.i ≡ c.args.m = omega arith in
-    rw q at w.invariant.2
+    let a = c.args in
+    granted_as (λ d o r. granted_line a.s.now w.s a.p.now w.i _ _ _ d o r c.first_number-role.ensures c.second_number-card.ensures c.third_number.ensures w.invariant.rest)
+    (granted_more w.invariant c.grant.ensures)
 
 pub loop-i-init : goal.loop-i-init
-loop-i-init c = (search rules, search rules, granted_none _ _ (λ d o r u t. granted_yet _ _ d o r))
+loop-i-init c = granted_none _ _ (λ d o r u t. granted_yet _ _ d o r)

@@ -1,24 +1,12 @@
 -- Each line adds its pair.
-use mathlib.Core.Path.{◌≡◌}
-use native.Mathlib.Omega.{arith}
-use borrow.Author.Rules.{rules}
 use Rattle.policy.proofs.Relating.{related_none, related_as, related_more, pairs_back, pairs_none}
 use Rattle.policy.proofs.rows.relate_back.Goals as goal
 
 pub loop-i-preserved : goal.loop-i-preserved
 loop-i-preserved c =
     let w = c.loop-i in
-    let p = c.args.p.now in (
-      search rules,
-      search rules,
-      related_as (λ x r. pairs_back p w.i _ _ r x c.first_number-senior.ensures c.second_number-junior.ensures) (related_more w.invariant.2 c.relate.ensures),
-    )
-
-pub returns : goal.returns
-returns c =
-    let w = c.loop-i in
-    let q : w.i ≡ c.args.m = omega arith in
-    rw q at w.invariant.2
+    let p = c.args.p.now in
+    related_as (λ x r. pairs_back p w.i _ _ r x c.first_number.ensures c.second_number.ensures) (related_more w.invariant c.relate.ensures)
 
 pub loop-i-init : goal.loop-i-init
-loop-i-init c = (search rules, search rules, related_none _ _ _ _ (λ x r v w. pairs_none _ r x))
+loop-i-init c = related_none _ _ _ _ (λ x r v w. pairs_none _ r x)

@@ -1,0 +1,23 @@
+-- The letters are taken in the order of the document's table.
+use mathlib.Core.Path.{refl, sym, ap}
+use Rattle.std.proofs.lemmas.Result.{err_from_is_err_and}
+use Rattle.rolefile.specs.declared.Verdict.{Verdict}
+use Rattle.policy.proofs.Readying.{laid_of}
+use Rattle.policy.proofs.file.File.of.Goals as goal
+
+pub invariant_of-result : goal.invariant_of-result
+invariant_of-result c = record {
+  ready = record {
+    lines = ap (λ (v : Verdict). v.number) (sym c.in_ok-lines.ensures);
+    head = c.first_line.ensures;
+    laid = laid_of c.part.ensures c.take_letter.ensures c.take_letter-2.ensures c.take_letter-3.ensures c.take_letter-4.ensures c.take_letter-5.ensures c.take_letter-6.ensures;
+  };
+}
+
+pub returns : goal.returns
+returns c = record { told = c.in_ok-lines.ensures; same = refl }
+
+pub returns-in_err-lines : goal.returns-in_err-lines
+returns-in_err-lines c =
+    let p = err_from_is_err_and c.from_residual.result c.from_residual.ensures.1 in
+    rw (p.1, p.2) (record { told = c.in_err-lines.ensures; same = tt })
