@@ -2,10 +2,11 @@
 ghost use Rattle.std.specs.Prelude.{◌≡◌, ◌<◌};
 ghost use Rattle.policy.specs.Tables.{r_levels_at, w_levels_at, level_in, flows_in, role_count};
 ghost use Rattle.text.specs.Added.{Adds, in_use};
-ghost use Rattle.rolecheck.specs.Report.{role_lines, flow_line, flows_from, flow_lines, state_lines, report, IsPrefixLen};
+ghost use Rattle.rolecheck.specs.Report.{line, role_lines, flow_line, flows_from, flow_lines, state_lines, report, IsPrefixLen};
 
 use super::line::line;
 use policy::flow;
+use rolefile::Verdict;
 use text::Text;
 
 // The bytes of the longest report: 22 for each of two lines, of 128 roles, and of their flows.
@@ -58,7 +59,16 @@ fn policy_lines(state: &[u8], text: &mut Text)
 {
     role_lines(state, text);
     flow_lines(state, text);
-    line(text, b'C', &[flow::flow_circle(state) as u64]);
+    let circle = flow::flow_circle(state).unwrap_or(0);
+    line(text, b'C', &[circle as u64]);
+}
+
+// The line of a verdict.
+fn verdict_line(verdict: Verdict, text: &mut Text)
+    requires { (verdict.number < 100000) × (verdict.first < 100000) × (verdict.second < 100000) }
+    ensures { Adds (line 86 3 verdict.number verdict.first verdict.second) text.old text.new }
+{
+    line(text, b'V', &[verdict.number, verdict.first, verdict.second]);
 }
 
 // Puts the whole report on a role file at the start of `out`, and answers it.
@@ -67,14 +77,10 @@ pub fn report<'a>(file: &[u8], out: &'a mut [u8; MOST_BYTES]) -> Text<'a>
     ensures out_after { in_use result ≡ report file.now }
 {
     let mut state = [0u8; policy::layout::STATE_SIZE];
-    let verdict = policy::load(file, &mut state);
+    let loaded = policy::load(file, &mut state);
     let mut text = Text::new(out, 0);
-    line(
-        &mut text,
-        b'V',
-        &[verdict.number, verdict.first, verdict.second],
-    );
-    if verdict.number != 0 {
+    verdict_line(loaded.into(), &mut text);
+    if loaded.is_err() {
         return text;
     }
     policy_lines(&state, &mut text);

@@ -1,21 +1,27 @@
--- By cases on the verdict.
+-- By cases on what the load answers.
 use Rattle.std.proofs.Common.{rules}
+use Rattle.rolefile.proofs.Told.{told_by}
+use Rattle.policy.specs.Refusal.{verdict_of}
 use Rattle.text.proofs.Added.{adds_as, adds_then}
 use Rattle.rolecheck.proofs.Whole.{load_written, refused_report, accepted_report, whole}
 use Rattle.rolecheck.proofs.report.report.Goals as goal
 
-pub line-requires : goal.line-requires
-line-requires c =
-    let w = load_written c.args.file.now c.load-verdict.ensures (search rules) in
-    search rules
+pub verdict_line-requires : goal.verdict_line-requires
+verdict_line-requires c =
+    let same = told_by verdict_of c.load-loaded.result c.into.result c.into.ensures in
+    let w = load_written c.args.file.now c.load-loaded.result same c.load-loaded.ensures (search rules) in
+    (w.number, w.first, w.second)
 
-pub returns-then-verdict-ne0-clause-out_after : goal.returns-then-verdict-ne0-clause-out_after
-returns-then-verdict-ne0-clause-out_after c =
+pub returns-then-is_err-clause-out_after : goal.returns-then-is_err-clause-out_after
+returns-then-is_err-clause-out_after c =
     let file = c.args.file.now in
-    (whole file (search rules) (search rules) (adds_as (refused_report file c.load-verdict.ensures (search rules) c.if-verdict-ne0.true) c.line.ensures)).1
+    let same = told_by verdict_of c.load-loaded.result c.into.result c.into.ensures in
+    let text = refused_report file c.load-loaded.result same c.load-loaded.ensures (search rules) c.if-is_err.ensures.value in
+    (whole file (search rules) (search rules) (adds_as text c.verdict_line.ensures)).1
 
 pub returns-clause-out_after : goal.returns-clause-out_after
 returns-clause-out_after c =
     let file = c.args.file.now in
-    (whole file (search rules) (search rules)
-    (adds_as (accepted_report file c.load-verdict.ensures (search rules) c.if-verdict-ne0.false) (adds_then c.line.ensures c.policy_lines.ensures))).1
+    let same = told_by verdict_of c.load-loaded.result c.into.result c.into.ensures in
+    let text = accepted_report file c.load-loaded.result same c.load-loaded.ensures (search rules) c.if-is_err.ensures.value in
+    (whole file (search rules) (search rules) (adds_as text (adds_then c.verdict_line.ensures c.policy_lines.ensures))).1
