@@ -64,3 +64,6 @@ module _ {A : Type 0} (N : ℕ) (new old : A) where
   done_left h k = left N new old h refl k
 
 pub ruleset outcome = (handed, refused_kept, done_left)
+
+-- for functions with `?`, as `#[tactic(auto, using(crate::proofs::Refused::refusing), unfolding(..))]`
+pub ruleset refusing = (never_done, handed)

@@ -1,4 +1,6 @@
 // What the rules ask of a user, a label, a role and a card.
+#![tactic(auto, unfolding(crate::specs::Session::cleared, crate::specs::Session::entitled, crate::specs::Session::fitting, crate::specs::Session::gives))]
+
 ghost use Rattle.std.specs.Prelude.{◌≡◌, ◌+◌, ◌*◌, ◌≤◌, leb, length};
 ghost use Rattle.search.specs.Search.{Among};
 ghost use Rattle.roleset.specs.Row.{member, row_of};
@@ -67,7 +69,6 @@ pub fn in_card(offset: u64, n: u64) -> bool
 
 impl<'a> Policy<'a> {
     // Whether the user's clearance dominates the label.
-    #[tactic(auto, unfolding(crate::specs::Session::cleared))]
     pub fn clears(self, user: User, label: Label) -> bool
         ensures { result ≡ session.cleared self.entry.bytes.now user.number label.number }
     {
@@ -75,7 +76,6 @@ impl<'a> Policy<'a> {
     }
 
     // Whether the user is assigned to the role or to a senior of it.
-    #[tactic(auto, unfolding(crate::specs::Session::entitled))]
     pub fn entitles(self, user: User, role: Role) -> bool
         ensures { result ≡ session.entitled self.entry.bytes.now user.number role.number }
     {
@@ -87,7 +87,6 @@ impl<'a> Policy<'a> {
     }
 
     // Whether the levels of the role allow it at the label.
-    #[tactic(auto, unfolding(crate::specs::Session::fitting))]
     pub fn fits(self, label: u64, role: Role) -> bool
         ensures { result ≡ session.fitting self.entry.bytes.now label role.number }
     {
@@ -123,7 +122,6 @@ impl<'a> OpenPlace<'a> {
     }
 
     // Whether a role that it holds gives the use of the card.
-    #[tactic(auto, unfolding(crate::specs::Session::gives))]
     pub fn gives(self, card: Card, mode: Mode) -> bool
         ensures { result ≡ session.gives self.entry.policy.bytes.now (tables.table_of (mode_of mode)) self.entry.place.number card.number }
     {

@@ -1,4 +1,6 @@
 // Sessions: opening and closing a place, taking and dropping a role.
+#![tactic(auto, using(crate::proofs::Refused::refusing), unfolding(crate::specs::Calls::unless, crate::specs::Calls::state_number, crate::specs::Calls::if_done, crate::specs::Calls::open_number, crate::specs::Calls::opened, crate::specs::Calls::close_number, crate::specs::Calls::closed, crate::specs::Calls::take_number, crate::specs::Calls::drop_number))]
+
 ghost use Rattle.std.specs.Prelude.{◌≡◌, ◌+◌, ◌≤◌, length, IfOk};
 ghost use Rattle.policy.specs.Tables.{state_size};
 ghost use Rattle.monitor.specs.Calls.{written, open_number, opened, Opens, close_number, closed, Closes, take_number, taken, Takes, drop_number, dropped, Drops};

@@ -1,4 +1,6 @@
 // What the calls read of a state, and where its places stand, in the words of docs/LAYOUT.md.
+#![tactic(auto, using(crate::proofs::Refused::refusing), unfolding(crate::specs::Calls::unless, crate::specs::Calls::state_number, crate::specs::Calls::close_number, crate::specs::Session::in_use, crate::specs::Session::user_at, crate::specs::Session::label_at))]
+
 ghost use Rattle.std.specs.Prelude.{◌≡◌, ◌≤◌, ◌<◌, IfOk, length, true};
 ghost use Rattle.search.specs.Search.{among, Among};
 ghost use Rattle.roleset.specs.Row.{row_of};
@@ -118,7 +120,6 @@ pub struct Policy<'a> {
 
 impl<'a> Policy<'a> {
     // The policy in a state: 21.
-    #[tactic(auto, unfolding(crate::specs::Calls::unless, crate::specs::Calls::state_number))]
     pub fn new(bytes: &'a [u8]) -> Result<Policy<'a>, Refusal>
         ensures refused { told result ≡ state_number bytes.now }
         ensures done { IfOk result (λ policy. policy.bytes ≡ bytes.entry) }
@@ -190,7 +191,6 @@ impl<'a> Policy<'a> {
     }
 
     // Whether the place has a session.
-    #[tactic(auto, unfolding(crate::specs::Session::in_use))]
     pub fn in_use(self, place: Place) -> bool
         ensures { result ≡ session.in_use self.entry.bytes.now place.number }
     {
@@ -301,7 +301,6 @@ impl<'a> OpenPlace<'a> {
     }
 
     // Its user.
-    #[tactic(auto, unfolding(crate::specs::Session::user_at))]
     pub fn user(self) -> User
         ensures { result.number ≡ session.user_at self.entry.policy.bytes.now self.entry.place.number }
     {
@@ -310,7 +309,6 @@ impl<'a> OpenPlace<'a> {
     }
 
     // Its label, which is only what the place says.
-    #[tactic(auto, unfolding(crate::specs::Session::label_at))]
     pub fn label(self) -> u64
         ensures { result ≡ session.label_at self.entry.policy.bytes.now self.entry.place.number }
     {

@@ -1,4 +1,6 @@
 // The numbers of places, users, labels, roles and cards, each known to be in its range, and modes.
+#![tactic(auto, unfolding(crate::specs::Calls::unless))]
+
 ghost use Rattle.std.specs.Prelude.{◌≡◌, ◌≤◌, ◌<◌, ◌&&◌, IfOk};
 ghost use Rattle.search.specs.Search.{among, Among};
 ghost use Rattle.monitor.specs.Calls.{unless};
@@ -33,7 +35,6 @@ impl TryFrom<u64> for Place {
 
     ghost try_from_gives = { λ x answer. (told answer ≡ unless (among 64 x) 22 0) × IfOk answer (λ place. place.number ≡ x) };
 
-    #[tactic(auto, unfolding(crate::specs::Calls::unless))]
     fn try_from(x: u64) -> Result<Place, Refusal> {
         if !search::among(PLACES as u64, x) {
             return Err(Refusal::Place);
@@ -44,7 +45,6 @@ impl TryFrom<u64> for Place {
 }
 
 // Thing x of the first `count`, of which there are at most MOST: 25.
-#[tactic(auto, unfolding(crate::specs::Calls::unless))]
 pub fn counted<const MOST: usize>(count: u64, x: u64) -> Result<Thing<MOST>, Refusal>
     requires { (count ≤ MOST) × (MOST < 65536) }
     ensures refused { told result ≡ unless (among count x) 25 0 }
@@ -70,7 +70,6 @@ impl TryFrom<u64> for Mode {
 
     ghost try_from_gives = { λ x answer. (told answer ≡ unless (among 2 x) 25 0) × IfOk answer (λ mode. mode_of mode ≡ x) };
 
-    #[tactic(auto, unfolding(crate::specs::Calls::unless))]
     fn try_from(x: u64) -> Result<Mode, Refusal> {
         match x {
             1 => Ok(Mode::Read),
