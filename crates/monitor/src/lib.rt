@@ -23,6 +23,7 @@ ghost use Rattle.monitor.specs.Calls.{Opens, Closes, Takes, Drops, read_number, 
 ghost use Rattle.monitor.specs.Refusals.{told, figured};
 
 use refusal::Refusal;
+use rolefile::Verdict;
 use things::Mode;
 
 // The answer of a load, as C has it.
@@ -99,16 +100,23 @@ impl From<Result<u64, Refusal>> for Figure {
     }
 }
 
+impl From<Verdict> for LoadAnswer {
+    ghost from_gives = { λ verdict answer. verdict ≡ record { number = answer.number; first = answer.first; second = answer.second } };
+
+    fn from(verdict: Verdict) -> LoadAnswer {
+        LoadAnswer {
+            number: verdict.number,
+            first: verdict.first,
+            second: verdict.second,
+        }
+    }
+}
+
 // Checks a role file and replaces the state by its policy: 7, or the verdict on the file.
 pub fn monitor_load(file: &[u8], state: &mut [u8]) -> LoadAnswer
     ensures { Loaded file.now (record { number = result.number; first = result.first; second = result.second }) state.old state.new }
 {
-    let v = policy::load(file, state);
-    LoadAnswer {
-        number: v.number,
-        first: v.first,
-        second: v.second,
-    }
+    Verdict::from(policy::load(file, state)).into()
 }
 
 // Opens a place for a user at a label: 21, 22, 23, 25, 26.

@@ -51,5 +51,5 @@ pub fn circle_figure(s: &[u8], number: u64) -> u64
     if number != 0 {
         return 0;
     }
-    policy::flow::flow_circle(s) as u64
+    policy::flow::flow_circle(s).unwrap_or(0) as u64
 }
