@@ -156,7 +156,7 @@ shows cs = shows_all [] cs Blank (0, refl)
 
 -- ---- what is shown is read
 
-columns_append : (f : Field) (xs ys : List ℕ) → columns f (xs ++ ys) ≡ columns (columns f xs) ys
+pub columns_append : (f : Field) (xs ys : List ℕ) → columns f (xs ++ ys) ≡ columns (columns f xs) ys
 unfolding columns
 columns_append f [] ys = refl
 columns_append f (b ∷ xs) ys = columns_append (column f b) xs ys

@@ -153,11 +153,11 @@ line_iff f k l = (makes _ _ _ _ _ _ l, made _ _ _ _ _ _ l)
 -- ---- its bytes
 
 -- n bytes of f from i on
-abbrev bytes : List ℕ → ℕ → ℕ → List ℕ
+abbrev pub bytes : List ℕ → ℕ → ℕ → List ℕ
 bytes f i zero = []
 bytes f i (suc n) = get_or f i 0 ∷ bytes f (i + 1) n
 
-take_bytes : (f : List ℕ) (i n : ℕ) → i + n ≤ length f → take n (drop i f) ≡ bytes f i n
+pub take_bytes : (f : List ℕ) (i n : ℕ) → i + n ≤ length f → take n (drop i f) ≡ bytes f i n
 take_bytes f i zero h = refl
 take_bytes f i (suc n) h = rw (drop-cons f i 0 (omega arith), ← (add-one i), take_bytes f (i + 1) n (omega arith))
 

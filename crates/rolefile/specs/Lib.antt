@@ -3,6 +3,7 @@ pub mod Field
 pub mod Line
 pub mod Form
 pub mod Refusal
+pub mod Reader
 pub mod Said
 pub mod WellFormed
 pub mod Decimal

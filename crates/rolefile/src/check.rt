@@ -1,7 +1,7 @@
 // The numbers 1 to 5: the file's length, and line by line its form, its numbers and its order.
 ghost use Rattle.std.specs.Prelude.{◌≡◌, ◌≤◌};
 ghost use Rattle.rolefile.specs.Line.{lines};
-ghost use Rattle.rolefile.specs.Form.{fine, refusal, within_limits, first_limit, second_limit, ranged, before, rises, head_verdict, body_verdict, line_verdict, scan, lines_verdict};
+ghost use Rattle.rolefile.specs.Form.{fine, refusal, within_limits, first_limit, second_limit, ranged, rises, head_verdict, body_verdict, line_verdict, scan, lines_verdict};
 ghost use Rattle.rolefile.specs.Refusal.{verdict_of, told};
 
 use super::{Line, Refusal, Verdict, read, reader};
@@ -51,42 +51,19 @@ pub fn counts_fit(labels: u64, roles: u64, users: u64, cards: u64) -> bool
         & ((roles <= ROLE_LIMIT) & ((users <= USER_LIMIT) & (cards <= CARD_LIMIT)))
 }
 
-// 4: the counts that the first and the second field of a letter's lines go up to.
-#[derive(Clone, Copy)]
-struct Limits {
-    first: u64,
-    second: u64,
-}
-
-// Those of the letter k, under the counts h.
-fn limits_of(h: Line, k: u64) -> Limits
-    ensures { (result.first ≡ first_limit h k) × (result.second ≡ second_limit h k) }
+// 4: the counts that the first and the second field of the letter k's lines go up to, under the
+// counts h.
+#[tactic(auto, unfolding(crate::specs::Form::first_limit, crate::specs::Form::second_limit))]
+fn limits_of(h: Line, k: u64) -> (u64, u64)
+    ensures { (result.0 ≡ first_limit h k) × (result.1 ≡ second_limit h k) }
 {
     match k {
-        read::D => Limits {
-            first: h.a,
-            second: h.a,
-        },
-        read::S => Limits {
-            first: h.b,
-            second: h.b,
-        },
-        read::O => Limits {
-            first: h.d,
-            second: h.a,
-        },
-        read::P => Limits {
-            first: h.b,
-            second: h.d,
-        },
-        read::A => Limits {
-            first: h.c,
-            second: h.b,
-        },
-        _ => Limits {
-            first: h.c,
-            second: h.a,
-        },
+        read::D => (h.a, h.a),
+        read::S => (h.b, h.b),
+        read::O => (h.d, h.a),
+        read::P => (h.b, h.d),
+        read::A => (h.c, h.b),
+        _ => (h.c, h.a),
     }
 }
 
@@ -94,27 +71,17 @@ fn limits_of(h: Line, k: u64) -> Limits
 fn numbers_fit(h: Line, l: Line) -> bool
     ensures { result ≡ ranged h l }
 {
-    let k = l.letter;
-    let limits = limits_of(h, k);
-    let one = search::among(limits.first, l.a);
-    let two = search::among(limits.second, l.b);
-    one & (two & ((k != read::P) | search::among(MODE_LIMIT, l.c)))
-}
-
-// x is less than y, or is y and the rest decides.
-fn earlier(x: u64, y: u64, rest: bool) -> bool
-    ensures { result ≡ before x y rest }
-{
-    (x < y) | ((x == y) & rest)
+    let (first, second) = limits_of(h, l.letter);
+    let one = search::among(first, l.a);
+    let two = search::among(second, l.b);
+    one & (two & ((l.letter != read::P) | search::among(MODE_LIMIT, l.c)))
 }
 
 // 5: the line l comes after the line p.
 fn comes_after(p: Line, l: Line) -> bool
     ensures { result ≡ rises p l }
 {
-    let by_b = earlier(p.b, l.b, p.c < l.c);
-    let by_a = earlier(p.a, l.a, by_b);
-    earlier(p.letter, l.letter, by_a)
+    (p.letter, p.a, p.b, p.c) < (l.letter, l.a, l.b, l.c)
 }
 
 // 2 and 3, of line 1.
@@ -154,8 +121,7 @@ fn scan(f: &[u8]) -> Result<(), Refusal>
     let h = read::first_line(f);
     head(h)?;
     let mut before = h;
-    for k in 2..f.len() / read::LINE_LENGTH + 1 {
-        let line = reader::next_line(reader::from_line(f, k));
+    for (k, line) in reader::from_line(f, 2) {
         body(h, before, k, line)?;
         before = line;
     }

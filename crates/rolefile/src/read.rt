@@ -1,16 +1,21 @@
 // Reading fields and lines.
-ghost use Rattle.std.specs.Prelude.{◌≡◌, false, ◌&&◌, [], ◌∷◌, ◌+◌, ◌%◌, ◌≤◌, ◌<◌, leb, eqb, length};
-ghost use Rattle.rolefile.specs.Field.{digit_zero, digit_nine, is_digit, column, columns, field_at, field_number};
+ghost use Rattle.std.specs.Prelude.{◌≡◌, false, [], ◌∷◌, ◌+◌, ◌*◌, ◌-◌, ◌%◌, ◌≤◌, ◌<◌, eqb, length, MatchOption};
+ghost use Rattle.std.specs.Option.{unwrap_or};
+ghost use Rattle.std.specs.Simd.{first_chunks};
+ghost use Rattle.search.specs.Search.{among};
+ghost use Rattle.rolefile.specs.Field.{digit_zero, digit_nine, is_digit, column, columns, five, field_number};
 ghost use Rattle.rolefile.specs.inner.Field.{taken_out, AtOnce};
 ghost use Rattle.rolefile.specs.inner.Section.{figure, figure_of, one, two, three, Leads};
-ghost use Rattle.rolefile.specs.Line.{line_length, letter_of, fields, no_line, line_of, line_from, line_at, part};
+ghost use Rattle.rolefile.specs.Line.{line_length, letter_of, fields, no_line, line_from, line_at, lines, part};
 
 use super::{Field, Line};
 
-// A line's length, and the byte at its end.
+// A line's length, a field's, and the byte at a line's end.
 pub const LINE_LENGTH: usize = 22;
 
-const NEWLINE: u8 = 10;
+const FIELD_LENGTH: usize = 5;
+
+const NEWLINE: u8 = b'\n';
 
 // The letters by their rows in the table of letters.
 pub const H: u64 = 1;
@@ -42,21 +47,26 @@ pub const P_BYTE: u8 = b'P';
 
 pub const A_BYTE: u8 = b'A';
 
-// The bytes of a blank, of the digit 0 and of the digit 9.
+// The byte of a blank.
 const BLANK: u8 = b' ';
-
-const DIGIT_ZERO: u8 = b'0';
-
-const DIGIT_NINE: u8 = b'9';
 
 // Whether the byte is a digit.
 pub fn is_digit(b: u8) -> bool
     ensures { result ≡ is_digit b }
 {
-    (DIGIT_ZERO <= b) & (b <= DIGIT_NINE)
+    b.is_ascii_digit()
+}
+
+// What a digit says.
+fn value(b: u8) -> u64
+    requires { digit_zero ≤ b }
+    ensures { (result ≡ b - digit_zero) × (result < 256) }
+{
+    b as u64 - b'0' as u64
 }
 
 // The number n with the digit b after it, unless n is 0 or has five digits.
+#[tactic(auto, unfolding(crate::specs::Field::column, crate::specs::Field::is_digit))]
 fn next_digit(n: u64, b: u8) -> Field
     ensures { result ≡ column (Field.Number n) b }
 {
@@ -66,10 +76,11 @@ fn next_digit(n: u64, b: u8) -> Field
     if !search::among(9999, n) {
         return Field::Bad;
     }
-    Field::Number(10 * n + (b - DIGIT_ZERO) as u64)
+    Field::Number(10 * n + value(b))
 }
 
 // A blank, or a first digit.
+#[tactic(auto, unfolding(crate::specs::Field::column, crate::specs::Field::is_digit))]
 fn first_digit(b: u8) -> Field
     ensures { result ≡ column Field.Blank b }
 {
@@ -79,10 +90,11 @@ fn first_digit(b: u8) -> Field
     if !is_digit(b) {
         return Field::Bad;
     }
-    Field::Number((b - DIGIT_ZERO) as u64)
+    Field::Number(value(b))
 }
 
 // What the columns so far say, with one column more.
+#[tactic(auto, unfolding(crate::specs::Field::column))]
 fn column(f: Field, b: u8) -> Field
     ensures { result ≡ column f b }
 {
@@ -93,281 +105,187 @@ fn column(f: Field, b: u8) -> Field
     }
 }
 
-// The field of five columns at `at`, column by column.
-fn by_columns(s: &[u8], at: usize) -> Field
-    requires { at + 5 ≤ length s.now }
-    ensures { result ≡ field_at s.now at }
+// The field of five columns, column by column.
+fn by_columns(bytes: &[u8; FIELD_LENGTH]) -> Field
+    ensures { result ≡ columns Field.Blank bytes.now }
 {
-    let one = first_digit(s[at]);
-    let two = column(one, s[at + 1]);
-    let three = column(two, s[at + 2]);
-    let four = column(three, s[at + 3]);
-    column(four, s[at + 4])
-}
-
-// A byte as a number.
-fn wide(b: u8) -> u64
-    ensures { (result ≡ b) × (result < 256) }
-{
-    b as u64
-}
-
-// The bytes of a blank and of the digits 0, 1 and 9 as numbers.
-const WIDE_BLANK: u64 = BLANK as u64;
-
-const WIDE_ZERO: u64 = DIGIT_ZERO as u64;
-
-const WIDE_ONE: u64 = WIDE_ZERO + 1;
-
-const WIDE_NINE: u64 = DIGIT_NINE as u64;
-
-// Above every number of three digits: nothing was read at once.
-const UNREAD: u64 = 1000;
-
-// Whether the byte is a digit, from the digit `low` on.
-fn digit_from(low: u64, b: u64) -> bool
-    ensures { result ≡ (leb low b && leb b digit_nine) }
-{
-    (low <= b) & (b <= WIDE_NINE)
+    let mut f = Field::Blank;
+    for b in bytes {
+        f = column(f, *b);
+    }
+    f
 }
 
 // The number in a field's last three columns, of which the last is a digit, where those before them
-// are blanks. A number below UNREAD is the field's; UNREAD tells nothing.
-fn last_three(x: u64, y: u64, z: u64) -> u64
+// are blanks. None tells nothing.
+fn last_three(x: u8, y: u8, z: u8) -> Option<u64>
     requires { (digit_zero ≤ z) × (z ≤ digit_nine) }
     ensures { AtOnce result (columns Field.Blank (x ∷ y ∷ z ∷ [])) }
 {
-    if y == WIDE_BLANK {
-        if x == WIDE_BLANK {
-            return z - WIDE_ZERO;
-        }
-        return UNREAD;
+    match (x, y) {
+        (BLANK, BLANK) => Some(value(z)),
+        (BLANK, b'1'..=b'9') => Some(10 * value(y) + value(z)),
+        (b'1'..=b'9', b'0'..=b'9') => Some(100 * value(x) + (10 * value(y) + value(z))),
+        _ => None,
     }
-    if x == WIDE_BLANK {
-        if digit_from(WIDE_ONE, y) {
-            return 10 * (y - WIDE_ZERO) + (z - WIDE_ZERO);
-        }
-        return UNREAD;
-    }
-    if !digit_from(WIDE_ONE, x) {
-        return UNREAD;
-    }
-    if !digit_from(WIDE_ZERO, y) {
-        return UNREAD;
-    }
-    100 * (x - WIDE_ZERO) + (10 * (y - WIDE_ZERO) + (z - WIDE_ZERO))
 }
 
-// Two blanks as one number, and four.
-const TWO_BLANKS: u64 = 0x2020;
+// Two blanks as one number, and four: comparing columns one by one, by a pattern, takes longer.
+const TWO_BLANKS: u16 = 0x2020;
 
-const FOUR_BLANKS: u64 = 0x2020_2020;
+const FOUR_BLANKS: u32 = 0x2020_2020;
 
-// The number in the five columns at `at`, where it has up to three digits, as each number of an
-// accepted file has. UNREAD tells nothing.
-fn at_once(s: &[u8], at: usize) -> u64
-    requires { at + 5 ≤ length s.now }
-    ensures { AtOnce result (field_at s.now at) }
+// The number in the five columns, where it has up to three digits, as each number of an accepted
+// file has. None tells nothing.
+fn at_once(bytes: &[u8; FIELD_LENGTH]) -> Option<u64>
+    ensures { AtOnce result (columns Field.Blank bytes.now) }
 {
-    if number::two(s[at], s[at + 1]) != TWO_BLANKS {
-        return UNREAD;
+    let [v, w, x, y, z] = *bytes;
+    if u16::from_le_bytes([v, w]) != TWO_BLANKS {
+        return None;
     }
-    if !is_digit(s[at + 4]) {
-        return UNREAD;
+    if !is_digit(z) {
+        return None;
     }
-    last_three(wide(s[at + 2]), wide(s[at + 3]), wide(s[at + 4]))
+    last_three(x, y, z)
 }
 
-// The field of five columns at `at`, out of which the number n was read at once, unless n is UNREAD.
-// It is small, so that the compiler inlines it and the field is not handed over through memory.
-fn field(n: u64, s: &[u8], at: usize) -> Field
-    requires { (at + 5 ≤ length s.now) × AtOnce n (field_at s.now at) }
-    ensures { result ≡ field_at s.now at }
+// The field of five columns.
+fn field(bytes: &[u8; FIELD_LENGTH]) -> Field
+    ensures { result ≡ columns Field.Blank bytes.now }
 {
-    if n < UNREAD {
-        return Field::Number(n);
+    match at_once(bytes) {
+        Some(n) => Field::Number(n),
+        None => by_columns(bytes),
     }
-    by_columns(s, at)
 }
 
-// The field of five columns at `at`, where a number of one digit, as a mode is, is read at once.
-fn digit_field(s: &[u8], at: usize) -> Field
-    requires { at + 5 ≤ length s.now }
-    ensures { result ≡ field_at s.now at }
+// The field of five columns, where a number of one digit, as a mode is, is read at once.
+fn digit_field(bytes: &[u8; FIELD_LENGTH]) -> Field
+    ensures { result ≡ columns Field.Blank bytes.now }
 {
-    if number::four(s[at], s[at + 1], s[at + 2], s[at + 3]) == FOUR_BLANKS {
-        return first_digit(s[at + 4]);
+    let [v, w, x, y, z] = *bytes;
+    if u32::from_le_bytes([v, w, x, y]) == FOUR_BLANKS {
+        return first_digit(z);
     }
-    by_columns(s, at)
+    by_columns(bytes)
 }
 
-// A letter's row in the table of letters, or 0.
-fn letter(b: u8) -> u64
-    ensures { result ≡ letter_of b }
+// Whether the five columns are blanks.
+fn all_blank(bytes: &[u8; FIELD_LENGTH]) -> bool
+    ensures { result ≡ eqb (field_number false (columns Field.Blank bytes.now)) 0 }
+{
+    let [v, w, x, y, z] = *bytes;
+    (u32::from_le_bytes([v, w, x, y]) == FOUR_BLANKS) & (z == BLANK)
+}
+
+// What a line takes out of a field that not every letter uses: its number where it is in use, 0
+// where it has no use, and None where it ends its line. It is read only where it is in use.
+fn taken_out(bytes: &[u8; FIELD_LENGTH], used: bool) -> Option<u64>
+    ensures { result ≡ taken_out used (columns Field.Blank bytes.now) }
+{
+    if !used {
+        return if all_blank(bytes) { Some(0) } else { None };
+    }
+    match digit_field(bytes) {
+        Field::Number(n) => Some(n),
+        Field::Blank | Field::Bad => None,
+    }
+}
+
+// A letter's row in the table of letters.
+#[tactic(auto, unfolding(crate::specs::Line::letter_of, search::specs::Search::first))]
+fn letter(b: u8) -> Option<u64>
+    ensures { MatchOption result (letter_of b ≡ 0) (λ k. (letter_of b ≡ k) × (1 ≤ k)) }
 {
     match b {
-        H_BYTE => H,
-        D_BYTE => D,
-        S_BYTE => S,
-        U_BYTE => U,
-        O_BYTE => O,
-        P_BYTE => P,
-        A_BYTE => A,
-        _ => 0,
+        H_BYTE => Some(H),
+        D_BYTE => Some(D),
+        S_BYTE => Some(S),
+        U_BYTE => Some(U),
+        O_BYTE => Some(O),
+        P_BYTE => Some(P),
+        A_BYTE => Some(A),
+        _ => None,
     }
 }
 
 // How many fields a letter's lines have.
+#[tactic(auto, unfolding(crate::specs::Line::fields))]
 fn field_count(k: u64) -> u64
     ensures { result ≡ fields k }
 {
-    if k == H {
-        return 4;
+    match k {
+        H => 4,
+        P => 3,
+        _ => 2,
     }
-    if k == P {
-        return 3;
-    }
-    2
 }
 
-// What a line takes out of a field: its number where the field is in use, 0 where it has no use.
-fn taken_out(f: Field, used: bool) -> Field
-    ensures { result ≡ taken_out used f }
+// The columns of a line's four fields.
+fn fields(line: &[u8; LINE_LENGTH]) -> &[[u8; FIELD_LENGTH]; 4]
+    ensures { result.now ≡ five line.now 1 ∷ five line.now 6 ∷ five line.now 11 ∷ five line.now 16 ∷ [] }
 {
-    match f {
-        Field::Blank => { if used { Field::Bad } else { Field::Number(0) } }
-        Field::Number(n) => { if used { Field::Number(n) } else { Field::Bad } }
-        Field::Bad => Field::Bad,
+    let (columns, _) = line[1..].as_chunks();
+    columns.first_chunk().unwrap()
+}
+
+// The line in the bytes, or None for a malformed one: a field that does not read as asked ends it.
+// Here and at `line` the compiler is told to inline, so that a line is not handed over through memory.
+#[inline(always)]
+fn line_from(bytes: &[u8; LINE_LENGTH]) -> Option<Line>
+    ensures { unwrap_or result no_line ≡ line_from bytes.now 0 }
+{
+    let letter = letter(bytes[0])?;
+    let [a, b, c, d] = fields(bytes);
+    let Field::Number(a) = field(a) else {
+        return None;
+    };
+    let Field::Number(b) = field(b) else {
+        return None;
+    };
+    let c = taken_out(c, 3 <= field_count(letter))?;
+    let d = taken_out(d, 4 <= field_count(letter))?;
+    if bytes[21] != NEWLINE {
+        return None;
     }
+    Some(Line { letter, a, b, c, d })
+}
+
+// The file's lines, without what stands after the last whole one.
+fn whole_lines(f: &[u8]) -> &[[u8; LINE_LENGTH]]
+    ensures value { result.now ≡ first_chunks line_length (lines f.now) f.now }
+    ensures len { length result.now ≡ lines f.now }
+{
+    let (whole, _) = f.as_chunks();
+    whole
 }
 
 // A malformed line.
-fn no_line() -> Line
-    ensures { result ≡ no_line }
-{
-    Line {
-        letter: 0,
-        a: 0,
-        b: 0,
-        c: 0,
-        d: 0,
-    }
-}
-
-// The line of a letter's row, the byte at its end and its four fields. A field that does not read
-// as asked ends it.
-fn line_of(k: u64, end: u8, p: Field, q: Field, r: Field, s: Field) -> Line
-    ensures { result ≡ line_of k end p q r s }
-{
-    let Field::Number(a) = taken_out(p, true) else {
-        return no_line();
-    };
-    let Field::Number(b) = taken_out(q, true) else {
-        return no_line();
-    };
-    let Field::Number(c) = taken_out(r, 3 <= field_count(k)) else {
-        return no_line();
-    };
-    let Field::Number(d) = taken_out(s, 4 <= field_count(k)) else {
-        return no_line();
-    };
-    if k < 1 {
-        return no_line();
-    }
-    if end != NEWLINE {
-        return no_line();
-    }
-    Line {
-        letter: k,
-        a,
-        b,
-        c,
-        d,
-    }
-}
-
-// Line 1 of the file, of whose fields an H line uses all four.
-pub fn first_line(f: &[u8]) -> Line
-    ensures { result ≡ line_at f.now 1 }
-{
-    if f.len() < LINE_LENGTH {
-        return no_line();
-    }
-    let p = by_columns(f, 1);
-    let q = by_columns(f, 6);
-    let r = by_columns(f, 11);
-    let s = by_columns(f, 16);
-    line_of(letter(f[0]), f[21], p, q, r, s)
-}
-
-// Whether the five columns at `at` are blanks, four of them compared at once.
-fn all_blank(s: &[u8], at: usize) -> bool
-    requires { at + 5 ≤ length s.now }
-    ensures { result ≡ eqb (field_number false (field_at s.now at)) 0 }
-{
-    let four = number::four(s[at], s[at + 1], s[at + 2], s[at + 3]);
-    (four == FOUR_BLANKS) & (s[at + 4] == BLANK)
-}
-
-// What a line takes out of the field at `at`, which is read only where it is in use.
-fn taken_out_at(s: &[u8], at: usize, used: bool) -> Field
-    requires { at + 5 ≤ length s.now }
-    ensures { result ≡ taken_out used (field_at s.now at) }
-{
-    if used {
-        return taken_out(digit_field(s, at), true);
-    }
-    if all_blank(s, at) {
-        return Field::Number(0);
-    }
-    Field::Bad
-}
-
-// The line that starts at `at`, field by field.
-fn line_from(f: &[u8], at: usize) -> Line
-    requires { at + line_length ≤ length f.now }
-    ensures { result ≡ line_from f.now at }
-{
-    let k = letter(f[at]);
-    if k < 1 {
-        return no_line();
-    }
-    let Field::Number(a) = field(at_once(f, at + 1), f, at + 1) else {
-        return no_line();
-    };
-    let Field::Number(b) = field(at_once(f, at + 6), f, at + 6) else {
-        return no_line();
-    };
-    let Field::Number(c) = taken_out_at(f, at + 11, 3 <= field_count(k)) else {
-        return no_line();
-    };
-    let Field::Number(d) = taken_out_at(f, at + 16, 4 <= field_count(k)) else {
-        return no_line();
-    };
-    if f[at + 21] != NEWLINE {
-        return no_line();
-    }
-    Line {
-        letter: k,
-        a,
-        b,
-        c,
-        d,
-    }
-}
+const NO_LINE: Line = Line {
+    letter: 0,
+    a: 0,
+    b: 0,
+    c: 0,
+    d: 0,
+};
 
 // Line k of the file, counted from 1; a malformed one where the file has fewer.
+#[inline(always)]
 pub fn line(f: &[u8], k: usize) -> Line
     ensures { result ≡ line_at f.now k }
 {
-    let mut i = 0;
-    if 1 < k {
-        i = k - 1;
-    }
-    if f.len() / LINE_LENGTH <= i {
-        return no_line();
-    }
-    line_from(f, LINE_LENGTH * i)
+    let Some(bytes) = whole_lines(f).get(k.saturating_sub(1)) else {
+        return NO_LINE;
+    };
+    line_from(bytes).unwrap_or(NO_LINE)
+}
+
+// Line 1 of the file.
+pub fn first_line(f: &[u8]) -> Line
+    ensures { result ≡ line_at f.now 1 }
+{
+    line(f, 1)
 }
 
 // What a column counts: a digit its value, and a blank 0.
@@ -377,25 +295,25 @@ fn digit(x: u8) -> usize
     (x % 16) as usize
 }
 
-// What the five columns at `at` come to, where they are known to be a number.
-fn figure(s: &[u8], at: usize) -> usize
-    requires { at + 5 ≤ length s.now }
-    ensures { result ≡ figure s.now at }
+// What five columns come to, where they are known to be a number.
+fn figure(bytes: &[u8; FIELD_LENGTH]) -> usize
+    ensures { result ≡ figure bytes.now 0 }
 {
-    let high = 10000 * digit(s[at]) + 1000 * digit(s[at + 1]);
-    let low = 10 * digit(s[at + 3]) + digit(s[at + 4]);
-    high + (100 * digit(s[at + 2]) + low)
+    let [v, w, x, y, z] = *bytes;
+    let high = 10000 * digit(v) + 1000 * digit(w);
+    let low = 10 * digit(y) + digit(z);
+    high + (100 * digit(x) + low)
 }
 
-// What the five columns from column k on of line i + 1 come to, or 0 where the part has no such line.
-fn figure_of(p: &[u8], i: usize, k: usize) -> usize
-    requires { k ≤ 17 }
-    ensures { result ≡ figure_of k p.now (i + 1) }
+// What field j of line i + 1 comes to, the first being field 0, or 0 where the part has no such line.
+fn figure_of(p: &[u8], i: usize, j: usize) -> usize
+    requires { j < 4 }
+    ensures { result ≡ figure_of (5 * j + 1) p.now (i + 1) }
 {
-    if p.len() / LINE_LENGTH <= i {
+    let Some(line) = whole_lines(p).get(i) else {
         return 0;
-    }
-    figure(p, LINE_LENGTH * i + k)
+    };
+    figure(&fields(line)[j])
 }
 
 // The first number of line i + 1 of a part whose lines are known to be well formed, or 0 where the
@@ -403,47 +321,37 @@ fn figure_of(p: &[u8], i: usize, k: usize) -> usize
 pub fn first_number(p: &[u8], i: usize) -> usize
     ensures { result ≡ one p.now (i + 1) }
 {
-    figure_of(p, i, 1)
+    figure_of(p, i, 0)
 }
 
 // The second.
 pub fn second_number(p: &[u8], i: usize) -> usize
     ensures { result ≡ two p.now (i + 1) }
 {
-    figure_of(p, i, 6)
+    figure_of(p, i, 1)
 }
 
 // The third.
 pub fn third_number(p: &[u8], i: usize) -> usize
     ensures { result ≡ three p.now (i + 1) }
 {
-    figure_of(p, i, 11)
+    figure_of(p, i, 2)
 }
 
 // How many lines at the front of a part have the letter.
 pub fn leading(p: &[u8], letter: u8) -> usize
     ensures { Leads p.now letter result }
 {
-    let n = p.len() / LINE_LENGTH;
-    let mut i = 0;
-    while i < n {
-        if p[LINE_LENGTH * i] != letter {
-            return i;
-        }
-        i += 1;
-    }
-    n
+    whole_lines(p)
+        .iter()
+        .take_while(|line| line[0] == letter)
+        .count()
 }
 
 // The part of the file that starts after its first j lines.
 pub fn part(f: &[u8], j: usize) -> &[u8]
     ensures { result.now ≡ part f.now j }
 {
-    let n = f.len() / LINE_LENGTH;
-    if n < j {
-        let end = f.len();
-        return &f[end..];
-    }
-    let at = LINE_LENGTH * j;
+    let at = LINE_LENGTH.saturating_mul(j).min(f.len());
     &f[at..]
 }

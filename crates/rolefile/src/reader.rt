@@ -23,3 +23,26 @@ pub fn next_line<'a>(r: Reader<'a>) -> Line
 {
     read::line(r.file, r.next)
 }
+
+// Its next line with its number, and so to the file's last line.
+impl<'a> Iterator for Reader<'a> {
+    ghost use Rattle.std.specs.Prelude.{◌+◌, ◌-◌};
+    ghost use Rattle.std.specs.Iterator.{at_most};
+    ghost use Rattle.rolefile.specs.Line.{lines};
+    ghost use Rattle.rolefile.specs.Reader.{GivesLine};
+
+    type Item = (usize, Line);
+
+    ghost next_gives = { GivesLine };
+
+    ghost remaining = { λ r. at_most (lines r.file.now + 1 - r.next) };
+
+    fn next(&mut self) -> Option<(usize, Line)> {
+        let r = *self;
+        if r.file.len() / read::LINE_LENGTH < r.next {
+            return None;
+        }
+        self.next += 1;
+        Some((r.next, next_line(r)))
+    }
+}

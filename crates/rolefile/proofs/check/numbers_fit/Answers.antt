@@ -4,4 +4,4 @@ use Rattle.rolefile.proofs.check.numbers_fit.Goals as goal
 
 pub returns : goal.returns
 unfolding ranged
-returns c = rw (c.among.ensures, c.among-two.ensures, c.limits_of-limits.ensures.1, c.among-one.ensures, c.limits_of-limits.ensures.0)
+returns c = rw (c.among.ensures, c.among-two.ensures, c.limits_of-first.ensures.1, c.among-one.ensures, c.limits_of-first.ensures.0)

@@ -1,5 +1,5 @@
--- The first refusal is that of all lines; where there is none, the loop has looked at all of them.
-use Rattle.std.proofs.Common.{◌≡◌, ◌-◌, ◌+◌, arith}
+-- The first refusal is that of all lines; where there is none, the reader has given all of them.
+use Rattle.std.proofs.Common.{◌≡◌, ◌≤◌, ◌-◌, ◌+◌, arith}
 use Rattle.std.proofs.lemmas.Result.{err_from_is_err_and}
 use Rattle.rolefile.specs.Line.{lines}
 use Rattle.rolefile.proofs.Scanning.{head_stops, head_passes, line_stops, line_passes}
@@ -13,23 +13,34 @@ returns-in_err-head c =
 pub returns-in_err-body : goal.returns-in_err-body
 returns-in_err-body c =
     let i = c.loop-k.invariant in
+    let s = c.in-Some.ensures.steps in
     let p = err_from_is_err_and c.from_residual-in_err-body.result c.from_residual-in_err-body.ensures.1 in
-    rw (p.1, p.2) (line_stops _ c.loop-k.k (omega arith) i.clean _ (omega arith) (rw (i.head, i.before, c.next_line-line.ensures, c.from_line.ensures.0, c.from_line.ensures.1) at c.in_err-body.ensures))
+    rw (p.1, p.2) (line_stops _ c.loop-k.k-iterator.next i.from i.clean _ (rw i.file at s.0) (rw (i.head, i.before, s.1, s.2, i.file) at c.in_err-body.ensures))
 
 pub loop-k-init : goal.loop-k-init
-loop-k-init c = record { head = c.first_line-h.ensures; before = c.first_line-h.ensures; clean = head_passes _ (rw c.first_line-h.ensures at c.in_ok-head.ensures) }
+loop-k-init c =
+    let e = c.into_iter-k-iterator.ensures.into_iter_gives in
+    rw (e, c.from_line-k-items.ensures.1) (record {
+      file = rw c.from_line-k-items.ensures.0;
+      from = omega arith;
+      upto = omega (arith, c.requires);
+      head = c.first_line-h.ensures;
+      before = c.first_line-h.ensures;
+      clean = head_passes _ (rw c.first_line-h.ensures at c.in_ok-head.ensures);
+    })
 
 pub loop-k-preserved : goal.loop-k-preserved
 loop-k-preserved c =
     let i = c.loop-k.invariant in
-    let e : c.loop-k.k + 1 - 1 ≡ c.loop-k.k = omega arith in
-    rw e (record {
+    let s = c.in-Some.ensures.steps in
+    let k = c.loop-k.k-iterator.next in
+    let e : k + 1 - 1 ≡ k = omega arith in
+    let within : k ≤ lines c.args.f.now = rw i.file at s.0 in
+    rw (s.4, e) (record {
+      file = rw s.3 i.file;
+      from = omega (arith, i.from);
+      upto = omega (arith, within);
       head = i.head;
-      before = rw (c.from_line.ensures.0, c.from_line.ensures.1) at c.next_line-line.ensures;
-      clean = line_passes _ c.loop-k.k (omega arith) i.clean (rw (i.head, i.before, c.next_line-line.ensures, c.from_line.ensures.0, c.from_line.ensures.1) at c.in_ok-body.ensures);
+      before = rw i.file at s.2;
+      clean = line_passes _ k i.from i.clean (rw (i.head, i.before, s.1, s.2, i.file) at c.in_ok-body.ensures);
     })
-
-pub returns : goal.returns
-returns c =
-    let e : c.loop-k.k - 1 ≡ lines c.args.f.now = omega arith in
-    rw (← e) c.loop-k.invariant.clean

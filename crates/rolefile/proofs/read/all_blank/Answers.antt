@@ -3,4 +3,4 @@ use Rattle.rolefile.proofs.Reading.{blank_tested}
 use Rattle.rolefile.proofs.read.all_blank.Goals as goal
 
 pub returns : goal.returns
-returns c = rw c.four-four.ensures.0 (blank_tested c.args.s.now c.args.at (λ i. (c.type_inv.s i).fits))
+returns c = rw c.from_le_bytes.ensures (blank_tested c.args.bytes.now c.told-bytes c.fits-bytes)

@@ -1,15 +1,16 @@
--- A line that the part has, or 0.
-use Prim.Native.Nat.{◌+◌}
+-- A field of a line that the part has, or 0.
+use Rattle.std.proofs.Common.{◌∙◌, ◌+◌, ◌*◌, []}
+use Rattle.std.proofs.Common.{arith}
+use borrow.Author.Tests.{le-leb}
 use native.Mathlib.Nat.{add-sub_cancel}
-use native.Mathlib.Omega.{arith}
-use borrow.Author.Tests.{le-leb, lt-leb}
-use Rattle.rolefile.specs.Line.{lines}
+use Rattle.rolefile.specs.Line.{line_length, lines}
+use Rattle.rolefile.proofs.Reading.{line_there, figure_there}
 use Rattle.rolefile.proofs.read.figure_of.Goals as goal
-
-pub returns-then-p-i : goal.returns-then-p-i
-returns-then-p-i c = let a = c.args in rw (lt-leb (a.i + 1) (lines a.p.now) (omega arith))
 
 pub returns : goal.returns
 returns c =
     let a = c.args in
-    rw (le-leb (a.i + 1) (lines a.p.now) (omega arith), add-sub_cancel a.i 1) c.figure.ensures
+    let found = c.in-Some.ensures.lookup.3 in
+    let line = found.1 [] ∙ line_there a.p.now _ c.whole_lines.ensures.value a.i (omega (arith, found.0, c.whole_lines.ensures.len)) in
+    rw (le-leb (a.i + 1) (lines a.p.now) (omega (arith, found.0, c.whole_lines.ensures.len)), add-sub_cancel a.i 1)
+    (c.figure.ensures ∙ figure_there a.p.now (line_length * a.i) a.j _ _ c.requires line c.fields.ensures)

@@ -1,33 +1,17 @@
--- The lines so far have the letter; the loop stops at the first that has not.
-use mathlib.Core.Path.{◌≡◌}
-use native.Mathlib.Nat.{add-sub_cancel}
-use native.Mathlib.Omega.{arith}
-use borrow.Author.Rules.{rules}
-use Rattle.search.proofs.Found.{among_next}
-use Rattle.rolefile.specs.Line.{lines}
-use Rattle.rolefile.specs.inner.Section.{letter_at}
+-- The lines that pass at the front.
+use Rattle.std.proofs.Common.{◌∙◌, rules, tests, eqb, get_or, List, ℕ, Bool}
+use Rattle.std.proofs.lemmas.Iterator.{YieldsList-from_slice}
+use Rattle.std.proofs.lemmas.Iterator.Consumers.{count_from_yields_List}
+use Rattle.std.proofs.lemmas.Iterator.Search.{YieldsList-from_take_while}
+use Rattle.std.proofs.lemmas.List.Folds.{length-prefix_len}
+use Rattle.rolefile.proofs.Reading.{leads}
 use Rattle.rolefile.proofs.read.leading.Goals as goal
-
-pub returns-then-p-i : goal.returns-then-p-i
-unfolding letter_at
-returns-then-p-i c =
-    let w = c.loop-i in
-    record { fits = w.invariant.0; front = w.invariant.1; next = λ l e. c.if-p-i.true (rw (add-sub_cancel w.i 1) at e) }
-
-pub loop-i-preserved : goal.loop-i-preserved
-unfolding letter_at
-loop-i-preserved c =
-    let w = c.loop-i in (
-      search rules,
-      among_next _ w.i w.invariant.1 (rw (add-sub_cancel w.i 1) c.if-p-i.false),
-    )
 
 pub returns : goal.returns
 returns c =
-    let w = c.loop-i in
-    let p = c.args.p.now in
-    let q : w.i ≡ lines p = omega arith in
-    record { fits = omega arith; front = rw q at w.invariant.1; next = λ l e. omega arith }
-
-pub loop-i-init : goal.loop-i-init
-loop-i-init c = (search rules, λ j u. absurd (omega arith))
+    let whole = c.whole_lines.result.now in
+    let has : List ℕ → Bool = λ l. eqb (get_or l 0 0) c.args.letter in
+    leads c.args.p.now whole c.whole_lines.ensures.value c.args.letter c.count.result c.whole_lines.ensures.len
+    (count_from_yields_List c.take_while.result _ c.count.ensures.ran
+    (YieldsList-from_take_while _ has (YieldsList-from_slice whole cc) c.take_while.ensures.closure c.take_while.ensures.done (λ x b q k. search (rules, tests)))
+    ∙ length-prefix_len has whole)

@@ -1,22 +1,19 @@
 -- A line past the file's end has no byte 10.
-use Prim.Native.Nat.{◌*◌, ◌-◌}
-use mathlib.Core.Path.{◌≡◌, ◌∙◌}
-use native.Mathlib.Omega.{arith}
-use borrow.Author.Rules.{rules}
+use Rattle.std.proofs.Common.{◌∙◌, ◌*◌, ◌-◌, [], arith}
 use Rattle.rolefile.specs.Line.{line_length, line_at}
-use Rattle.rolefile.proofs.Reading.{past_end}
-use Rattle.rolefile.proofs.read.line.Goals.{Joined-k-gt1, then-k-gt1, else-k-gt1}
+use Rattle.rolefile.proofs.Reading.{past_end, line_of_piece, line_there}
 use Rattle.rolefile.proofs.read.line.Goals as goal
 
--- the place that the branch chose
-chosen : (c : Joined-k-gt1) → c.if-k-gt1.i ≡ c.args.k - 1
-chosen c = elim c.if-k-gt1.branch [ then-k-gt1 w ↦ omega arith | else-k-gt1 w ↦ omega arith ]
-
-pub returns-then-f-i : goal.returns-then-f-i
+pub returns-in_default : goal.returns-in_default
 unfolding line_at
-returns-then-f-i c =
-    rw (← (chosen (goal.at.returns-then-f-i c).Joined-k-gt1)) (c.no_line.ensures ∙ past_end c.args.f.now (line_length * c.if-k-gt1.i) (search rules))
+returns-in_default c =
+    let a = c.args in
+    past_end a.f.now (line_length * (a.k - 1)) (omega (arith, c.in_default.ensures.lookup.3, c.whole_lines.ensures.len, c.saturating_sub.ensures))
 
 pub returns : goal.returns
 unfolding line_at
-returns c = rw (← (chosen (goal.at.returns c).Joined-k-gt1)) c.line_from.ensures
+returns c =
+    let a = c.args in
+    let found = c.in-Some.ensures.lookup.3 in
+    let line = found.1 [] ∙ line_there a.f.now _ c.whole_lines.ensures.value _ (omega (arith, found.0, c.whole_lines.ensures.len)) in
+    c.unwrap_or.ensures ∙ c.line_from.ensures ∙ rw (line, c.saturating_sub.ensures) (line_of_piece a.f.now (line_length * (a.k - 1)))

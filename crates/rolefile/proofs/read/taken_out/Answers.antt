@@ -1,23 +1,23 @@
--- By cases on the field and on whether it is in use.
+-- By cases on whether the field is in use, and then on what it says.
+use Rattle.std.proofs.Common.{sym, ◌∙◌, inl, inr}
 use Rattle.rolefile.specs.inner.Field.{taken_out}
+use Rattle.rolefile.proofs.Reading.{taken_blank, taken_spoilt}
 use Rattle.rolefile.proofs.read.taken_out.Goals as goal
 
-pub returns-then-used : goal.returns-then-used
-unfolding taken_out
-returns-then-used c = rw (c.in-Blank.is, c.if-used.true)
+pub returns-then-all_blank : goal.returns-then-all_blank
+returns-then-all_blank c = rw c.if-not-used.true (taken_blank _ (sym c.all_blank.ensures ∙ c.if-all_blank.true))
 
-pub returns-else-used : goal.returns-else-used
-unfolding taken_out
-returns-else-used c = rw (c.in-Blank.is, c.if-used.false)
+pub returns-else-all_blank : goal.returns-else-all_blank
+returns-else-all_blank c = rw c.if-not-used.true (taken_spoilt _ (sym c.all_blank.ensures ∙ c.if-all_blank.false))
 
-pub returns-then-used-2 : goal.returns-then-used-2
+pub returns-in-Number : goal.returns-in-Number
 unfolding taken_out
-returns-then-used-2 c = rw (c.in-Number.is, c.if-used-2.true)
+returns-in-Number c = rw (c.if-not-used.false, ← c.digit_field.ensures, c.in-Number.is)
 
-pub returns-else-used-2 : goal.returns-else-used-2
+pub returns-in-Blank : goal.returns-in-Blank
 unfolding taken_out
-returns-else-used-2 c = rw (c.in-Number.is, c.if-used-2.false)
-
-pub returns-in-Bad : goal.returns-in-Bad
-unfolding taken_out
-returns-in-Bad c = rw c.in-Bad.is
+returns-in-Blank c =
+    elim c.in-Blank.is [
+      | inl e ↦ rw (c.if-not-used.false, ← c.digit_field.ensures, e)
+      | inr e ↦ rw (c.if-not-used.false, ← c.digit_field.ensures, e)
+    ]
