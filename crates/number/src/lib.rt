@@ -7,12 +7,12 @@ ghost use Rattle.std.specs.Prelude.{◌≡◌, ◌+◌, ◌*◌, ◌<◌};
 pub fn two(a: u8, b: u8) -> u64
     ensures { (result ≡ a + 256 * b) × (result < 65536) }
 {
-    a as u64 + 256 * (b as u64)
+    u64::from(u16::from_le_bytes([a, b]))
 }
 
 // The number in four bytes.
 pub fn four(a: u8, b: u8, c: u8, d: u8) -> u64
     ensures { (result ≡ a + 256 * b + 65536 * c + 16777216 * d) × (result < 4294967296) }
 {
-    two(a, b) + 65536 * two(c, d)
+    u64::from(u32::from_le_bytes([a, b, c, d]))
 }

@@ -9,5 +9,5 @@ ghost use Rattle.search.specs.Search.{among};
 pub fn among(n: u64, x: u64) -> bool
     ensures { result ≡ among n x }
 {
-    (1 <= x) & (x <= n)
+    (1..=n).contains(&x)
 }
