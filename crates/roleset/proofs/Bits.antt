@@ -5,7 +5,7 @@ use Prim.Native.Nat.{ℕ, zero, suc, ◌+◌, ◌-◌, ◌*◌, ◌/◌, ◌%◌
 use mathlib.Core.Path.{◌≡◌, refl, sym, ap, ap₂, ◌∙◌}
 use mathlib.Core.Logic.{◌↔◌}
 use mathlib.Core.Bool.{Bool, true, false, not, ◌&&◌, ◌||◌, cond, or-true, or-false}
-use native.Mathlib.Nat.{one-mul, zero-mul, zero-div, zero-mod, div-one, mul-mod_left, mul-div_cancel, div-div-eq-div-mul, pow-suc, pow-succ'}
+use native.Mathlib.Nat.{one-mul, zero-mul, zero-div, zero-mod, div-one, mul-mod_left, mul-div_cancel, div-eq_of_lt, div-div-eq-div-mul, pow-suc, pow-succ'}
 use native.Mathlib.Omega.{arith}
 use native.Mathlib.Decide.{dec_lt}
 use lib.Count.{under, count_trailing_zeros}
@@ -19,7 +19,6 @@ use Rattle.search.proofs.Truth.{and-iff, same, either}
 use Rattle.search.proofs.Found.{None, every_in}
 use Rattle.roleset.specs.Row.{bit}
 use Rattle.roleset.specs.Set.{bits_of}
-use Rattle.roleset.specs.inner.Halves.{little_endian}
 
 -- a binary digit, from whether it is 1
 abbrev digit : Bool → ℕ
@@ -101,6 +100,17 @@ bit_mod k x j l =
     let cut : x % 2 ^ k % 2 ^ (1 + j) ≡ x % 2 ^ (1 + j) = rw e at (mod-mod-pow x (k - (1 + j)) (1 + j)) in
     ap (λ (d : ℕ). eqb d 1) (sym (field (x % 2 ^ k) 1 j) ∙ ap (λ (d : ℕ). d / 2 ^ j) cut ∙ field x 1 j)
 
+-- below a number that was shifted left are zeros, and then its bits
+pub bit_shl_low : (x k j : ℕ) → j < k → bit (x * 2 ^ k) j ≡ false
+bit_shl_low x k j l = sym (bit_mod k (x * 2 ^ k) j l) ∙ rw (mul-mod_left x (2 ^ k)) (bit_zero j)
+
+pub bit_shl : (x k j : ℕ) → bit (x * 2 ^ k) (k + j) ≡ bit x j
+bit_shl x k j = sym (bit_shr (x * 2 ^ k) k j) ∙ ap (λ (y : ℕ). bit y j) (mul-div_cancel x {n = 2 ^ k} (pow_pos k))
+
+-- a number of k bits has none from there on
+pub bit_past : (x k j : ℕ) → x < 2 ^ k → bit x (k + j) ≡ false
+bit_past x k j l = sym (bit_shr x k j) ∙ rw (div-eq_of_lt l) (bit_zero j)
+
 -- `1 << k` at a number of w bits, and at a byte
 pub one_shifted : (w k : ℕ) → k < w → 1 * 2 ^ k % 2 ^ w ≡ 2 ^ k
 one_shifted w k l = shl_exact {a = 1} 1 k w (omega arith) (omega arith) ∙ one-mul (2 ^ k)
@@ -165,6 +175,11 @@ or_none x y =
     let left = and_le_l x y in
     let right = and_le_r x y in
     (λ e. omega arith, λ e. omega arith)
+
+-- the number whose n bytes are f's, the first of them lowest
+unfoldable pub little_endian : ℕ → (ℕ → ℕ) → ℕ
+little_endian zero f = 0
+little_endian (suc n) f = f 0 + 256 * little_endian n (λ k. f (suc k))
 
 -- a number of n bytes has 8 bits for each
 pub bytes_below : (n : ℕ) (f : ℕ → ℕ) → ((k : ℕ) → f k < 256) → little_endian n f < 2 ^ (8 * n)

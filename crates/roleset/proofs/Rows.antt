@@ -1,21 +1,19 @@
 -- Rows as sets: what a row holds after its bytes are changed, and that `Placed` settles every byte and leaves the other rows alone.
 -- Assumes nothing.
-use Prim.Native.Nat.{ℕ, ◌+◌, ◌-◌, ◌*◌, ◌%◌, ◌^◌, ◌≤◌, ◌<◌}
-use mathlib.Core.Path.{◌≡◌, refl, sym, ap, ◌∙◌}
-use mathlib.Core.Logic.{◌⊎◌, inl, inr, ⊎_elim}
-use mathlib.Core.Bool.{Bool, true, false, ◌&&◌, cond, or-true, or-false, and-true, and-false}
-use mathlib.Core.List.{List}
-use native.Mathlib.Omega.{arith}
+use Rattle.std.proofs.Common.{ℕ, ◌+◌, ◌-◌, ◌*◌, ◌%◌, ◌^◌, ◌≤◌, ◌<◌, ◌≡◌, refl, sym, ap, ◌∙◌, ◌⊎◌, inl, inr, Bool, true, false, ◌&&◌, cond, List, [], ◌++◌, take, drop, length, get_or, set, replicate, eqb, leb, bit_or, bit_xor, zero-add, length-drop, take_all, append-nil, arith}
+use Rattle.std.proofs.lemmas.List.{get_or-take, get_or-drop, get_or_append_left, get_or-append-add, length-take, take-append-drop}
+use Rattle.std.proofs.Math.Seq.{get_or-append_right, get_or-set_same, get_or-set_other, ext_get_or}
+use mathlib.Core.Logic.{⊎_elim}
+use mathlib.Core.Bool.{or-true, or-false, and-true, and-false}
 use native.Mathlib.Decide.{dec_le, dec_lt, ℕ_discrete}
-use lib.Bits.{bit_or, bit_xor}
-use lib.Dec.{eqb, leb}
-use lib.ListN.{length, get_or, set, replicate, length-set, get_or-replicate}
-use lib.Seq.{get_or-set_same, get_or-set_other, ext_get_or}
+use lib.ListN.{length-set, get_or-replicate, drop_of_length-le}
 use borrow.Author.Count.{below_more}
+use borrow.Rule.Slice.PartMut.{mid_of, put_mid}
 use borrow.Author.Tests.{le-leb, eq-eqb, ne_eqb}
+use Rattle.std.specs.Array.{IsFirstChunk}
 use Rattle.search.specs.Search.{among, Among}
 use Rattle.search.proofs.Truth.{and-iff, and_when, among_iff, both}
-use Rattle.roleset.specs.Row.{AllBytes, bit, row_of, role_byte, role_bit, whole, member, added, removed, RowCopy, Kept, Placed, PlacedRows}
+use Rattle.roleset.specs.Row.{AllBytes, bit, row_of, role_byte, role_bit, whole, member, added, removed, united_where, RowCopy, Kept, Placed, PlacedRows}
 use Rattle.roleset.proofs.Bits.{bit_zero, bit_on, bit_off, same_bits}
 
 pub whole_true : (xs : List ℕ) (at : ℕ) → at + 16 ≤ length xs → whole xs at ≡ true
@@ -111,6 +109,73 @@ no_row e = unwritten (λ l. absurd (both (le-leb _ _ l) e))
 -- the same set by another name
 pub placed_as : {at : ℕ} {s t : ℕ → Bool} {xs ys : List ℕ} → ((r : ℕ) → s r ≡ t r) → Placed at s xs ys → Placed at t xs ys
 placed_as e p = record { row = λ l r. p.row l r ∙ e r; rest = p.rest; none = p.none }
+
+-- ---- a row at the front
+
+-- the bytes of a row by themselves
+module _ (xs row : List ℕ) (h : IsFirstChunk xs row 16) where
+  pub first_long : length row ≡ 16
+  first_long = let e = h.enough in rw h.same (omega (arith, length-take 16 xs))
+
+  pub first_roles : (r : ℕ) → member row 0 r ≡ member xs 0 r
+  first_roles = same_bytes xs row 0 0 (λ k l. rw h.same (get_or-take 16 xs (0 + k) 0 (omega arith)))
+
+-- the row is written, by itself, and stands before the bytes after it
+pub placed_first : {s : ℕ → Bool} (xs row : List ℕ) → 16 ≤ length xs → length row ≡ 16 → ((r : ℕ) → member row 0 r ≡ s r)
+    → Placed 0 s xs (row ++ drop 16 xs)
+placed_first {s} xs row fits long h = record {
+  row = λ l r. same_bytes row (row ++ drop 16 xs) 0 0 (λ k m. get_or_append_left row (drop 16 xs) 0 (0 + k) (omega arith)) r ∙ h r;
+  rest = λ i o.
+      let place : 16 + (i - 16) ≡ i = omega (arith, o (omega arith)) in
+      get_or-append_right row (drop 16 xs) i 0 (omega arith)
+      ∙ rw (long, get_or-drop 16 xs (i - 16) 0, place);
+  none = λ l. absurd (omega arith);
+}
+
+-- the bytes from `at` on begin with the row at `at`
+module _ (at : ℕ) (xs : List ℕ) (inside : at ≤ length xs) where
+  from_there : mid_of at (length xs - at) xs ≡ drop at xs
+  from_there = take_all (length xs - at) (drop at xs) (rw (length-drop at xs) (omega arith))
+
+  pub front : (r : ℕ) → member (mid_of at (length xs - at) xs) 0 r ≡ member xs at r
+  front r = rw from_there (same_bytes xs (drop at xs) at 0 (λ k l. rw (zero-add k) (get_or-drop at xs k 0)) r)
+
+  pub where_front : (k : ℕ) (other : List ℕ) (r : ℕ) → united_where (mid_of at (length xs - at) xs) 0 k other r ≡ united_where xs at k other r
+  where_front k other r = rw (front r, front k)
+
+  -- and where they are written so is that row
+  module _ (new : List ℕ) (long : length new ≡ length (mid_of at (length xs - at) xs)) where
+    reach : length new + at ≡ length xs
+    reach = omega (arith, rw (from_there, length-drop at xs) at long)
+
+    before : length (take at xs) ≡ at
+    before = omega (arith, length-take at xs)
+
+    written : put_mid at (length xs - at) xs new ≡ take at xs ++ new
+    written =
+        let none : drop (length xs - at) (drop at xs) ≡ [] = drop_of_length-le (drop at xs) (rw (length-drop at xs) (omega arith)) in
+        rw (none, append-nil new)
+
+    after : (k : ℕ) → get_or (take at xs ++ new) (at + k) 0 ≡ get_or new k 0
+    after k = rw before at (get_or-append-add (take at xs) new k 0)
+
+    pub placed_from : {s t : ℕ → Bool} → Placed 0 t (mid_of at (length xs - at) xs) new → ((r : ℕ) → t r ≡ s r)
+        → Placed at s xs (put_mid at (length xs - at) xs new)
+    placed_from {s} {t} p same = rw written (from (rw from_there at p))
+      where
+        from : Placed 0 t (drop at xs) new → Placed at s xs (take at xs ++ new)
+        from q = record {
+          row = λ l r.
+              same_bytes new (take at xs ++ new) 0 at (λ k m. rw (zero-add k) (after k)) r
+              ∙ q.row (rw (length-drop at xs) (omega arith)) r ∙ same r;
+          rest = λ i o. elim (dec_lt i at) [
+            | yes m ↦ let f = before in get_or_append_left (take at xs) new 0 i (omega arith) ∙ get_or-take at xs i 0 m
+            | no m ↦
+                let place : at + (i - at) ≡ i = omega arith in
+                rw place at (after (i - at) ∙ q.rest (i - at) (λ n. omega (arith, o (omega arith))) ∙ get_or-drop at xs (i - at) 0)
+          ];
+          none = λ l. rw (q.none (rw (length-drop at xs) (omega arith))) (take-append-drop at xs);
+        }
 
 -- ---- bytes kept
 

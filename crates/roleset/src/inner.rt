@@ -1,139 +1,125 @@
-// The same for a row that is known to lie in the slice, and the tests that tell.
-ghost use Rattle.std.specs.Prelude.{◌≡◌, true, ◌&&◌, ℕ, ◌+◌, ◌-◌, ◌*◌, ◌≤◌, leb, length};
-ghost use Rattle.search.specs.Search.{among, some, first, thing, Among};
-ghost use Rattle.roleset.specs.Row.{member, next_member, Placed, PlacedRows, added, removed, united, united_where};
+// One row by itself: its 16 bytes, or the bytes from its first on.
+ghost use Rattle.std.specs.Prelude.{◌≡◌, true, false, ◌&&◌, ℕ, length, MatchOption};
+ghost use Rattle.search.specs.Search.{among, some, first, thing};
+ghost use Rattle.roleset.specs.Row.{whole, member, next_member, Placed, added, removed, united, united_where};
 ghost use Rattle.roleset.specs.Set.{in_set, low_of, high_of};
-ghost use Rattle.roleset.specs.inner.Halves.{bit_after, half_at};
+ghost use Rattle.roleset.specs.inner.Number.{bit_after, HasRoles};
 
 use super::{ROLES, ROW_BYTES};
 
-// The roles of half a row.
-const HALF_ROLES: usize = ROLES / 2;
+pub type Row = [u8; ROW_BYTES];
 
-// The bytes of half a row.
-const HALF_BYTES: usize = ROW_BYTES / 2;
-
-// Whether the row at `at` lies wholly in `len` bytes.
-pub fn lies(len: usize, at: usize) -> bool
-    ensures { result ≡ leb (at + 16) len }
+// The row at `at`, if it lies wholly in the slice.
+pub fn row(s: &[u8], at: usize) -> Option<&Row>
+    ensures { MatchOption result (whole s.now at ≡ false) (λ y. (whole s.now at ≡ true) × ((r : ℕ) → member y.now 0 r ≡ member s.now at r)) }
 {
-    super::rows_lie(len, at, 1)
+    s.get(at..)?.first_chunk()
 }
 
 // Whether the number is a role's.
-pub fn is_role(role: usize) -> bool
+fn is_role(role: usize) -> bool
     ensures { result ≡ among 128 role }
 {
     search::among(ROLES as u64, role as u64)
 }
 
-pub fn has(s: &[u8], at: usize, role: usize) -> bool
-    requires { (at + 16 ≤ length s.now) × Among 128 role }
-    ensures { result ≡ member s.now at role }
+pub fn has(row: &Row, role: usize) -> bool
+    ensures { result ≡ member row.now 0 role }
 {
-    (s[at + (role - 1) / 8] >> ((role - 1) % 8)) % 2 == 1
+    is_role(role) && (row[(role - 1) / 8] >> ((role - 1) % 8)) % 2 == 1
 }
 
-pub fn add(s: &mut [u8], at: usize, role: usize)
-    requires { (at + 16 ≤ length s.old) × Among 128 role }
-    ensures { Placed at (added s.old at role) s.old s.new }
+// Puts the role into the row that the bytes begin with. Too few of them are no row, and stay.
+pub fn add(from: &mut [u8], role: usize)
+    ensures { Placed 0 (added from.old 0 role) from.old from.new }
 {
-    let i = at + (role - 1) / 8;
-    s[i] = s[i] | (1 << ((role - 1) % 8));
-}
-
-pub fn remove(s: &mut [u8], at: usize, role: usize)
-    requires { (at + 16 ≤ length s.old) × (member s.old at role ≡ true) }
-    ensures { Placed at (removed s.old at role) s.old s.new }
-{
-    let i = at + (role - 1) / 8;
-    s[i] = s[i] ^ (1 << ((role - 1) % 8));
-}
-
-pub fn row(s: &[u8], at: usize) -> [u8; ROW_BYTES]
-    requires { at + 16 ≤ length s.now }
-    ensures { (r : ℕ) → member result 0 r ≡ member s.now at r }
-{
-    let mut row = [0u8; ROW_BYTES];
-    let mut i = 0;
-    while i < ROW_BYTES {
-        row[i] = s[at + i];
-        i += 1;
-    }
-    row
-}
-
-pub fn unite(s: &mut [u8], at: usize, other: [u8; ROW_BYTES])
-    requires { at + 16 ≤ length s.old }
-    ensures { Placed at (united s.old at other) s.old s.new }
-{
-    let mut i = 0;
-    while i < ROW_BYTES {
-        s[at + i] = s[at + i] | other[i];
-        i += 1;
+    if let Some(row) = from.first_chunk_mut::<ROW_BYTES>() {
+        if is_role(role) {
+            row[(role - 1) / 8] |= 1 << ((role - 1) % 8);
+        }
     }
 }
 
-fn unite_where(s: &mut [u8], at: usize, role: usize, other: [u8; ROW_BYTES])
-    requires { (at + 16 ≤ length s.old) × Among 128 role }
-    ensures { Placed at (united_where s.old at role other) s.old s.new }
+pub fn remove(from: &mut [u8], role: usize)
+    ensures { Placed 0 (removed from.old 0 role) from.old from.new }
 {
-    if has(s, at, role) {
-        unite(s, at, other);
+    if let Some(row) = from.first_chunk_mut::<ROW_BYTES>() {
+        if has(row, role) {
+            row[(role - 1) / 8] ^= 1 << ((role - 1) % 8);
+        }
     }
 }
 
-pub fn unite_rows(s: &mut [u8], at: usize, n: usize, role: usize, other: [u8; ROW_BYTES])
-    requires { (at + 16 * n ≤ length s.old) × Among 128 role }
-    ensures { PlacedRows at n (λ i. united_where s.old (at + 16 * i) role other) s.old s.new }
+fn join(row: &mut Row, other: Row)
+    ensures long { length row.new ≡ 16 }
+    ensures roles { (r : ℕ) → member row.new 0 r ≡ united row.old 0 other r }
 {
-    let mut i = 0;
-    while i < n {
-        unite_where(s, at + ROW_BYTES * i, role, other);
-        i += 1;
+    for i in 0..ROW_BYTES {
+        row[i] |= other[i];
     }
 }
 
-// Half a row as one number, the first byte lowest: the compiler makes one load of it.
-fn half(s: &[u8], at: usize) -> u64
-    requires { at + 8 ≤ length s.now }
-    ensures { result ≡ half_at s.now at }
+pub fn unite(from: &mut [u8], other: Row)
+    ensures { Placed 0 (united from.old 0 other) from.old from.new }
 {
-    let low = number::four(s[at], s[at + 1], s[at + 2], s[at + 3]);
-    let high = number::four(s[at + 4], s[at + 5], s[at + 6], s[at + 7]);
-    low + 4294967296 * high
+    if let Some(row) = from.first_chunk_mut() {
+        join(row, other);
+    }
 }
 
-// The first half of the row at `at`: role r is bit r - 1.
-pub fn low_half(s: &[u8], at: usize) -> u64
-    requires { at + 16 ≤ length s.now }
-    ensures { result ≡ low_of (member s.now at) }
+pub fn unite_where(from: &mut [u8], role: usize, other: Row)
+    ensures { Placed 0 (united_where from.old 0 role other) from.old from.new }
 {
-    half(s, at)
+    if let Some(row) = from.first_chunk_mut() {
+        if has(row, role) {
+            join(row, other);
+        }
+    }
 }
 
-// The second half: role r is bit r - 65.
-pub fn high_half(s: &[u8], at: usize) -> u64
-    requires { at + 16 ≤ length s.now }
-    ensures { result ≡ high_of (member s.now at) }
+// The row as a number: role r is bit r - 1.
+fn number(row: &Row) -> u128
+    ensures { HasRoles (member row.now 0) result }
 {
-    half(s, at + HALF_BYTES)
+    u128::from_le_bytes(*row)
 }
 
-pub fn meet_set(s: &[u8], at: usize, low: u64, high: u64) -> bool
-    requires { at + 16 ≤ length s.now }
-    ensures { result ≡ some 128 (λ r. member s.now at r && in_set low high r) }
+pub fn low(row: &Row) -> u64
+    ensures { result ≡ low_of (member row.now 0) }
 {
-    let first = low_half(s, at) & low;
-    let second = high_half(s, at) & high;
-    (first | second) != 0
+    (number(row) & 0xFFFF_FFFF_FFFF_FFFF) as u64
+}
+
+pub fn high(row: &Row) -> u64
+    ensures { result ≡ high_of (member row.now 0) }
+{
+    (number(row) >> 64) as u64
+}
+
+pub fn meet(row: &Row, other: &Row) -> bool
+    ensures { result ≡ some 128 (λ r. member row.now 0 r && member other.now 0 r) }
+{
+    number(row) & number(other) != 0
+}
+
+// The set of two numbers as one.
+fn joined(low: u64, high: u64) -> u128
+    ensures { HasRoles (in_set low high) result }
+{
+    u128::from(low) | u128::from(high) << 64
+}
+
+pub fn meet_set(row: &Row, low: u64, high: u64) -> bool
+    ensures { result ≡ some 128 (λ r. member row.now 0 r && in_set low high r) }
+{
+    number(row) & joined(low, high) != 0
 }
 
 // The lowest bit above the first `after` that is set in x; bits are counted from 1.
-fn lowest_above(x: u64, after: usize) -> Option<usize>
-    ensures { result ≡ thing (first 64 (bit_after x after)) }
+fn lowest_above(x: u128, after: usize) -> Option<usize>
+    ensures { result ≡ thing (first 128 (bit_after x after)) }
 {
-    if 64 <= after {
+    if ROLES <= after {
         return None;
     }
     let rest = x >> after;
@@ -143,15 +129,8 @@ fn lowest_above(x: u64, after: usize) -> Option<usize>
     Some(after + rest.trailing_zeros() as usize + 1)
 }
 
-pub fn next(s: &[u8], at: usize, after: usize) -> Option<usize>
-    requires { at + 16 ≤ length s.now }
-    ensures { result ≡ thing (next_member s.now at after) }
+pub fn next(row: &Row, after: usize) -> Option<usize>
+    ensures { result ≡ thing (next_member row.now 0 after) }
 {
-    match lowest_above(low_half(s, at), after) {
-        Some(low) => Some(low),
-        None => {
-            let high = lowest_above(high_half(s, at), after.saturating_sub(HALF_ROLES))?;
-            Some(HALF_ROLES + high)
-        }
-    }
+    lowest_above(number(row), after)
 }

@@ -31,36 +31,26 @@ pub fn rows_lie(len: usize, at: usize, n: usize) -> bool
 pub fn has(s: &[u8], at: usize, role: usize) -> bool
     ensures { result ≡ (whole s.now at && member s.now at role) }
 {
-    if !inner::lies(s.len(), at) {
-        return false;
+    match inner::row(s, at) {
+        Some(row) => inner::has(row, role),
+        None => false,
     }
-    if !inner::is_role(role) {
-        return false;
-    }
-    inner::has(s, at, role)
 }
 
 // The lowest role above `after` that the row at `at` holds.
 pub fn next(s: &[u8], at: usize, after: usize) -> Option<usize>
     ensures { result ≡ thing (cond (whole s.now at) (next_member s.now at after) 0) }
 {
-    if !inner::lies(s.len(), at) {
-        return None;
-    }
-    inner::next(s, at, after)
+    inner::next(inner::row(s, at)?, after)
 }
 
 // Puts the role into the row at `at`.
 pub fn add(s: &mut [u8], at: usize, role: usize)
     ensures { Placed at (added s.old at role) s.old s.new }
 {
-    if !inner::lies(s.len(), at) {
-        return;
+    if at <= s.len() {
+        inner::add(&mut s[at..], role);
     }
-    if !inner::is_role(role) {
-        return;
-    }
-    inner::add(s, at, role);
 }
 
 // Adds the role where `on` holds.
@@ -76,8 +66,8 @@ pub fn add_where(s: &mut [u8], at: usize, role: usize, on: bool)
 pub fn remove(s: &mut [u8], at: usize, role: usize)
     ensures { Placed at (removed s.old at role) s.old s.new }
 {
-    if has(s, at, role) {
-        inner::remove(s, at, role);
+    if at <= s.len() {
+        inner::remove(&mut s[at..], role);
     }
 }
 
@@ -85,18 +75,18 @@ pub fn remove(s: &mut [u8], at: usize, role: usize)
 pub fn row(s: &[u8], at: usize) -> [u8; ROW_BYTES]
     ensures { RowCopy s.now at result }
 {
-    if !inner::lies(s.len(), at) {
-        return [0u8; ROW_BYTES];
+    match inner::row(s, at) {
+        Some(row) => *row,
+        None => [0; ROW_BYTES],
     }
-    inner::row(s, at)
 }
 
 // Puts the roles of a row that was taken by value into the row at `at`.
 pub fn unite(s: &mut [u8], at: usize, other: [u8; ROW_BYTES])
     ensures { Placed at (united s.old at other) s.old s.new }
 {
-    if inner::lies(s.len(), at) {
-        inner::unite(s, at, other);
+    if at <= s.len() {
+        inner::unite(&mut s[at..], other);
     }
 }
 
@@ -108,10 +98,9 @@ pub fn unite_rows(s: &mut [u8], at: usize, n: usize, role: usize, other: [u8; RO
     if !rows_lie(s.len(), at, n) {
         return;
     }
-    if !inner::is_role(role) {
-        return;
+    for i in 0..n {
+        inner::unite_where(&mut s[at + ROW_BYTES * i..], role, other);
     }
-    inner::unite_rows(s, at, n, role, other);
 }
 
 // Puts the roles of the row at `from` into the row at `into`. The two may overlap.
@@ -126,38 +115,41 @@ pub fn join(s: &mut [u8], into: usize, from: usize)
 pub fn low(s: &[u8], at: usize) -> u64
     ensures { result ≡ cond (whole s.now at) (low_of (member s.now at)) 0 }
 {
-    if !inner::lies(s.len(), at) {
-        return 0;
+    match inner::row(s, at) {
+        Some(row) => inner::low(row),
+        None => 0,
     }
-    inner::low_half(s, at)
 }
 
 // The roles 65 to 128: role r is bit r - 65.
 pub fn high(s: &[u8], at: usize) -> u64
     ensures { result ≡ cond (whole s.now at) (high_of (member s.now at)) 0 }
 {
-    if !inner::lies(s.len(), at) {
-        return 0;
+    match inner::row(s, at) {
+        Some(row) => inner::high(row),
+        None => 0,
     }
-    inner::high_half(s, at)
 }
 
 // Whether the row at `at` has a role in common with a set that is told as two numbers.
 pub fn meet_set(s: &[u8], at: usize, low: u64, high: u64) -> bool
     ensures { result ≡ (whole s.now at && some 128 (λ q. member s.now at q && in_set low high q)) }
 {
-    if !inner::lies(s.len(), at) {
-        return false;
+    match inner::row(s, at) {
+        Some(row) => inner::meet_set(row, low, high),
+        None => false,
     }
-    inner::meet_set(s, at, low, high)
 }
 
 // Whether the rows at `a` and at `b` have a role in common.
 pub fn meet(s: &[u8], a: usize, b: usize) -> bool
     ensures { result ≡ common s.now a b }
 {
-    if !inner::lies(s.len(), b) {
+    let Some(row) = inner::row(s, a) else {
         return false;
-    }
-    meet_set(s, a, inner::low_half(s, b), inner::high_half(s, b))
+    };
+    let Some(other) = inner::row(s, b) else {
+        return false;
+    };
+    inner::meet(row, other)
 }

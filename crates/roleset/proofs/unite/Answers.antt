@@ -1,11 +1,12 @@
--- The roles are put into the row where there is one.
-use mathlib.Core.Path.{sym, ◌∙◌}
-use borrow.Author.Tests.{leb-true}
-use Rattle.roleset.proofs.Rows.{no_row}
+-- The bytes from the row on are written, if there are any.
+use Rattle.std.proofs.Common.{arith}
+use Rattle.roleset.proofs.Rows.{front, placed_from, unwritten}
 use Rattle.roleset.proofs.unite.Goals as goal
 
-pub unite-requires : goal.unite-requires
-unite-requires c = leb-true _ _ (sym c.lies.ensures ∙ c.if-lies.true)
+pub returns-then-at-s : goal.returns-then-at-s
+returns-then-at-s c =
+    let a = c.args in
+    placed_from a.at a.s.now c.if-at-s.true c.unite.new.from c.unite.auto.from c.unite.ensures (λ r. rw (front a.at a.s.now c.if-at-s.true r))
 
-pub returns-else-lies : goal.returns-else-lies
-returns-else-lies c = no_row (sym c.lies.ensures ∙ c.if-lies.false)
+pub returns-else-at-s : goal.returns-else-at-s
+returns-else-at-s c = unwritten (λ l. absurd (omega arith))

@@ -1,21 +1,33 @@
--- The roles are put into the rows where there are such rows and the number is a role's; else all stays as it is.
-use mathlib.Core.Path.{sym}
-use mathlib.Core.Bool.{or-false}
+-- Each turn places one row more, which has had no turn before.
+use Rattle.std.proofs.Common.{ℕ, ◌+◌, ◌*◌, ◌≤◌, ◌≡◌, ◌∙◌, refl, sym, inr, length, arith}
 use borrow.Author.Tests.{leb-true}
-use Rattle.search.proofs.Truth.{passed, failed, one_of}
 use Rattle.roleset.specs.Row.{member}
-use Rattle.roleset.proofs.Rows.{rows_unwritten, no_rows}
+use Rattle.roleset.proofs.Rows.{row_kept, rows_unwritten, rows_more, no_rows, where_front, placed_from}
+use Rattle.roleset.proofs.unite_rows.Goals.{Else-not-rows_lie}
 use Rattle.roleset.proofs.unite_rows.Goals as goal
 
+lie : (c : Else-not-rows_lie) → c.args.at + 16 * c.args.n ≤ length c.args.s.now
+lie c = leb-true _ _ (sym c.if-not-rows_lie.ensures)
+
+pub loop-i-preserved : goal.loop-i-preserved
+loop-i-preserved c =
+    let w = c.loop-i in
+    let a = c.args in
+    let at = a.at + 16 * w.i in
+    let fits = lie (goal.at.loop-i-preserved c).Else-not-rows_lie in
+    let left : (r : ℕ) → member w.s at r ≡ member a.s.now at r = λ r. row_kept _ _ w.invariant.rest _ r (inr (omega arith)) in
+    let here : at ≤ length w.s = let long = w.auto.s in omega arith in
+    rows_more (omega arith) w.auto.s w.invariant (placed_from at w.s here c.unite_where.new.from c.unite_where.auto.from c.unite_where.ensures (λ r. refl))
+    (λ r. where_front at w.s here a.role a.other r ∙ rw (left r, left a.role))
+
+pub loop-i-init : goal.loop-i-init
+loop-i-init c = rows_unwritten (λ l i m. absurd (omega arith))
+
+pub returns : goal.returns
+returns c =
+    let w = c.loop-i in
+    let q : w.i ≡ c.args.n = omega arith in
+    rw q at w.invariant
+
 pub returns-then-not-rows_lie : goal.returns-then-not-rows_lie
-returns-then-not-rows_lie c = no_rows (failed c.rows_lie.ensures c.if-not-rows_lie.true)
-
-pub returns-then-not-is_role : goal.returns-then-not-is_role
-unfolding member
-returns-then-not-is_role c = rows_unwritten (λ l i m r. rw (failed c.is_role.ensures c.if-not-is_role.true) (sym (or-false _)))
-
-pub unite_rows-requires : goal.unite_rows-requires
-unite_rows-requires c = (
-  leb-true _ _ (passed c.rows_lie.ensures c.if-not-rows_lie.false),
-  one_of 128 _ c.is_role.ensures c.if-not-is_role.false,
-)
+returns-then-not-rows_lie c = no_rows (sym c.if-not-rows_lie.ensures)

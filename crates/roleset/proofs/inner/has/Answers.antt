@@ -1,8 +1,15 @@
--- The code reads the very bit that `member` does.
-use Rattle.search.proofs.Truth.{among_iff}
-use Rattle.roleset.specs.Row.{member}
+-- A role's bit.
+use Rattle.std.proofs.Common.{◌+◌, ◌-◌, ◌/◌, ◌≡◌, arith}
+use Rattle.roleset.specs.Row.{member, role_byte}
 use Rattle.roleset.proofs.inner.has.Goals as goal
 
-pub returns : goal.returns
+pub returns-then-is_role : goal.returns-then-is_role
 unfolding member
-returns c = rw ((among_iff 128 c.args.role).1 c.requires.1)
+returns-then-is_role c =
+    let r = c.args.role in
+    let place : 0 + role_byte r ≡ (r - 1) / 8 = omega arith in
+    rw (← c.if-is_role.ensures, place)
+
+pub returns-else-is_role : goal.returns-else-is_role
+unfolding member
+returns-else-is_role c = rw (← c.if-is_role.ensures) c.if-is_role.false

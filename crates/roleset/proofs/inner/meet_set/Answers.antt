@@ -1,10 +1,7 @@
--- The numbers of the row and of the set share no bit exactly where the row and the set share no role.
-use native.Mathlib.Omega.{arith}
-use Rattle.roleset.specs.Row.{member}
+-- A row and a set meet where their numbers share a bit.
+use Rattle.std.proofs.Common.{arith}
 use Rattle.roleset.proofs.Sets.{sets_meet}
 use Rattle.roleset.proofs.inner.meet_set.Goals as goal
 
 pub returns : goal.returns
-returns c =
-    let a = c.args in
-    rw (c.low_half.ensures, c.high_half.ensures) (sets_meet (member a.s.now a.at) a.low a.high (omega arith) (omega arith))
+returns c = sets_meet c.number.ensures (omega arith) _ _ c.joined.ensures

@@ -1,18 +1,24 @@
--- The bytes copied so far are the row's, and two rows of the same bytes hold the same roles.
-use mathlib.Core.Path.{refl}
-use native.Mathlib.Nat.{zero-add}
-use native.Mathlib.Omega.{arith}
-use borrow.Author.Rules.{rules}
-use Rattle.roleset.proofs.Rows.{write_none, write_more, same_bytes}
+-- The bytes from `at` on, and the first 16 of them.
+use Rattle.std.proofs.Common.{ℕ, ◌+◌, ◌≤◌, ◌<◌, ◌≡◌, ◌∙◌, true, false, List, length, slice_range, Option, Some, None, MatchOption, arith}
+use borrow.Author.Tests.{le-leb, lt-leb}
+use denote.Bor.{Bor}
+use Rattle.std.specs.Array.{IsFirstChunk}
+use Rattle.roleset.specs.Row.{whole, member}
+use Rattle.roleset.proofs.Rows.{front, first_roles}
 use Rattle.roleset.proofs.inner.row.Goals as goal
 
-pub loop-i-preserved : goal.loop-i-preserved
-loop-i-preserved c = (search rules, rw zero-add at (write_more c.loop-i.invariant.1 (search rules) refl))
+row_found : (xs from : List ℕ) (at : ℕ) → at ≤ length xs → from ≡ slice_range xs at (length xs) → length from + at ≡ length xs
+    → (o : Option (Bor (List ℕ))) → MatchOption o (length from < 16) (λ y. IsFirstChunk from y.now 16)
+    → MatchOption o (whole xs at ≡ false) (λ y. (whole xs at ≡ true) × ((r : ℕ) → member y.now 0 r ≡ member xs at r))
+row_found xs from at inside e long None short = lt-leb (at + 16) (length xs) (omega arith)
+row_found xs from at inside e long (Some y) h =
+    let enough = h.enough in (
+      le-leb (at + 16) (length xs) (omega arith),
+      λ r. first_roles from y.now h r ∙ rw e (front at xs inside r),
+    )
 
 pub returns : goal.returns
 returns c =
-    let inv = c.loop-i.invariant in
-    same_bytes c.args.s.now c.loop-i.row c.args.at 0 (λ k l. inv.1.done k (omega arith))
-
-pub loop-i-init : goal.loop-i-init
-loop-i-init c = (search rules, write_none)
+    let a = c.args in
+    let from = c.in_ok-get.ensures.lookup.0 in
+    row_found a.s.now c.in_ok-get.field-0.now a.at from.0 from.2 from.3 c.first_chunk.result c.first_chunk.ensures.cases

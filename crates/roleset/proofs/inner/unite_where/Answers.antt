@@ -1,15 +1,22 @@
--- The roles are put into the row where it holds the role; else the set stays as it is.
-use mathlib.Core.Path.{◌≡◌, sym, ◌∙◌}
-use mathlib.Core.Bool.{true, or-false}
-use Rattle.roleset.specs.Row.{member}
-use Rattle.roleset.proofs.Rows.{unwritten, placed_as}
+-- The row is united, if it holds the role.
+use Rattle.std.proofs.Common.{◌∙◌, sym}
+use mathlib.Core.Bool.{or-false}
+use Rattle.roleset.proofs.Rows.{first_long, first_roles, placed_first}
 use Rattle.roleset.proofs.inner.unite_where.Goals as goal
 
 pub returns-then-has : goal.returns-then-has
 returns-then-has c =
-    let args = c.args in
-    let held : member args.s.now args.at args.role ≡ true = sym c.has.ensures ∙ c.if-has.true in
-    placed_as (λ r. rw held) c.unite.ensures
+    let a = c.args in
+    let h = c.in-Some.ensures.cases in
+    let row = c.in-Some.row.now in
+    let roles = first_roles a.from.now row h in
+    placed_first a.from.now c.join.new.row h.enough c.join.ensures.long
+    (λ r. c.join.ensures.roles r ∙ rw (roles r, ← roles a.role, ← c.if-has.ensures))
 
 pub returns-else-has : goal.returns-else-has
-returns-else-has c = unwritten (λ l r. rw (sym c.has.ensures ∙ c.if-has.false) (sym (or-false _)))
+returns-else-has c =
+    let a = c.args in
+    let h = c.in-Some.ensures.cases in
+    let row = c.in-Some.row.now in
+    let roles = first_roles a.from.now row h in
+    placed_first a.from.now row h.enough (first_long a.from.now row h) (λ r. roles r ∙ rw (← roles a.role, ← c.if-has.ensures) (sym (or-false _)))
