@@ -15,7 +15,6 @@ use Rattle.search.proofs.Found.{some_cut}
 use Rattle.order.specs.Closure.{Relation, Agree}
 use Rattle.order.specs.Bound.{converse}
 use Rattle.order.specs.inner.Members.{row_holds, in_row}
-use Rattle.rolefile.specs.declared.Line.{Line}
 use Rattle.rolefile.specs.declared.Verdict.{Verdict}
 use Rattle.rolefile.specs.Line.{A, line_at, lines, part}
 use Rattle.rolefile.specs.Form.{refusal, header, scan}
@@ -31,6 +30,7 @@ use Rattle.policy.specs.Tables.{clearances_at, r_levels_at, w_levels_at, byte_of
 use Rattle.policy.specs.inner.Filling.{level_row, some_serves, assign_by_tables}
 use Rattle.policy.specs.Image.{Labelled, Dominating, Levelled}
 use Rattle.policy.specs.Verdict.{serves, assign_verdict, assignment_verdict}
+use Rattle.policy.specs.declared.counts.Counts.{Counts}
 use Rattle.policy.specs.inner.Stages.{Stands, Ready, Closed}
 use Rattle.policy.proofs.Fronts.{one_same, two_same, scan_same}
 use Rattle.policy.proofs.Readying.{good_of, counts_of, a_lines, one_within, two_within, limits_a}
@@ -206,7 +206,7 @@ module _ (f : List ℕ) (good : GoodLines f) (counts : GoodCounts (header f)) {j
       let numbers = told f good s in
       rw (s.inside i w, ← (numbers.a i w), ← (numbers.b i w)) (sym (agree (one (part f j) i) (two (part f j) i) n.0 n.1))))
 
-module _ {f d s u o p a : List ℕ} {h : Line} (ready : Ready f h d s u o p a) where
+module _ {f d s u o p a : List ℕ} {n : Counts} (ready : Ready f n d s u o p a) where
   good : GoodLines f
   good = good_of f ready.lines
 

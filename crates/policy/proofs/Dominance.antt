@@ -16,7 +16,6 @@ use Rattle.order.specs.Bound.{partner_without_bound, lowest_without_bound, first
 use Rattle.order.specs.Table.{mark, Rows}
 use Rattle.order.proofs.Closure.{loop_circle}
 use Rattle.order.proofs.Bound.{first_without_agree, first_without_none, first_without_some}
-use Rattle.rolefile.specs.declared.Line.{Line}
 use Rattle.rolefile.specs.Line.{fields, lines}
 use Rattle.rolefile.specs.Form.{fine, refusal, found}
 use Rattle.rolefile.specs.Said.{labels, over}
@@ -24,6 +23,7 @@ use Rattle.rolefile.proofs.Sections.{says_two}
 use Rattle.policy.specs.Settings.{dominates}
 use Rattle.policy.specs.inner.Filling.{Marking}
 use Rattle.policy.specs.Verdict.{order_verdict, label_verdict, pair_verdict}
+use Rattle.policy.specs.declared.counts.Counts.{Counts}
 use Rattle.policy.specs.inner.Stages.{Ready, Paths, Closed}
 use Rattle.policy.proofs.Fronts.{pairs_same}
 use Rattle.policy.proofs.Readying.{good_of, counts_of, d_lines, head_labels}
@@ -33,8 +33,8 @@ use Rattle.policy.proofs.Closing.{paths_table, closed_table}
 -- ---- the tables
 
 -- t has the marks of the D lines, and v its paths
-pub paths_are : {f d s u o p a : List ℕ} {h : Line} (ready : Ready f h d s u o p a) (t v : List (List Bool)) → Marking d (lines d) t
-    → Rows 32 (min h.a 32) (path (min h.a 32) (mark t)) (mark t) (mark v) → Paths f v
+pub paths_are : {f d s u o p a : List ℕ} {n : Counts} (ready : Ready f n d s u o p a) (t v : List (List Bool)) → Marking d (lines d) t
+    → Rows 32 (min n.labels 32) (path (min n.labels 32) (mark t)) (mark t) (mark v) → Paths f v
 unfolding fields
 paths_are {f} ready t v said closes =
     let good = good_of f ready.lines in

@@ -1,24 +1,25 @@
 -- What is answered of a state and of a slice too short for one; and role flow, card by card, and as a table of role sets. Assumes nothing.
 use Prim.Native.Nat.{ℕ, ◌+◌, ◌-◌, ◌*◌, ◌≤◌, ◌<◌}
-use mathlib.Core.Path.{◌≡◌, sym, ◌∙◌}
-use mathlib.Core.Bool.{Bool, true, false, not, cond, and-true, and-false, or-false}
+use mathlib.Core.Path.{◌≡◌, refl, sym, ap, ◌∙◌}
+use mathlib.Core.Bool.{Bool, true, false, not, ◌&&◌, cond, and-true, and-false, or-false}
 use mathlib.Core.List.{List}
 use native.Mathlib.Omega.{arith}
 use native.Mathlib.Nat.{add-sub_cancel, zero-add}
 use native.Mathlib.Decide.{ℕ_discrete}
-use lib.Dec.{leb}
-use lib.ListN.{length}
+use lib.Dec.{leb, eqb}
+use lib.ListN.{length, get_or, take}
+use lib.Seq.{get_or-take}
 use borrow.Author.Tests.{le-leb, lt-leb, leb-false, not-true, eq-eqb, ne_eqb}
 use Rattle.search.specs.Search.{Among, Lowest, some, first}
 use Rattle.search.proofs.Truth.{and-iff}
-use Rattle.search.proofs.Found.{first_agree, first_none, first_lowest, first_within}
-use Rattle.roleset.specs.Row.{whole, member, removed, united, member_after, next_member, RowCopy, Placed}
-use Rattle.roleset.proofs.Rows.{row_copy, whole_true}
+use Rattle.search.proofs.Found.{first_agree, first_none, first_lowest, first_within, some_agree}
+use Rattle.roleset.specs.Row.{whole, row_of, member, removed, united, member_after, next_member, RowCopy, Placed}
+use Rattle.roleset.proofs.Rows.{row_copy, whole_true, same_bytes}
 use Rattle.order.specs.Closure.{Relation, Agree, path, loop, circle}
 use Rattle.order.specs.Table.{related, Tabled}
 use Rattle.order.proofs.Closure.{circle_agree, loop_circle}
 use Rattle.order.proofs.Placing.{placing_more, placing_pass, placing_left}
-use Rattle.policy.specs.Tables.{readers_at, writers_at, state_size, is_state, flows_by_card, flowing}
+use Rattle.policy.specs.Tables.{card_count_at, readers_at, writers_at, state_size, is_state, up_to, cards_up_to, flows_by_card, flowing}
 use Rattle.policy.specs.inner.Filling.{InEither, past_card, without_loops}
 
 -- ---- whether a slice is a state
@@ -33,6 +34,33 @@ module _ (xs : List ℕ) where
   -- what a function that answers so tells of a state
   pub of_state : {r found : ℕ} → state_size ≤ length xs → r ≡ cond (is_state xs) found 0 → r ≡ found
   of_state l e = e ∙ rw (a_state l)
+
+-- ---- the whole state at the front of a slice tells what the slice does
+
+module _ (xs ys : List ℕ) (front : ys ≡ take 65536 xs) where
+  pub front_byte : (i : ℕ) → i < 65536 → get_or ys i 0 ≡ get_or xs i 0
+  front_byte i l = ap (λ zs. get_or zs i 0) front ∙ get_or-take 65536 xs i 0 l
+
+  front_row : (at r : ℕ) → at + 16 ≤ 65536 → member ys at r ≡ member xs at r
+  front_row at r l = same_bytes xs ys at at (λ k m. front_byte (at + k) (omega arith)) r
+
+  pub front_up_to : (at most : ℕ) → at + 2 ≤ 65536 → up_to ys at most ≡ up_to xs at most
+  front_up_to at most l = rw (front_byte at (omega arith), front_byte (at + 1) (omega arith))
+
+  front_card : (r q o : ℕ) → Among 512 o → flows_by_card ys r q o ≡ flows_by_card xs r q o
+  front_card r q o w =
+      rw (
+        front_row (row_of writers_at o) r (omega arith),
+        front_row (row_of readers_at o) q (omega arith),
+        front_row (row_of writers_at o) q (omega arith),
+      )
+
+  pub front_flowing : (r q : ℕ) → flowing ys (cards_up_to ys) r q ≡ flowing xs (cards_up_to xs) r q
+  unfolding flowing
+  front_flowing r q =
+      rw (front_up_to card_count_at 512 (omega arith))
+      (ap (λ b. not (eqb r q) && b)
+      (some_agree (flows_by_card ys r q) (flows_by_card xs r q) (cards_up_to xs) (λ o w. front_card r q o (omega arith))))
 
 -- ---- card by card
 
@@ -72,7 +100,7 @@ either_row xs readers writers row o l fits long read write placed q =
 pub record Turn (t u xs : List ℕ) (o i w : ℕ) : Type 0 where
   pub long : 2048 ≤ length t
   pub same : length u ≡ length t
-  pub fits : 28688 ≤ length xs
+  pub fits : length xs ≡ 65536
   pub card : o < 512
   pub before : i ≤ 128
   pub next : w ≡ next_member xs (writers_at + 16 * o) i
@@ -139,6 +167,12 @@ module _ (xs t : List ℕ) (m : ℕ) (said : Agree 128 128 (related t 0) (λ r q
     | yes e ↦ rw (eq-eqb q r (sym e)) (and-false (related t 0 r q) ∙ sym (flow_self xs m r q e))
     | no e ↦ rw (ne_eqb q r (λ i. e (sym i))) (and-true (related t 0 r q) ∙ said r q v w ∙ sym (flow_other xs m r q e))
   ]
+
+-- among no roles there is no circle
+pub no_circles : (n : ℕ) (b : Bool) (r : Relation) → n ≡ 0 → cond b (loop n r) 0 ≡ 0
+unfolding first
+no_circles n true r e = rw e
+no_circles n false r e = refl
 
 -- the circles of flow by a table that has it, as the lowest on one is answered for n roles
 pub flow_circles : (xs t v : List ℕ) (m n : ℕ) → Agree 128 128 (related t 0) (flowing xs m)

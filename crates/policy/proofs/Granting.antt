@@ -18,7 +18,6 @@ use Rattle.order.specs.Closure.{Relation, Agree}
 use Rattle.order.specs.Bound.{converse}
 use Rattle.order.specs.Table.{mark, related}
 use Rattle.order.specs.inner.Members.{row_holds}
-use Rattle.rolefile.specs.declared.Line.{Line}
 use Rattle.rolefile.specs.Line.{P, lines, part}
 use Rattle.rolefile.specs.Form.{header}
 use Rattle.rolefile.specs.Said.{labels, roles, cards, above, permits, card_label}
@@ -30,6 +29,7 @@ use Rattle.policy.specs.Policy.{may, may_at, level, r_level, w_level, level_numb
 use Rattle.policy.specs.Tables.{r_levels_at, seniors_at, readers_at, writers_at, table_of, byte_of, mark_at}
 use Rattle.policy.specs.inner.Filling.{line_grants, granted_by_lines, brings, gathered, by_mode, levels_at, LevelBytes, GrantedRows, DominanceRows}
 use Rattle.policy.specs.Image.{Labelled, Seniors, Permitting, Levelled, Allows}
+use Rattle.policy.specs.declared.counts.Counts.{Counts}
 use Rattle.policy.specs.inner.Stages.{Ready, Zeros, Closed, Granting}
 use Rattle.policy.proofs.Fronts.{granted_same}
 use Rattle.policy.proofs.Readying.{good_of, counts_of, p_lines, one_within, limits_p}
@@ -144,14 +144,14 @@ module _ (f : List ℕ) (counts : GoodCounts (header f)) (between : Between (rol
 
 -- ---- the whole stage, from x₀: the table of dominance, the lines' permissions, and both levels
 
-module _ {f d s u o p a : List ℕ} {h : Line} (ready : Ready f h d s u o p a) (down : List (List Bool)) (under over x₀ x₁ x₂ x₃ readers writers : List ℕ)
+module _ {f d s u o p a : List ℕ} {n : Counts} (ready : Ready f n d s u o p a) (down : List (List Bool)) (under over x₀ x₁ x₂ x₃ readers writers : List ℕ)
     (labelled : Labelled (settings f) x₀) (seniors : Seniors (settings f) x₀)
     (closed : Closed f (mark down)) (lower : Closed f (row_holds under)) (upper : Closed f (converse (row_holds over))) (no-level : Zeros 1808 2064 x₀) (no_role : Zeros 12304 28688 x₀)
     (put : DominanceRows 32 down x₀ x₁)
     (grants : GrantedRows (granted_by_lines x₁ p (lines p)) x₁ x₂)
-    (reads : Agree 32 128 (related readers 0) (gathered x₂ readers_at h.d))
-    (writes : Agree 32 128 (related writers 0) (gathered x₂ writers_at h.d))
-    (levels : LevelBytes h.b (λ d r. level_number (level h.a (converse (row_holds (by_mode over under d))) (λ l. related (by_mode readers writers d) 0 l r))) x₂ x₃) where
+    (reads : Agree 32 128 (related readers 0) (gathered x₂ readers_at n.cards))
+    (writes : Agree 32 128 (related writers 0) (gathered x₂ writers_at n.cards))
+    (levels : LevelBytes n.roles (λ d r. level_number (level n.labels (converse (row_holds (by_mode over under d))) (λ l. related (by_mode readers writers d) 0 l r))) x₂ x₃) where
   counts : GoodCounts (header f)
   counts = counts_of f ready.lines
 
@@ -160,7 +160,7 @@ module _ {f d s u o p a : List ℕ} {h : Line} (ready : Ready f h d s u o p a) (
   kept = put.rest
 
   kept₃ : Kept 1808 2064 x₂ x₃
-  kept₃ i out = levels.rest i (λ d m n. rw ready.head (omega (arith, levels_stand d m, counts.roles, out (omega (arith, levels_stand d m)))))
+  kept₃ i out = levels.rest i (λ d m n. rw ready.head.roles (omega (arith, levels_stand d m, counts.roles, out (omega (arith, levels_stand d m)))))
 
   -- what stands before the levels are put in
   permitting₂ : Permitting (settings f) x₂
@@ -176,16 +176,16 @@ module _ {f d s u o p a : List ℕ} {h : Line} (ready : Ready f h d s u o p a) (
   zeros₂ : Zeros 1808 2064 x₂
   zeros₂ i l m = grants.rest i (λ n. omega arith) ∙ kept i (λ n. omega arith) ∙ no-level i l m
 
-  gathers : (d : ℕ) → Among 2 d → Agree 32 128 (related (by_mode readers writers d) 0) (gathered x₂ (table_of d) h.d)
-  gathers = by_mode_lem (λ d. Agree 32 128 (related (by_mode readers writers d) 0) (gathered x₂ (table_of d) h.d)) reads writes
+  gathers : (d : ℕ) → Among 2 d → Agree 32 128 (related (by_mode readers writers d) 0) (gathered x₂ (table_of d) n.cards)
+  gathers = by_mode_lem (λ d. Agree 32 128 (related (by_mode readers writers d) 0) (gathered x₂ (table_of d) n.cards)) reads writes
 
   gathered₂ : (d : ℕ) → Among 2 d → Allows (settings f) d (table_of d) x₂ → Agree 32 128 (related (by_mode readers writers d) 0) (λ l r. may_at (settings f) d r l)
-  gathered₂ d m allows l r v w = rw ready.head at gathers d m l r v w ∙ may_at_is f x₂ counts.cards labelled₂ d (table_of d) allows l r w
+  gathered₂ d m allows l r v w = rw ready.head.cards at gathers d m l r v w ∙ may_at_is f x₂ counts.cards labelled₂ d (table_of d) allows l r w
 
   leveled : (d : ℕ) → Among 2 d → (le : Relation) → Agree (labels f) (labels f) (converse (row_holds (by_mode over under d))) le → Allows (settings f) d (table_of d) x₂
       → (r : ℕ) → Among 128 r → byte_of x₃ (levels_at d) r ≡ level_number (level (labels f) le (may_at (settings f) d r))
   leveled d m le order allows =
-      levels_are f counts (above_between f (good_of f ready.lines)) (λ d. converse (row_holds (by_mode over under d))) (by_mode readers writers) x₂ x₃ (rw ready.head at levels) zeros₂ d m le
+      levels_are f counts (above_between f (good_of f ready.lines)) (λ d. converse (row_holds (by_mode over under d))) (by_mode readers writers) x₂ x₃ (rw (ready.head.roles, ready.head.labels) at levels) zeros₂ d m le
       order (gathered₂ d m allows)
 
   levelled₃ : Levelled (settings f) x₃

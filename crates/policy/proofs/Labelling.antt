@@ -15,7 +15,6 @@ use Rattle.search.proofs.Thing.{thing_none, thing_some}
 use Rattle.search.proofs.Found.{first_none, first_agree}
 use Rattle.roleset.specs.Row.{Kept}
 use Rattle.roleset.proofs.Rows.{kept_both}
-use Rattle.rolefile.specs.declared.Line.{Line}
 use Rattle.rolefile.specs.Line.{H, U, O, lines, part}
 use Rattle.rolefile.specs.Form.{fine, refusal, header, first_limit, second_limit, lines_about, not_one, unlabelled, unlabelled_verdict, count}
 use Rattle.rolefile.specs.Said.{users, cards, last, label_by}
@@ -25,6 +24,7 @@ use Rattle.rolefile.proofs.Sections.{Section, count_about, label_section}
 use Rattle.rolefile.specs.WellFormed.{GoodLines}
 use Rattle.policy.specs.Tables.{clearances_at, card_labels_at, byte_of}
 use Rattle.policy.specs.inner.Filling.{noted, notes, NotedBytes, unlabelled_byte, unlabelled_in}
+use Rattle.policy.specs.declared.counts.Counts.{Counts}
 use Rattle.policy.specs.inner.Stages.{Ready, Zeros, Noting}
 use Rattle.policy.proofs.Fronts.{notes_same}
 use Rattle.policy.proofs.Readying.{good_of, counts_of, u_lines, o_lines, one_within, two_within, limits_u, limits_o}
@@ -118,7 +118,7 @@ pub record Tables (f xs ys : List ℕ) : Type 0 where
   pub card : Table f O (cards f) card_labels_at 512 ys
   pub rest : Kept clearances_at 1808 xs ys
 
-pub tables_of : {f d s u o p a : List ℕ} {h : Line} → Ready f h d s u o p a → (xs ys zs : List ℕ) → Zeros clearances_at 1808 xs
+pub tables_of : {f d s u o p a : List ℕ} {n : Counts} → Ready f n d s u o p a → (xs ys zs : List ℕ) → Zeros clearances_at 1808 xs
     → NotedBytes clearances_at 256 u (lines u) xs ys → NotedBytes card_labels_at 512 o (lines o) ys zs
     → Tables f xs zs
 tables_of {f} ready xs ys zs clear u o =

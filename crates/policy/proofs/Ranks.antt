@@ -17,7 +17,6 @@ use Rattle.order.specs.Bound.{converse}
 use Rattle.order.specs.Closure.{Agree, path, loop, circle, with_itself}
 use Rattle.order.specs.Table.{related, Tabled}
 use Rattle.order.proofs.Closure.{via_converse, circle_converse, loop_circle}
-use Rattle.rolefile.specs.declared.Line.{Line}
 use Rattle.rolefile.specs.Line.{fields, lines}
 use Rattle.rolefile.specs.Form.{fine, refusal}
 use Rattle.rolefile.specs.Said.{roles, above}
@@ -27,6 +26,7 @@ use Rattle.policy.specs.Settings.{senior}
 use Rattle.policy.specs.Tables.{seniors_at}
 use Rattle.policy.specs.inner.Filling.{Related}
 use Rattle.policy.specs.Verdict.{role_verdict}
+use Rattle.policy.specs.declared.counts.Counts.{Counts}
 use Rattle.policy.specs.inner.Stages.{Ready, Zeros, PathRows, Ranking}
 use Rattle.policy.proofs.Fronts.{pairs_same}
 use Rattle.policy.proofs.Readying.{good_of, counts_of, head_roles, s_lines}
@@ -35,17 +35,17 @@ use Rattle.policy.proofs.Closing.{paths_table, closed_table}
 use Rattle.policy.proofs.Relating.{unites_zeros}
 
 -- the rows that the lines fill, once they have their paths, and the lowest role with one to itself
-pub record Pathed (f : List ℕ) (h : Line) (xs zs : List ℕ) : Type 0 where
-  pub count : min h.b 128 ≡ roles f
+pub record Pathed (f : List ℕ) (n : Counts) (xs zs : List ℕ) : Type 0 where
+  pub count : min n.roles 128 ≡ roles f
   pub few : roles f ≤ 128
   pub long : seniors_at + 2048 ≤ length zs
   pub rows : PathRows 128 (roles f) (converse (above f)) (related zs seniors_at)
-  pub lowest : cond (leb (2064 + 2048) (length zs)) (loop (min h.b 128) (related zs 2064)) 0 ≡ circle (roles f) (above f)
+  pub lowest : cond (leb (2064 + 2048) (length zs)) (loop (min n.roles 128) (related zs 2064)) 0 ≡ circle (roles f) (above f)
   pub rest : Kept 2064 4112 xs zs
 
-module _ {f d s u o p a : List ℕ} {h : Line} (ready : Ready f h d s u o p a) (xs ys zs : List ℕ) (ys-long : length ys ≡ 65536) (zs-long : length zs ≡ 65536)
+module _ {f d s u o p a : List ℕ} {n : Counts} (ready : Ready f n d s u o p a) (xs ys zs : List ℕ) (ys-long : length ys ≡ 65536) (zs-long : length zs ≡ 65536)
     (zeros : Zeros 2064 4112 xs) (filled : Related 2064 128 (λ x r. pairs s (lines s) r x) xs ys)
-    (pathed : Tabled 2064 (min h.b 128) (path (min h.b 128) (related ys 2064)) ys zs) where
+    (pathed : Tabled 2064 (min n.roles 128) (path (min n.roles 128) (related ys 2064)) ys zs) where
   few : roles f ≤ 128
   few = (counts_of f ready.lines).roles
 
@@ -67,7 +67,7 @@ module _ {f d s u o p a : List ℕ} {h : Line} (ready : Ready f h d s u o p a) (
       paths_table 128 (roles f) (converse (above f)) (related ys seniors_at) (related zs seniors_at) few
       (λ x y e. let (v, w) = above_between f (good_of f ready.lines) y x e in (w, v)) direct (by_roles.rows (omega arith))
 
-  pub pathed_of : Pathed f h xs zs
+  pub pathed_of : Pathed f n xs zs
   pathed_of = record {
     count = head_roles ready;
     few = few;
@@ -81,8 +81,8 @@ module _ {f d s u o p a : List ℕ} {h : Line} (ready : Ready f h d s u o p a) (
 
 -- ---- 13
 
-module _ {f : List ℕ} {h : Line} {xs zs : List ℕ} (p : Pathed f h xs zs) where
-  pub ranked_refused : {r : ℕ} → Some r ≡ thing (cond (leb (2064 + 2048) (length zs)) (loop (min h.b 128) (related zs 2064)) 0)
+module _ {f : List ℕ} {n : Counts} {xs zs : List ℕ} (p : Pathed f n xs zs) where
+  pub ranked_refused : {r : ℕ} → Some r ≡ thing (cond (leb (2064 + 2048) (length zs)) (loop (min n.roles 128) (related zs 2064)) 0)
       → Ranking f (refusal 13 r 0) xs zs
   unfolding role_verdict
   ranked_refused {r} e = let (q, l) = (thing_some (circle (roles f) (above f)) r).0 (rw p.lowest at e) in record {
@@ -91,8 +91,8 @@ module _ {f : List ℕ} {h : Line} {xs zs : List ℕ} (p : Pathed f h xs zs) whe
     rest = p.rest;
   }
 
-  pub ranked : {ws : List ℕ} → None ≡ thing (cond (leb (2064 + 2048) (length zs)) (loop (min h.b 128) (related zs 2064)) 0)
-      → Tabled 2064 (min h.b 128) (with_itself (related zs 2064)) zs ws → Ranking f fine xs ws
+  pub ranked : {ws : List ℕ} → None ≡ thing (cond (leb (2064 + 2048) (length zs)) (loop (min n.roles 128) (related zs 2064)) 0)
+      → Tabled 2064 (min n.roles 128) (with_itself (related zs 2064)) zs ws → Ranking f fine xs ws
   unfolding role_verdict senior
   ranked {ws} e closed =
       let c = rw p.count at closed in

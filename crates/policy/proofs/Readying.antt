@@ -15,6 +15,7 @@ use Rattle.rolefile.specs.WellFormed.{Sized, GoodCounts, GoodNumbers, GoodLines}
 use Rattle.rolefile.proofs.Decides.{decides_zero}
 use Rattle.rolefile.proofs.Formed.{header_counts, lines_decides}
 use Rattle.rolefile.proofs.Sections.{Cut, Section, cut_first, section_next, told}
+use Rattle.policy.specs.declared.counts.Counts.{Counts}
 use Rattle.policy.specs.inner.Stages.{Taken, Stands, Laid, Ready}
 use Rattle.policy.proofs.Fronts.{part_part}
 
@@ -56,15 +57,12 @@ module _ {f d s u o p a : List ℕ} (e : (lines_verdict f).number ≡ 0) (laid :
   a_lines = (section_next f good p_lines.1 (omega arith) laid.a_stands.leads).0
 
 -- the counts in line 1
-module _ {f d s u o p a : List ℕ} {h : Line} (ready : Ready f h d s u o p a) where
-  pub head_counts : GoodCounts h
-  head_counts = rw ready.head (counts_of f ready.lines)
+module _ {f d s u o p a : List ℕ} {n : Counts} (ready : Ready f n d s u o p a) where
+  pub head_labels : min n.labels 32 ≡ labels f
+  head_labels = let few = n.few_labels in omega (arith, ready.head.labels)
 
-  pub head_labels : min h.a 32 ≡ labels f
-  head_labels = let few = head_counts.labels in omega (arith, ap (λ (l : Line). l.a) ready.head)
-
-  pub head_roles : min h.b 128 ≡ roles f
-  head_roles = let few = head_counts.roles in omega (arith, ap (λ (l : Line). l.b) ready.head)
+  pub head_roles : min n.roles 128 ≡ roles f
+  head_roles = let few = n.few_roles in omega (arith, ready.head.roles)
 
 -- what is taken off a part's front, and where the rest stands
 pub stands_of : {f whole p rest : List ℕ} (k j : ℕ) → Taken (letter_byte k) whole p rest → whole ≡ part f j

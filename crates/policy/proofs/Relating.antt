@@ -11,7 +11,7 @@ use lib.ListN.{length}
 use borrow.Author.Tests.{eq-eqb, ne_eqb, eqb-true}
 use Rattle.search.specs.Search.{among, Among}
 use Rattle.search.proofs.Truth.{and-iff, and_when, among_iff, other_iff, same, eqb_swap}
-use Rattle.search.proofs.Found.{some_more, some_yet}
+use Rattle.search.proofs.Found.{some_more, some_yet, some_agree}
 use Rattle.roleset.specs.Row.{member, row_of, added, joined, Kept, Placed}
 use Rattle.roleset.proofs.Rows.{row_kept, other_kept, kept_wider, kept_both, whole_true, zero_row}
 use Rattle.order.specs.Closure.{Relation, Agree}
@@ -20,7 +20,7 @@ use Rattle.order.specs.Table.{related}
 use Rattle.policy.specs.declared.rows.Mode.{Mode}
 use Rattle.policy.specs.declared.rows.Mode.TheVariants.{Read, Write}
 use Rattle.policy.specs.Tables.{seniors_at, readers_at, table_of}
-use Rattle.policy.specs.inner.Filling.{mode_number, line_grants, granted_by_lines, Related, GrantedRows, Unites}
+use Rattle.policy.specs.inner.Filling.{mode_number, turned, line_grants, granted_by_lines, Related, GrantedRows, Unites}
 use Rattle.policy.specs.inner.Stages.{Zeros}
 
 -- where one row of a table is placed, what stands outside the table stays
@@ -88,8 +88,25 @@ pub pairs_more : (p : List ℕ) (i a b x y : ℕ) → a ≡ one p (i + 1) → b 
 unfolding pairs
 pairs_more p i a b x y ea eb = rw (ea, eb) (sym (some_more (λ k. eqb (one p k) x && eqb (two p k) y) i))
 
-pub pairs_back : (p : List ℕ) (i a b x y : ℕ) → a ≡ one p (i + 1) → b ≡ two p (i + 1) → (pairs p i x y || (eqb b y && eqb a x)) ≡ pairs p (i + 1) x y
-pairs_back p i a b x y ea eb = ap (λ t. pairs p i x y || t) (and_comm (eqb b y) (eqb a x)) ∙ pairs_more p i a b x y ea eb
+-- and of those whose pairs are turned
+module _ (row role : ℕ → ℕ → ℕ) (p : List ℕ) where
+  pub turned_more : (i a b x r : ℕ) → a ≡ row (one p (i + 1)) (two p (i + 1)) → b ≡ role (one p (i + 1)) (two p (i + 1))
+      → (turned row role p i x r || (eqb a x && eqb b r)) ≡ turned row role p (i + 1) x r
+  unfolding turned
+  turned_more i a b x r ea eb = rw (ea, eb) (sym (some_more (λ k. eqb (row (one p k) (two p k)) x && eqb (role (one p k) (two p k)) r) i))
+
+  pub turned_none : (x r : ℕ) → turned row role p 0 x r ≡ false
+  unfolding turned
+  turned_none x r = some_yet _
+
+-- as they stand, and the other way round
+pub turned_same : (p : List ℕ) (m x r : ℕ) → turned (λ a b. a) (λ a b. b) p m x r ≡ pairs p m x r
+unfolding turned pairs
+turned_same p m x r = refl
+
+pub turned_back : (p : List ℕ) (m x r : ℕ) → turned (λ a b. b) (λ a b. a) p m x r ≡ pairs p m r x
+unfolding turned pairs
+turned_back p m x r = some_agree _ _ m (λ i w. and_comm (eqb (two p i) x) (eqb (one p i) r))
 
 pub pairs_none : (p : List ℕ) (x y : ℕ) → pairs p 0 x y ≡ false
 unfolding pairs

@@ -3,7 +3,6 @@ ghost use Rattle.std.specs.Prelude.{◌≡◌, ◌+◌, ◌*◌, ◌≤◌, ◌<
 ghost use Rattle.roleset.specs.Row.{Kept};
 ghost use Rattle.order.specs.Table.{mark};
 ghost use Rattle.rolefile.specs.Refusal.{told};
-ghost use Rattle.rolefile.specs.WellFormed.{GoodCounts};
 ghost use Rattle.policy.specs.Tables.{clearances_at, r_levels_at, seniors_at, assigned_at, readers_at, writers_at, state_size, word};
 ghost use Rattle.policy.specs.Settings.{settings};
 ghost use Rattle.policy.specs.Image.{Labelled, Seniors};
@@ -16,7 +15,6 @@ use super::layout::State;
 use super::marks::Dominance;
 use super::{Refusal, assign, gather, labels, layout, marks, rows, table};
 use order::marks::Table;
-use rolefile::Line;
 
 // 6, with clearances and card labels put into the state.
 fn note_labels(file: &File, s: &mut State) -> Result<(), Refusal>
@@ -25,10 +23,10 @@ fn note_labels(file: &File, s: &mut State) -> Result<(), Refusal>
 {
     labels::note_lines(s, table::CLEARANCES, file.clearances);
     labels::note_lines(s, table::CARD_LABELS, file.card_labels);
-    if let Some(user) = labels::lowest_unlabelled(s, table::CLEARANCES, file.counts.c as usize) {
+    if let Some(user) = labels::lowest_unlabelled(s, table::CLEARANCES, file.counts.users) {
         return Err(Refusal::UserLabels { user });
     }
-    if let Some(card) = labels::lowest_unlabelled(s, table::CARD_LABELS, file.counts.d as usize) {
+    if let Some(card) = labels::lowest_unlabelled(s, table::CARD_LABELS, file.counts.cards) {
         return Err(Refusal::CardLabels { card });
     }
     Ok(())
@@ -38,7 +36,7 @@ fn note_labels(file: &File, s: &mut State) -> Result<(), Refusal>
 fn paths_of(file: &File) -> Table
     ensures { Paths file.now.bytes.now result }
 {
-    order::marks::paths(marks::marks_of(file.dominance), file.counts.a as usize)
+    order::marks::paths(marks::marks_of(file.dominance), file.counts.labels)
 }
 
 // 11 and 12, by the paths and by their closure.
@@ -62,8 +60,13 @@ fn rank_roles(file: &File, s: &mut State) -> Result<(), Refusal>
     requires { Zeros seniors_at assigned_at s.old }
     ensures { Ranking file.now.bytes.now (told verdict_of result) s.old s.new }
 {
-    rows::relate_back(s, table::SENIORS, file.seniority);
-    let n = file.counts.b as usize;
+    rows::relate_lines(
+        s,
+        table::SENIORS,
+        file.seniority,
+        |senior, junior| (junior, senior),
+    );
+    let n = file.counts.roles;
     order::rows::paths(s, layout::SENIORS_AT, n);
     if let Some(role) = order::rows::lowest_loop(s, layout::SENIORS_AT, n) {
         return Err(Refusal::RoleCircle { role });
@@ -80,35 +83,30 @@ fn grant_all(dominance: &Dominance, s: &mut State)
     let file = dominance.file;
     marks::put_table(s, dominance.marks);
     rows::grant_lines(s, file.permissions);
-    let g = gather::gather(s, file.counts.d as usize);
-    gather::put_levels(
-        s,
-        &g,
-        dominance,
-        file.counts.a as usize,
-        file.counts.b as usize,
-    );
+    let g = gather::gather(s, file.counts.cards);
+    gather::put_levels(s, &g, dominance);
 }
 
 // The lower and the upper byte of a count at `at`.
-fn put_word(s: &mut State, at: u16, n: u64)
-    requires { (at + 2 ≤ state_size) × (n < 65536) }
+fn put_word(s: &mut State, at: u16, n: u16)
+    requires { at + 2 ≤ state_size }
     ensures { (word s.new at ≡ n) × Kept at (at + 2) s.old s.new }
 {
     let i = at as usize;
-    s[i] = (n % 256) as u8;
-    s[i + 1] = (n / 256 % 256) as u8;
+    let [low, high] = n.to_le_bytes();
+    s[i] = low;
+    s[i + 1] = high;
 }
 
 // The four counts at the start of the state.
-fn put_counts(s: &mut State, h: Line)
-    requires { GoodCounts h }
-    ensures { Counting h s.old s.new }
+fn put_counts(file: &File, s: &mut State)
+    ensures { Counting file.now.counts s.old s.new }
 {
-    put_word(s, layout::LABEL_COUNT_AT, h.a);
-    put_word(s, layout::ROLE_COUNT_AT, h.b);
-    put_word(s, layout::USER_COUNT_AT, h.c);
-    put_word(s, layout::CARD_COUNT_AT, h.d);
+    let counts = file.counts;
+    put_word(s, layout::LABEL_COUNT_AT, counts.labels as u16);
+    put_word(s, layout::ROLE_COUNT_AT, counts.roles as u16);
+    put_word(s, layout::USER_COUNT_AT, counts.users as u16);
+    put_word(s, layout::CARD_COUNT_AT, counts.cards as u16);
 }
 
 // Assigned roles and counts, put into the state.
@@ -116,8 +114,13 @@ fn finish(file: &File, s: &mut State)
     requires { Zeros assigned_at (assigned_at + 16 * 256) s.old }
     ensures { Finishing file.now.bytes.now s.old s.new }
 {
-    rows::relate_lines(s, table::ASSIGNED, file.assignments);
-    put_counts(s, file.counts);
+    rows::relate_lines(
+        s,
+        table::ASSIGNED,
+        file.assignments,
+        |user, role| (user, role),
+    );
+    put_counts(file, s);
 }
 
 // The whole check of a file, into a state of zeros.
@@ -128,7 +131,7 @@ pub fn build(f: &[u8], s: &mut State) -> Result<(), Refusal>
     let file = File::of(f)?;
     note_labels(&file, s)?;
     let paths = paths_of(&file);
-    let n = file.counts.a as usize;
+    let n = file.counts.labels;
     let down = order::marks::reflected(paths, n);
     check_labels(paths, down, n)?;
     rank_roles(&file, s)?;

@@ -4,7 +4,8 @@ ghost use Rattle.rolefile.specs.Form.{lines_verdict};
 ghost use Rattle.rolefile.specs.Refusal.{told, verdict_of};
 ghost use Rattle.policy.specs.inner.Stages.{Ready, Taken};
 
-use rolefile::{Line, Refusal, check, read};
+use super::counts::Counts;
+use rolefile::{Refusal, check, read};
 
 // The lines at the front of a part that have the letter, and the part after them.
 fn take_letter(part: &[u8], letter: u8) -> (&[u8], &[u8])
@@ -17,7 +18,7 @@ fn take_letter(part: &[u8], letter: u8) -> (&[u8], &[u8])
 #[derive(Clone, Copy)]
 pub struct File<'a> {
     pub bytes: &'a [u8],
-    pub counts: Line,
+    pub counts: Counts,
     pub dominance: &'a [u8],
     pub seniority: &'a [u8],
     pub clearances: &'a [u8],
@@ -34,6 +35,13 @@ impl<'a> File<'a> {
         ensures same { IfOk result (λ file. file.bytes.now ≡ bytes.now) }
     {
         check::lines(bytes)?;
+        let head = read::first_line(bytes);
+        let counts = Counts {
+            labels: head.a as usize,
+            roles: head.b as usize,
+            users: head.c as usize,
+            cards: head.d as usize,
+        };
         let (dominance, rest) = take_letter(read::part(bytes, 1), read::D_BYTE);
         let (seniority, rest) = take_letter(rest, read::S_BYTE);
         let (clearances, rest) = take_letter(rest, read::U_BYTE);
@@ -42,7 +50,7 @@ impl<'a> File<'a> {
         let (assignments, _) = take_letter(rest, read::A_BYTE);
         Ok(File {
             bytes,
-            counts: read::first_line(bytes),
+            counts,
             dominance,
             seniority,
             clearances,

@@ -1,24 +1,23 @@
 // Role flow, and what a state holds of its roles, for reports.
 //
 // Every public function takes any slice. One that is too short to be a state has no roles.
-ghost use Rattle.std.specs.Prelude.{◌≡◌, ◌+◌, ◌*◌, ◌≤◌, ◌<◌, length};
-ghost use Rattle.search.specs.Search.{some, thing};
+ghost use Rattle.std.specs.Prelude.{◌≡◌, ◌&&◌, cond, ◌+◌, ◌≤◌, ◌<◌};
+ghost use Rattle.search.specs.Search.{among, some, thing};
 ghost use Rattle.order.specs.Closure.{Agree};
 ghost use Rattle.order.specs.Table.{related, Tabled};
-ghost use Rattle.policy.specs.Tables.{r_levels_at, w_levels_at, writers_at, state_size, flows_by_card, count_in, role_count, level_in, flows_in, circle_in};
+ghost use Rattle.policy.specs.Tables.{r_levels_at, w_levels_at, is_state, byte_of, up_to, flows_by_card, role_count, level_in, flows_in, circle_in};
 ghost use Rattle.policy.specs.inner.Filling.{InEither, past_card, without_loops};
 
-use super::{layout, tables};
+use super::layout::{STATE_SIZE, State};
+use super::table::ByteTable;
+use super::{layout, table, tables};
 use order::rows::TABLE_BYTES;
 use roleset::ROW_BYTES;
 
-// The count at `at` in the state, `most` where it is higher.
-fn count(s: &[u8], at: u16, most: usize) -> usize
-    ensures { result ≡ count_in s.now at most }
+// The count at `at`, `most` where it is higher.
+fn count(s: &State, at: u16, most: usize) -> usize
+    ensures { result ≡ up_to s.now at most }
 {
-    if s.len() < layout::STATE_SIZE {
-        return 0;
-    }
     (tables::word(s, at) as usize).min(most)
 }
 
@@ -26,40 +25,42 @@ fn count(s: &[u8], at: u16, most: usize) -> usize
 pub fn roles(s: &[u8]) -> usize
     ensures { result ≡ role_count s.now }
 {
-    count(s, layout::ROLE_COUNT_AT, layout::ROLES)
+    match s.first_chunk() {
+        Some(s) => count(s, layout::ROLE_COUNT_AT, layout::ROLES),
+        None => 0,
+    }
 }
 
-// The role's byte of the table of levels at `at`.
-fn level(s: &[u8], at: usize, role: usize) -> u8
-    requires { at + 128 ≤ state_size }
-    ensures { result ≡ level_in s.now at role }
+// The role's byte of a table of levels.
+fn level(s: &[u8], table: ByteTable, role: usize) -> u8
+    ensures { result ≡ cond (is_state s.now && among table.size role) (byte_of s.now table.at role) 0 }
 {
-    if s.len() < layout::STATE_SIZE {
+    let Some(s) = s.first_chunk::<STATE_SIZE>() else {
+        return 0;
+    };
+    if !search::among(table.size as u64, role as u64) {
         return 0;
     }
-    if !search::among(layout::ROLES as u64, role as u64) {
-        return 0;
-    }
-    s[at + (role - 1)]
+    s[table.at + (role - 1)]
 }
 
 // The r-level of a role: its label, 0 for free, 99 for undefined; 0 for a number that is no role's.
 pub fn r_level(s: &[u8], role: usize) -> u8
     ensures { result ≡ level_in s.now r_levels_at role }
 {
-    level(s, layout::R_LEVELS_AT, role)
+    level(s, table::R_LEVELS, role)
 }
 
 // The w-level of a role, in the same way.
 pub fn w_level(s: &[u8], role: usize) -> u8
     ensures { result ≡ level_in s.now w_levels_at role }
 {
-    level(s, layout::W_LEVELS_AT, role)
+    level(s, table::W_LEVELS, role)
 }
 
 // Whether role `from` may write card o + 1 and role `to` may read or write it.
-fn flows_by_card(s: &[u8], o: usize, from: usize, to: usize) -> bool
-    requires { (writers_at + 16 * 512 ≤ length s.now) × (o < 512) }
+fn flows_by_card(s: &State, o: usize, from: usize, to: usize) -> bool
+    requires { o < 512 }
     ensures { result ≡ flows_by_card s.now from to (o + 1) }
 {
     roleset::has(s, layout::WRITERS_AT + ROW_BYTES * o, from)
@@ -71,9 +72,9 @@ fn flows_by_card(s: &[u8], o: usize, from: usize, to: usize) -> bool
 pub fn flows(s: &[u8], from: usize, to: usize) -> bool
     ensures { result ≡ flows_in s.now from to }
 {
-    if s.len() < layout::STATE_SIZE {
+    let Some(s) = s.first_chunk() else {
         return false;
-    }
+    };
     if from == to {
         return false;
     }
@@ -86,8 +87,8 @@ pub fn flows(s: &[u8], from: usize, to: usize) -> bool
 }
 
 // The roles that may read or write card o + 1.
-fn readers_or_writers(s: &[u8], o: usize) -> [u8; ROW_BYTES]
-    requires { (writers_at + 16 * 512 ≤ length s.now) × (o < 512) }
+fn readers_or_writers(s: &State, o: usize) -> [u8; ROW_BYTES]
+    requires { o < 512 }
     ensures { InEither s.now (o + 1) result }
 {
     let writers = roleset::row(s, layout::WRITERS_AT + ROW_BYTES * o);
@@ -97,8 +98,8 @@ fn readers_or_writers(s: &[u8], o: usize) -> [u8; ROW_BYTES]
 }
 
 // Relates each role that may write card o + 1 to each role that may read or write it.
-fn flow_past(t: &mut [u8; TABLE_BYTES], s: &[u8], o: usize)
-    requires { (writers_at + 16 * 512 ≤ length s.now) × (o < 512) }
+fn flow_past(t: &mut [u8; TABLE_BYTES], s: &State, o: usize)
+    requires { o < 512 }
     ensures { Tabled 0 128 (past_card t.old s.now (o + 1)) t.old t.new }
 {
     let writers = roleset::row(s, layout::WRITERS_AT + ROW_BYTES * o);
@@ -112,8 +113,8 @@ fn flow_past(t: &mut [u8; TABLE_BYTES], s: &[u8], o: usize)
 
 // Relates each role that may write one of the first n cards to each role that may read or write
 // that card.
-fn flow_table(s: &[u8], n: usize) -> [u8; TABLE_BYTES]
-    requires { (writers_at + 16 * 512 ≤ length s.now) × (n ≤ 512) }
+fn flow_table(s: &State, n: usize) -> [u8; TABLE_BYTES]
+    requires { n ≤ 512 }
     ensures { Agree 128 128 (related result 0) (λ r q. some n (flows_by_card s.now r q)) }
 {
     let mut t = [0u8; TABLE_BYTES];
@@ -136,9 +137,9 @@ fn remove_itself(t: &mut [u8; TABLE_BYTES])
 pub fn table(s: &[u8]) -> [u8; TABLE_BYTES]
     ensures { Agree 128 128 (related result 0) (flows_in s.now) }
 {
-    if s.len() < layout::STATE_SIZE {
+    let Some(s) = s.first_chunk() else {
         return [0u8; TABLE_BYTES];
-    }
+    };
     let mut t = flow_table(s, count(s, layout::CARD_COUNT_AT, layout::CARDS));
     remove_itself(&mut t);
     t
@@ -148,9 +149,6 @@ pub fn table(s: &[u8]) -> [u8; TABLE_BYTES]
 pub fn flow_circle(s: &[u8]) -> Option<usize>
     ensures { result ≡ thing (circle_in s.now) }
 {
-    if s.len() < layout::STATE_SIZE {
-        return None;
-    }
     let n = roles(s);
     let mut t = table(s);
     order::rows::paths(&mut t, 0, n);

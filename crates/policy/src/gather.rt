@@ -104,12 +104,12 @@ fn level_of(t: &MemberRows, n: usize, s: Members) -> Level
     }
 }
 
-// Puts in both levels of each of the first `roles` roles. The first n labels count.
-pub fn put_levels(s: &mut State, g: &Gathered, dominance: &Dominance, n: usize, roles: usize)
-    requires { (n ≤ 32) × (roles ≤ 128) }
-    ensures { LevelBytes roles (λ d r. level_number (level n (converse (row_holds (by_mode dominance.now.over dominance.now.under d))) (λ l. related (by_mode g.now.readers g.now.writers d) 0 l r))) s.old s.new }
+// Puts in both levels of each role.
+pub fn put_levels(s: &mut State, g: &Gathered, dominance: &Dominance)
+    ensures { let n = dominance.now.file.now.counts in LevelBytes n.roles (λ d r. level_number (level n.labels (converse (row_holds (by_mode dominance.now.over dominance.now.under d))) (λ l. related (by_mode g.now.readers g.now.writers d) 0 l r))) s.old s.new }
 {
-    for i in 0..roles {
+    let n = dominance.file.counts.labels;
+    for i in 0..dominance.file.counts.roles {
         let reads = labels_of(&g.readers, i + 1);
         s[layout::R_LEVELS_AT + i] = level_of(&dominance.over, n, reads).into();
         let writes = labels_of(&g.writers, i + 1);

@@ -6,6 +6,7 @@
 
 mod assign;
 mod build;
+mod counts;
 mod file;
 pub mod flow;
 mod gather;

@@ -1,10 +1,9 @@
 // Tables of role sets: seniors, assigned roles, readers and writers.
-ghost use Rattle.std.specs.Prelude.{◌≡◌, ◌&&◌, eqb, MatchOption};
+ghost use Rattle.std.specs.Prelude.{◌≡◌, ℕ, ◌&&◌, eqb, MatchResult};
 ghost use Rattle.search.specs.Search.{Among};
 ghost use Rattle.rolefile.specs.Line.{lines};
-ghost use Rattle.rolefile.specs.inner.Section.{pairs};
 ghost use Rattle.policy.specs.Tables.{table_of};
-ghost use Rattle.policy.specs.inner.Filling.{mode_number, line_grants, granted_by_lines, Related, GrantedRows};
+ghost use Rattle.policy.specs.inner.Filling.{mode_number, turned, line_grants, granted_by_lines, Related, GrantedRows};
 
 use super::layout;
 use super::layout::State;
@@ -22,31 +21,19 @@ fn relate(s: &mut State, table: RowTable, x: usize, role: usize)
     roleset::add(s, table.at + ROW_BYTES * (x - 1), role);
 }
 
-// Each line puts its second number into the row of its first.
-pub fn relate_lines(s: &mut State, table: RowTable, p: &[u8])
-    ensures { Related table.at table.size (pairs p.now (lines p.now)) s.old s.new }
+// Each line relates two things: `turn` makes of its two numbers the thing whose row it is and the role in it.
+pub fn relate_lines<F: Fn(usize, usize) -> (usize, usize)>(
+    s: &mut State,
+    table: RowTable,
+    p: &[u8],
+    turn: F,
+)
+    requires { F.IsAlwaysCallable turn }
+    ensures { (row role : ℕ → ℕ → ℕ) → ((a b : ℕ) (q : _) → F.post turn a b q → (q.0 ≡ row a b) × (q.1 ≡ role a b)) → Related table.at table.size (turned row role p.now (lines p.now)) s.old s.new }
 {
     for i in 0..p.len() / read::LINE_LENGTH {
-        relate(
-            s,
-            table,
-            read::first_number(p, i),
-            read::second_number(p, i),
-        );
-    }
-}
-
-// The same the other way round: each puts its first number into the row of its second.
-pub fn relate_back(s: &mut State, table: RowTable, p: &[u8])
-    ensures { Related table.at table.size (λ x r. pairs p.now (lines p.now) r x) s.old s.new }
-{
-    for i in 0..p.len() / read::LINE_LENGTH {
-        relate(
-            s,
-            table,
-            read::second_number(p, i),
-            read::first_number(p, i),
-        );
+        let (x, role) = turn(read::first_number(p, i), read::second_number(p, i));
+        relate(s, table, x, role);
     }
 }
 
@@ -57,18 +44,21 @@ enum Mode {
     Write,
 }
 
-impl Mode {
-    // The mode of this number, if it has one.
-    fn of(number: usize) -> Option<Mode>
-        ensures { MatchOption result (Among 2 number → ⊥) (λ mode. mode_number mode ≡ number) }
-    {
+impl TryFrom<usize> for Mode {
+    type Error = ();
+
+    ghost try_from_gives = { λ number answer. MatchResult answer (λ mode. mode_number mode ≡ number) (λ _. Among 2 number → ⊥) };
+
+    fn try_from(number: usize) -> Result<Mode, ()> {
         match number {
-            1 => Some(Mode::Read),
-            2 => Some(Mode::Write),
-            _ => None,
+            1 => Ok(Mode::Read),
+            2 => Ok(Mode::Write),
+            _ => Err(()),
         }
     }
+}
 
+impl Mode {
     // Where the rows of the cards start.
     fn rows_at(self) -> usize
         ensures { result ≡ table_of (mode_number self) }
@@ -90,7 +80,7 @@ fn grant(s: &mut State, role: usize, card: usize, mode: usize)
     if !search::among(layout::CARDS as u64, card as u64) {
         return;
     }
-    let Some(mode) = Mode::of(mode) else {
+    let Ok(mode) = Mode::try_from(mode) else {
         return;
     };
     let seniors = layout::SENIORS_AT + ROW_BYTES * (role - 1);

@@ -29,6 +29,16 @@ pub const CARD_LABELS: ByteTable = ByteTable {
     size: layout::CARDS,
 };
 
+pub const R_LEVELS: ByteTable = ByteTable {
+    at: layout::R_LEVELS_AT,
+    size: layout::ROLES,
+};
+
+pub const W_LEVELS: ByteTable = ByteTable {
+    at: layout::W_LEVELS_AT,
+    size: layout::ROLES,
+};
+
 pub const SENIORS: RowTable = RowTable {
     at: layout::SENIORS_AT,
     size: layout::ROLES,

@@ -37,6 +37,10 @@ unlabelled_byte v = eqb v 0 || eqb v 255
 abbrev pub unlabelled_in : List ℕ → ℕ → ℕ → Bool
 unlabelled_in xs at x = unlabelled_byte (byte_of xs at x)
 
+-- one of the first m lines, its two numbers turned to a row and a role, relates x to r
+unfoldable pub turned : (ℕ → ℕ → ℕ) → (ℕ → ℕ → ℕ) → List ℕ → ℕ → ℕ → ℕ → Bool
+turned row role p m x r = some m (λ i. eqb (row (one p i) (two p i)) x && eqb (role (one p i) (two p i)) r)
+
 -- a line with these three numbers is of mode d for card o, and the seniors of its role, itself included, hold r
 abbrev pub line_grants : List ℕ → ℕ → ℕ → ℕ → ℕ → ℕ → ℕ → Bool
 line_grants xs role card mode d o r = eqb card o && (eqb mode d && (among 128 role && member xs (row_of seniors_at role) r))

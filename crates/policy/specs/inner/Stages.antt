@@ -9,10 +9,12 @@ use Rattle.rolefile.specs.Line.{D, S, U, O, P, A, line_length, letter_byte, line
 use Rattle.rolefile.specs.Form.{header, lines_verdict, unlabelled_verdict}
 use Rattle.rolefile.specs.Said.{labels, over, assigned}
 use Rattle.rolefile.specs.inner.Section.{Leads}
+use Rattle.policy.specs.declared.counts.Counts.{Counts}
 use Rattle.policy.specs.Settings.{dominates, settings}
 use Rattle.policy.specs.Tables.{label_count_at, card_count_at, dominance_at, clearances_at, r_levels_at, seniors_at, assigned_at, readers_at, writers_at}
 use Rattle.policy.specs.Verdict.{role_verdict, verdict}
-use Rattle.policy.specs.Image.{Labelled, Dominating, Seniors, Permitting, Levelled, Assigning, Counts, Counted, Image}
+use Rattle.policy.specs.Image as image
+use Rattle.policy.specs.Image.{Labelled, Dominating, Seniors, Permitting, Levelled, Assigning, Counted, Image}
 
 -- the lines at the front of a part that have the letter whose byte is b, and the part after them
 pub record Taken (b : ℕ) (whole p rest : List ℕ) : Type 0 where
@@ -34,10 +36,17 @@ pub record Laid (f d s u o p a : List ℕ) : Type 0 where
   pub p_stands : Stands f P (1 + lines d + lines s + lines u + lines o) p
   pub a_stands : Stands f A (1 + lines d + lines s + lines u + lines o + lines p) a
 
--- a file whose lines have nothing to refuse, with its counts in h, and the lines of each letter
-pub record Ready (f : List ℕ) (h : Line) (d s u o p a : List ℕ) : Type 0 where
+-- n has the counts that an H line says
+pub record Says (n : Counts) (h : Line) : Type 0 where
+  pub labels : n.labels ≡ h.a
+  pub roles : n.roles ≡ h.b
+  pub users : n.users ≡ h.c
+  pub cards : n.cards ≡ h.d
+
+-- a file whose lines have nothing to refuse, with its counts in n, and the lines of each letter
+pub record Ready (f : List ℕ) (n : Counts) (d s u o p a : List ℕ) : Type 0 where
   pub lines : (lines_verdict f).number ≡ 0
-  pub head : h ≡ header f
+  pub head : Says n (header f)
   pub laid : Laid f d s u o p a
 
 -- the bytes from a up to b are 0
@@ -75,9 +84,9 @@ pub record Granting (f xs ys : List ℕ) : Type 0 where
   pub levelled : Levelled (settings f) ys
   pub rest : (i : ℕ) → (dominance_at ≤ i → clearances_at ≤ i) → (r_levels_at ≤ i → seniors_at ≤ i) → (readers_at ≤ i → writers_at + 16 * 512 ≤ i) → get_or ys i 0 ≡ get_or xs i 0
 
--- the counts of h are in
-pub record Counting (h : Line) (xs ys : List ℕ) : Type 0 where
-  pub counts : Counts h.a h.b h.c h.d ys
+-- the counts of n are in
+pub record Counting (n : Counts) (xs ys : List ℕ) : Type 0 where
+  pub counts : image.Counts n.labels n.roles n.users n.cards ys
   pub rest : Kept label_count_at (card_count_at + 2) xs ys
 
 -- the assigned roles and the counts are in

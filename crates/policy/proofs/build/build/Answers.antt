@@ -11,7 +11,6 @@ use Rattle.order.specs.Closure.{Agree, with_itself}
 use Rattle.order.specs.Table.{mark, Rows}
 use Rattle.order.specs.inner.Members.{row_holds}
 use Rattle.rolefile.specs.declared.Verdict.{Verdict}
-use Rattle.rolefile.specs.declared.Line.{Line}
 use Rattle.rolefile.specs.Line.{lines}
 use Rattle.rolefile.specs.Form.{fine, scan}
 use Rattle.rolefile.specs.Said.{labels}
@@ -31,25 +30,25 @@ use Rattle.policy.proofs.build.build.Goals as goal
 
 -- t has the paths of dominance, and down their closure
 module _ (file : File) (t down : List (List Bool)) (paths : Paths file.bytes.now t)
-    (reflected : Rows 32 (min file.counts.a 32) (with_itself (mark t)) (mark t) (mark down)) where
+    (reflected : Rows 32 (min file.counts.labels 32) (with_itself (mark t)) (mark t) (mark down)) where
   few : labels file.bytes.now ≤ 32
   few = (counts_of _ file.ready.lines).labels.1
 
-  head : file.counts.a ≡ labels file.bytes.now
-  head = ap (λ (l : Line). l.a) file.ready.head
+  head : file.counts.labels ≡ labels file.bytes.now
+  head = file.ready.head.labels
 
   closed : Closed file.bytes.now (mark down)
   closed = closed_of file.bytes.now t down paths (rw (head_labels file.ready) at reflected)
 
   -- the order's verdict is the file's
-  order_is : order_verdict (min file.counts.a 32) (mark t) (mark down) ≡ label_verdict file.bytes.now
+  order_is : order_verdict (min file.counts.labels 32) (mark t) (mark down) ≡ label_verdict file.bytes.now
   order_is = rw (head_labels file.ready) (order_verdict_is _ t (mark down) few paths (closed_agree _ (mark down) few closed))
 
   -- dominance as rows: the labels under each label, and those over it
-  lower : (under : List ℕ) → Agree 32 32 (row_holds under) (λ a b. leb a file.counts.a && mark down a b) → Closed file.bytes.now (row_holds under)
+  lower : (under : List ℕ) → Agree 32 32 (row_holds under) (λ a b. leb a file.counts.labels && mark down a b) → Closed file.bytes.now (row_holds under)
   lower under same = closed_rows _ (mark down) (row_holds under) closed (rw head at same)
 
-  upper : (over : List ℕ) → Agree 32 32 (row_holds over) (λ a b. leb b file.counts.a && mark down b a) → Closed file.bytes.now (converse (row_holds over))
+  upper : (over : List ℕ) → Agree 32 32 (row_holds over) (λ a b. leb b file.counts.labels && mark down b a) → Closed file.bytes.now (converse (row_holds over))
   upper over same = closed_rows _ (mark down) (converse (row_holds over)) closed (λ a b v w. rw head at (same b a w v))
 
 -- a check that answered with nothing to refuse

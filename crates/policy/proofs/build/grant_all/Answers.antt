@@ -1,13 +1,6 @@
 -- What each call leaves, in order: the table of dominance, the permissions, and both levels.
-use Rattle.policy.proofs.Readying.{head_counts}
 use Rattle.policy.proofs.Granting.{granting}
 use Rattle.policy.proofs.build.grant_all.Goals as goal
-
-pub gather-g-requires : goal.gather-g-requires
-gather-g-requires c = (head_counts c.args.dominance.now.file.now.ready).cards
-
-pub put_levels-requires : goal.put_levels-requires
-put_levels-requires c = let counts = head_counts c.args.dominance.now.file.now.ready in (counts.labels.1, counts.roles)
 
 pub returns : goal.returns
 returns c =

@@ -32,4 +32,6 @@ module _ (xs : List ℕ) (at n : ℕ) (fits : at + 2 ≤ length xs) (small : n <
 
 pub returns : goal.returns
 unfolding ys
-returns c = let a = c.args in (holds a.s.now a.at a.n (search rules) (search rules), keeps a.s.now a.at a.n (search rules) (search rules))
+returns c =
+    let a = c.args in
+    rw c.to_le_bytes.ensures (holds a.s.now a.at a.n (search rules) (search rules), keeps a.s.now a.at a.n (search rules) (search rules))

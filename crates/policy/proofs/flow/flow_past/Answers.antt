@@ -21,8 +21,8 @@ turn c n e =
     record {
       long = search rules;
       same = w.invariant.same;
-      fits = c.requires.0;
-      card = c.requires.1;
+      fits = search rules;
+      card = c.requires;
       before = w.invariant.within;
       next = next_taken a.s.now c.row-writers.result (writers_at + 16 * a.o) _ (omega arith) (search rules) c.row-writers.ensures e;
       done = w.invariant.done;

@@ -1,36 +1,37 @@
 -- Nothing of a slice that is too short, nor of a number that is no role's.
-use mathlib.Core.Path.{refl}
 use mathlib.Core.Bool.{◌&&◌, and-false}
 use native.Mathlib.Omega.{arith}
-use borrow.Author.Rules.{rules}
 use Rattle.search.specs.Search.{among, Among}
 use Rattle.search.proofs.Truth.{passed, failed, one_of, answered, refused}
 use Rattle.policy.specs.Tables.{is_state}
-use Rattle.policy.proofs.Flowing.{no_state, a_state}
+use Rattle.policy.proofs.Flowing.{no_state, a_state, front_byte}
 use Rattle.policy.proofs.flow.level.Goals.{Else-not-among}
 use Rattle.policy.proofs.flow.level.Goals as goal
 
-known : (c : Else-not-among) → Among 128 c.args.role
-known c = one_of 128 _ c.among.ensures c.if-not-among.false
+known : (c : Else-not-among) → Among c.args.table.size c.args.role
+known c = one_of c.args.table.size _ c.among.ensures c.if-not-among.false
 
-pub returns-then-s-lt-STATE_SIZE : goal.returns-then-s-lt-STATE_SIZE
-returns-then-s-lt-STATE_SIZE c = let a = c.args in refused {b = is_state a.s.now && among 128 a.role} _ (rw (no_state a.s.now (search rules)))
+pub returns-in_default : goal.returns-in_default
+returns-in_default c = let a = c.args in refused {b = is_state a.s.now && among a.table.size a.role} _ (rw (no_state a.s.now c.in_default.ensures.cases))
 
 pub returns-then-not-among : goal.returns-then-not-among
 returns-then-not-among c =
     let a = c.args in
-    refused {b = is_state a.s.now && among 128 a.role} _ (rw (failed c.among.ensures c.if-not-among.true, and-false (is_state a.s.now)))
+    refused {b = is_state a.s.now && among a.table.size a.role} _ (rw (failed c.among.ensures c.if-not-among.true, and-false (is_state a.s.now)))
 
 pub returns : goal.returns
 returns c =
     let a = c.args in
-    answered {b = is_state a.s.now && among 128 a.role} (rw (a_state a.s.now (search rules), passed c.among.ensures c.if-not-among.false)) refl
+    let chunk = c.in-Some.ensures.cases in
+    let w = known (goal.at.returns c).Else-not-among in
+    answered {b = is_state a.s.now && among a.table.size a.role} (rw (a_state a.s.now chunk.enough, passed c.among.ensures c.if-not-among.false))
+    (front_byte a.s.now c.in-Some.s.now chunk.same _ (omega (arith, w, a.table.inside)))
 
 pub overflow_sub-result : goal.overflow_sub-result
 overflow_sub-result c = omega (arith, known (goal.at.overflow_sub-result c).Else-not-among)
 
 pub overflow_add-result : goal.overflow_add-result
-overflow_add-result c = omega (arith, known (goal.at.overflow_add-result c).Else-not-among)
+overflow_add-result c = omega (arith, known (goal.at.overflow_add-result c).Else-not-among, c.args.table.inside)
 
-pub bounds-s-at : goal.bounds-s-at
-bounds-s-at c = omega (arith, known (goal.at.bounds-s-at c).Else-not-among)
+pub bounds-s-table : goal.bounds-s-table
+bounds-s-table c = omega (arith, known (goal.at.bounds-s-table c).Else-not-among, c.args.table.inside)

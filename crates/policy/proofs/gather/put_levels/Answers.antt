@@ -23,10 +23,10 @@ pub loop-i-preserved : goal.loop-i-preserved
 loop-i-preserved c =
     let w = c.loop-i in
     let a = c.args in
-    let (few, roles) = c.requires in
+    let counts = a.dominance.now.file.now.counts in
     levels_more w.invariant (omega arith) (omega arith)
-    (bounded a.g.now.readers a.dominance.now.over c.labels_of-reads.result a.n w.i _ c.into.ensures c.level_of.ensures (omega arith) c.labels_of-reads.ensures)
-    (bounded a.g.now.writers a.dominance.now.under c.labels_of-writes.result a.n w.i _ c.into-in-loop-i.ensures c.level_of-in-loop-i.ensures (omega arith) c.labels_of-writes.ensures)
+    (bounded a.g.now.readers a.dominance.now.over c.labels_of-reads.result a.dominance.now.file.now.counts.labels w.i _ c.into.ensures c.level_of.ensures (omega arith) c.labels_of-reads.ensures)
+    (bounded a.g.now.writers a.dominance.now.under c.labels_of-writes.result a.dominance.now.file.now.counts.labels w.i _ c.into-in-loop-i.ensures c.level_of-in-loop-i.ensures (omega arith) c.labels_of-writes.ensures)
 
 pub loop-i-init : goal.loop-i-init
 loop-i-init c = levels_none

@@ -25,5 +25,5 @@ pub returns : goal.returns
 returns c =
     let a = c.args in
     let (role, card) = known (goal.at.returns c).Else-not-among-2 in
-    granted a.role a.card a.mode a.s.now _ (search rules) role card (rw c.in-Some.ensures at (mode_among c.in-Some.mode))
-    (rw (c.rows_at.ensures, c.in-Some.ensures) at c.join.ensures)
+    granted a.role a.card a.mode a.s.now _ (search rules) role card (rw c.in-Ok.ensures at (mode_among c.in-Ok.mode))
+    (rw (c.rows_at.ensures, c.in-Ok.ensures) at c.join.ensures)
