@@ -10,7 +10,6 @@ ghost use Rattle.order.specs.Bound.{upper, least_of, converse, partner_without_b
 ghost use Rattle.order.specs.Table.{marks, mark};
 ghost use Rattle.order.specs.inner.Members.{holds, Has, FirstThings, row_holds, in_row};
 
-use super::marks;
 use super::marks::{Set, THINGS, Table};
 
 // A set of things: thing a is bit a - 1.
@@ -55,10 +54,8 @@ fn packed(row: Set) -> Members
     ensures { Has (marks row) result }
 {
     let mut r = 0;
-    let mut j = 0;
-    while j < THINGS {
+    for j in 0..THINGS {
         r = put(r, j, row[j]);
-        j += 1;
     }
     r
 }
@@ -67,13 +64,9 @@ fn packed(row: Set) -> Members
 pub fn rows(t: &Table, n: usize) -> MemberRows
     ensures { Agree 32 32 (row_holds result) (λ a b. leb a n && mark t.now a b) }
 {
-    let m = marks::lesser(n, THINGS);
-    let mut r = [0u32; THINGS];
-    let mut i = 0;
-    while i < m {
-        let row = t[i];
-        r[i] = packed(row);
-        i += 1;
+    let mut r = [0; THINGS];
+    for i in 0..n.min(THINGS) {
+        r[i] = packed(t[i]);
     }
     r
 }
@@ -83,11 +76,9 @@ fn spread(t: MemberRows, row: Set, i: usize) -> MemberRows
     requires { i < 32 }
     ensures { Agree 32 32 (row_holds result) (λ a b. row_holds t a b || (marks row a && eqb (i + 1) b)) }
 {
-    let mut r = [0u32; THINGS];
-    let mut j = 0;
-    while j < THINGS {
+    let mut r = [0; THINGS];
+    for j in 0..THINGS {
         r[j] = put(t[j], i, row[j]);
-        j += 1;
     }
     r
 }
@@ -96,14 +87,11 @@ fn spread(t: MemberRows, row: Set, i: usize) -> MemberRows
 pub fn columns(t: &Table, n: usize) -> MemberRows
     ensures { Agree 32 32 (row_holds result) (λ a b. leb b n && mark t.now b a) }
 {
-    let counted = marks::lesser(n, THINGS);
-    let mut r = [0u32; THINGS];
-    let mut i = 0;
-    while i < counted {
-        let row = t[i];
-        let next = spread(r, row, i);
-        r = next;
-        i += 1;
+    let counted = n.min(THINGS);
+    let mut r = [0; THINGS];
+    for i in 0..counted {
+        let wider = spread(r, t[i], i);
+        r = wider;
     }
     r
 }
@@ -193,7 +181,7 @@ fn partner(up: &MemberRows, m: usize, i: usize) -> Option<usize>
 }
 
 // Two things, the lower and the higher number.
-#[derive(Clone, Copy)]
+#[derive(Clone, Copy, PartialEq, Eq, Debug)]
 pub struct Pair {
     pub lower: usize,
     pub higher: usize,

@@ -3,7 +3,7 @@ ghost use Rattle.std.specs.Prelude.{◌≡◌};
 ghost use Rattle.order.specs.Comparison.{by_marks, at_least};
 
 // How a thing compares with another: it is the same, over it or under it, or neither is over the other.
-#[derive(Clone, Copy)]
+#[derive(Clone, Copy, PartialEq, Eq, Debug)]
 pub enum Comparison {
     Equal,
     Above,
@@ -16,18 +16,11 @@ pub enum Comparison {
 pub fn by_marks(over: bool, under: bool) -> Comparison
     ensures { result ≡ by_marks over under }
 {
-    if over {
-        if under {
-            Comparison::Equal
-        } else {
-            Comparison::Above
-        }
-    } else {
-        if under {
-            Comparison::Below
-        } else {
-            Comparison::Neither
-        }
+    match (over, under) {
+        (true, true) => Comparison::Equal,
+        (true, false) => Comparison::Above,
+        (false, true) => Comparison::Below,
+        (false, false) => Comparison::Neither,
     }
 }
 
@@ -35,10 +28,5 @@ pub fn by_marks(over: bool, under: bool) -> Comparison
 pub fn at_least(c: Comparison) -> bool
     ensures { result ≡ at_least c }
 {
-    match c {
-        Comparison::Equal => true,
-        Comparison::Above => true,
-        Comparison::Below => false,
-        Comparison::Neither => false,
-    }
+    matches!(c, Comparison::Equal | Comparison::Above)
 }

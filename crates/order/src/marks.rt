@@ -17,7 +17,7 @@ pub type Table = [Set; THINGS];
 pub fn lesser(n: usize, most: usize) -> usize
     ensures { result ≡ min n most }
 {
-    if n < most { n } else { most }
+    n.min(most)
 }
 
 // The row with the marks of `other` too, where `on`.
@@ -25,10 +25,8 @@ fn stepped(row: Set, other: Set, on: bool) -> Set
     ensures { Upto 32 (λ b. marks row b || (on && marks other b)) result }
 {
     let mut r = [false; THINGS];
-    let mut j = 0;
-    while j < THINGS {
+    for j in 0..THINGS {
         r[j] = row[j] | (on & other[j]);
-        j += 1;
     }
     r
 }
@@ -39,12 +37,9 @@ fn pass(t: &mut Table, k: usize, n: usize)
     ensures { (length t.new ≡ 32) × Rows 32 n (round (mark t.old) (k + 1)) (mark t.old) (mark t.new) }
 {
     let other = t[k];
-    let mut i = 0;
-    while i < n {
+    for i in 0..n {
         let on = t[i][k];
-        let row = t[i];
-        t[i] = stepped(row, other, on);
-        i += 1;
+        t[i] = stepped(t[i], other, on);
     }
 }
 
@@ -52,12 +47,10 @@ fn pass(t: &mut Table, k: usize, n: usize)
 pub fn paths(t: Table, n: usize) -> Table
     ensures { Rows 32 (min n 32) (path (min n 32) (mark t)) (mark t) (mark result) }
 {
-    let m = lesser(n, THINGS);
+    let m = n.min(THINGS);
     let mut r = t;
-    let mut k = 0;
-    while k < m {
+    for k in 0..m {
         pass(&mut r, k, m);
-        k += 1;
     }
     r
 }
@@ -78,13 +71,9 @@ pub fn with_mark(row: Set, b: usize) -> Set
 pub fn reflected(t: Table, n: usize) -> Table
     ensures { Rows 32 (min n 32) (with_itself (mark t)) (mark t) (mark result) }
 {
-    let m = lesser(n, THINGS);
     let mut r = t;
-    let mut i = 0;
-    while i < m {
-        let row = t[i];
-        r[i] = with_mark(row, i + 1);
-        i += 1;
+    for i in 0..n.min(THINGS) {
+        r[i] = with_mark(t[i], i + 1);
     }
     r
 }

@@ -7,7 +7,6 @@ ghost use Rattle.search.specs.Search.{thing};
 ghost use Rattle.order.specs.Closure.{path, loop, round, with_itself};
 ghost use Rattle.order.specs.Table.{related, Tabled};
 
-use super::marks;
 use roleset::{ROLES, ROW_BYTES};
 
 // The bytes of a table.
@@ -29,11 +28,9 @@ pub fn paths(s: &mut [u8], at: usize, n: usize)
     if !roleset::rows_lie(s.len(), at, ROLES) {
         return;
     }
-    let m = marks::lesser(n, ROLES);
-    let mut k = 0;
-    while k < m {
+    let m = n.min(ROLES);
+    for k in 0..m {
         pass(s, at, k, m);
-        k += 1;
     }
 }
 
@@ -44,11 +41,8 @@ pub fn reflect(s: &mut [u8], at: usize, n: usize)
     if !roleset::rows_lie(s.len(), at, ROLES) {
         return;
     }
-    let m = marks::lesser(n, ROLES);
-    let mut i = 0;
-    while i < m {
+    for i in 0..n.min(ROLES) {
         roleset::add(s, at + ROW_BYTES * i, i + 1);
-        i += 1;
     }
 }
 

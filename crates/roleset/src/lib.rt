@@ -99,7 +99,8 @@ pub fn unite_rows(s: &mut [u8], at: usize, n: usize, role: usize, other: [u8; RO
         return;
     }
     for i in 0..n {
-        inner::unite_where(&mut s[at + ROW_BYTES * i..], role, other);
+        let row = at + ROW_BYTES * i;
+        inner::unite_where(&mut s[row..row + ROW_BYTES], role, other);
     }
 }
 

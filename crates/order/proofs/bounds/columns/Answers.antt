@@ -3,7 +3,6 @@ use Prim.Native.Nat.{ℕ, ◌-◌, min}
 use mathlib.Core.Path.{◌≡◌, ◌∙◌}
 use native.Mathlib.Nat.{add-sub_cancel}
 use native.Mathlib.Omega.{arith}
-use borrow.Author.Rules.{rules}
 use borrow.Author.Tests.{lt-leb}
 use lib.ListN.{get_or-replicate}
 use Rattle.roleset.proofs.Bits.{bit_zero}
@@ -12,20 +11,17 @@ use Rattle.order.proofs.Stored.{put_more, all_put}
 use Rattle.order.proofs.bounds.columns.Goals as goal
 
 pub loop-i-init : goal.loop-i-init
-loop-i-init c = (search rules, search rules, λ a b v u. rw (lt-leb b 0 (omega arith), get_or-replicate {A = ℕ} 32 (a - 1) 0 0 (omega arith)) (bit_zero (b - 1)))
+loop-i-init c a b v u = rw (lt-leb b 0 (omega arith), get_or-replicate {A = ℕ} 32 (a - 1) 0 0 (omega arith)) (bit_zero (b - 1))
 
 pub loop-i-preserved : goal.loop-i-preserved
-loop-i-preserved c =
+loop-i-preserved c a b v u =
     let t = c.args.t.now in
-    let w = c.loop-i in (
-      search rules,
-      search rules,
-      λ a b v u. c.spread-next.ensures a b v u ∙ rw (w.invariant.2 a b v u) (rw (add-sub_cancel w.i 1) at (put_more (λ x. mark t x a) w.i b)),
-    )
+    let w = c.loop-i in
+    c.spread-wider.ensures a b v u ∙ rw (w.invariant a b v u) (rw (add-sub_cancel w.i 1) at (put_more (λ x. mark t x a) w.i b))
 
 pub returns : goal.returns
 returns c a b v u =
     let n = c.args.n in
     let w = c.loop-i in
     let all : w.i ≡ min n 32 = omega arith in
-    w.invariant.2 a b v u ∙ rw (all, all_put n b u)
+    w.invariant a b v u ∙ rw (all, all_put n b u)

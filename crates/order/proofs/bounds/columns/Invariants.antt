@@ -1,5 +1,4 @@
 -- Each turn puts one thing more into the columns, where it has a mark in its row.
-use Prim.Native.Nat.{◌-◌, ◌≤◌}
 use mathlib.Core.Bool.{◌&&◌}
 use lib.Dec.{leb}
 use Rattle.order.specs.Closure.{Agree}
@@ -8,7 +7,4 @@ use Rattle.order.specs.inner.Members.{row_holds}
 use Rattle.order.proofs.bounds.columns.Given as goal
 
 abbrev pub invariant-loop-i : goal.invariant-loop-i
-invariant-loop-i l = (l.counted ≤ 32) × (l.i ≤ l.counted) × Agree 32 32 (row_holds l.r) (λ a b. leb b l.i && mark l.t b a)
-
-abbrev pub decreases-loop-i : goal.decreases-loop-i
-decreases-loop-i l = l.counted - l.i
+invariant-loop-i l = Agree 32 32 (row_holds l.r) (λ a b. leb b l.i && mark l.t b a)

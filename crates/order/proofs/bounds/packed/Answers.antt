@@ -2,7 +2,6 @@
 use mathlib.Core.Path.{◌∙◌}
 use native.Mathlib.Nat.{add-sub_cancel}
 use native.Mathlib.Omega.{arith}
-use borrow.Author.Rules.{rules}
 use borrow.Author.Tests.{le-leb}
 use Rattle.order.specs.Table.{marks}
 use Rattle.order.proofs.Stored.{put_none, put_more}
@@ -12,10 +11,10 @@ pub loop-j-preserved : goal.loop-j-preserved
 loop-j-preserved c =
     let row = c.args.row in
     let w = c.loop-j in
-    (search rules, λ b v. c.put-r.ensures b v ∙ rw (w.invariant.1 b v) (rw (add-sub_cancel w.j 1) at (put_more (marks row) w.j b)))
+    λ b v. c.put-r.ensures b v ∙ rw (w.invariant b v) (rw (add-sub_cancel w.j 1) at (put_more (marks row) w.j b))
 
 pub returns : goal.returns
-returns c b v = c.loop-j.invariant.1 b v ∙ rw (le-leb b c.loop-j.j (omega arith))
+returns c b v = c.loop-j.invariant b v ∙ rw (le-leb b c.loop-j.j (omega arith))
 
 pub loop-j-init : goal.loop-j-init
-loop-j-init c = (search rules, λ b v. put_none b _ v.0)
+loop-j-init c = λ b v. put_none b _ v.0

@@ -1,5 +1,5 @@
 -- Each turn puts one thing more, where it has a mark.
-use Prim.Native.Nat.{ℕ, ◌-◌, ◌≤◌}
+use Prim.Native.Nat.{ℕ}
 use mathlib.Core.Path.{◌≡◌}
 use mathlib.Core.Bool.{◌&&◌}
 use lib.Dec.{leb}
@@ -9,7 +9,4 @@ use Rattle.order.specs.inner.Members.{holds}
 use Rattle.order.proofs.bounds.packed.Given as goal
 
 abbrev pub invariant-loop-j : goal.invariant-loop-j
-invariant-loop-j l = (l.j ≤ 32) × ((b : ℕ) → Among 32 b → holds l.r b ≡ (leb b l.j && marks l.row b))
-
-abbrev pub decreases-loop-j : goal.decreases-loop-j
-decreases-loop-j l = 32 - l.j
+invariant-loop-j l = (b : ℕ) → Among 32 b → holds l.r b ≡ (leb b l.j && marks l.row b)

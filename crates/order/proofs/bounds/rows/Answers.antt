@@ -17,20 +17,18 @@ pub loop-i-preserved : goal.loop-i-preserved
 loop-i-preserved c =
     let w = c.loop-i in (
       search rules,
-      search rules,
-      search rules,
-      rows_more 32 _ _ w.i _ _ (search rules) w.invariant.3
+      rows_more 32 _ _ w.i _ _ (search rules) w.invariant.1
           (set_row holds 0 _ w.r w.i c.packed.result (search rules) (simp (add-sub_cancel w.i 1) c.packed.ensures)),
     )
 
 pub returns : goal.returns
 returns c a b v u =
     let n = c.args.n in
-    let done = c.loop-i.invariant.3 in
+    let done = c.loop-i.invariant.1 in
     elim (dec_le a n) [
       | yes l ↦ done.done a b (omega arith) u ∙ rw (le-leb a n l)
       | no l ↦ done.left a b (omega arith) v.1 u ∙ rw (lt-leb a n (omega arith), get_or-replicate {A = ℕ} 32 (a - 1) 0 0 (omega arith)) (bit_zero (b - 1))
     ]
 
 pub loop-i-init : goal.loop-i-init
-loop-i-init c = (search rules, search rules, search rules, rows_none _ _ _)
+loop-i-init c = (search rules, rows_none _ _ _)

@@ -1,5 +1,4 @@
 -- Each turn stores the next row; those after the first n stay as they were made, empty.
-use Prim.Native.Nat.{◌-◌, ◌≤◌}
 use mathlib.Core.Path.{◌≡◌}
 use lib.ListN.{length}
 use Rattle.order.specs.Table.{mark, Rows}
@@ -7,7 +6,4 @@ use Rattle.order.specs.inner.Members.{row_holds}
 use Rattle.order.proofs.bounds.rows.Given as goal
 
 abbrev pub invariant-loop-i : goal.invariant-loop-i
-invariant-loop-i l = (l.m ≤ 32) × (l.i ≤ l.m) × (length l.r ≡ 32) × Rows 32 l.i (mark l.t) (row_holds l.initial.r) (row_holds l.r)
-
-abbrev pub decreases-loop-i : goal.decreases-loop-i
-decreases-loop-i l = l.m - l.i
+invariant-loop-i l = (length l.r ≡ 32) × Rows 32 l.i (mark l.t) (row_holds l.initial.r) (row_holds l.r)

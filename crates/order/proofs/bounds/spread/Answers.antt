@@ -10,10 +10,9 @@ pub loop-j-preserved : goal.loop-j-preserved
 loop-j-preserved c =
     let w = c.loop-j in (
       search rules,
-      search rules,
-      rows_more 32 _ _ w.j _ _ (search rules) w.invariant.2
+      rows_more 32 _ _ w.j _ _ (search rules) w.invariant.1
           (set_row holds 0 _ w.r w.j c.put.result (search rules) (simp (add-sub_cancel w.j 1) c.put.ensures)),
     )
 
 pub loop-j-init : goal.loop-j-init
-loop-j-init c = (search rules, search rules, rows_none _ _ _)
+loop-j-init c = (search rules, rows_none _ _ _)

@@ -1,5 +1,5 @@
 -- Each turn stores the next row.
-use Prim.Native.Nat.{ℕ, ◌+◌, ◌-◌, ◌≤◌}
+use Prim.Native.Nat.{ℕ, ◌+◌}
 use mathlib.Core.Path.{◌≡◌}
 use mathlib.Core.Bool.{Bool, ◌&&◌, ◌||◌}
 use mathlib.Core.List.{List}
@@ -14,7 +14,4 @@ abbrev pub wider : List ℕ → List Bool → ℕ → Relation
 wider t row i a b = row_holds t a b || (marks row a && eqb (i + 1) b)
 
 abbrev pub invariant-loop-j : goal.invariant-loop-j
-invariant-loop-j l = (l.j ≤ 32) × (length l.r ≡ 32) × Rows 32 l.j (wider l.t l.row l.i) (row_holds l.initial.r) (row_holds l.r)
-
-abbrev pub decreases-loop-j : goal.decreases-loop-j
-decreases-loop-j l = 32 - l.j
+invariant-loop-j l = (length l.r ≡ 32) × Rows 32 l.j (wider l.t l.row l.i) (row_holds l.initial.r) (row_holds l.r)

@@ -24,10 +24,9 @@ loop-i-preserved c =
     let w = c.loop-i in
     let t = a.t.now in
     let i : ℕ = w.i in
-    let seat : (j : ℕ) → j < 32 → get_or (get_or w.t i []) j false ≡ get_or (get_or t i []) j false = λ j l. same_seat _ t w.t i j (search rules) l w.invariant.2 in (
+    let seat : (j : ℕ) → j < 32 → get_or (get_or w.t i []) j false ≡ get_or (get_or t i []) j false = λ j l. same_seat _ t w.t i j (search rules) l w.invariant.1 in (
       search rules,
-      search rules,
-      rows_more 32 _ _ w.i _ _ (search rules) w.invariant.2
+      rows_more 32 _ _ w.i _ _ (search rules) w.invariant.1
           (set_row marks [] _ w.t w.i c.stepped.result (search rules) (λ b v.
           simp (add-sub_cancel w.i 1, add-sub_cancel a.k 1) (c.stepped.ensures b v ∙ rw (seat (b - 1) (omega arith), seat a.k (search rules))))),
     )
@@ -36,7 +35,7 @@ pub returns : goal.returns
 returns c =
     let w = c.loop-i in
     let q : w.i ≡ c.args.n = omega arith in
-    (w.invariant.1, rw q at w.invariant.2)
+    (w.invariant.0, rw q at w.invariant.1)
 
 pub loop-i-init : goal.loop-i-init
-loop-i-init c = (search rules, search rules, rows_none _ _ _)
+loop-i-init c = (search rules, rows_none _ _ _)

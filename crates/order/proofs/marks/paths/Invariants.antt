@@ -1,5 +1,4 @@
 -- Each round lets paths pass one thing more.
-use Prim.Native.Nat.{◌≤◌, ◌-◌}
 use mathlib.Core.Path.{◌≡◌}
 use lib.ListN.{length}
 use Rattle.order.specs.Closure.{via}
@@ -7,7 +6,4 @@ use Rattle.order.specs.Table.{mark, Rows}
 use Rattle.order.proofs.marks.paths.Given as goal
 
 abbrev pub invariant-loop-k : goal.invariant-loop-k
-invariant-loop-k l = (l.m ≤ 32) × (l.k ≤ l.m) × (length l.r ≡ 32) × Rows 32 l.m (via (mark l.initial.r) l.k) (mark l.initial.r) (mark l.r)
-
-abbrev pub decreases-loop-k : goal.decreases-loop-k
-decreases-loop-k l = l.m - l.k
+invariant-loop-k l = (length l.r ≡ 32) × Rows 32 l.m (via (mark l.initial.r) l.k) (mark l.initial.r) (mark l.r)

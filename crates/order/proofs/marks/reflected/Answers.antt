@@ -14,9 +14,7 @@ pub loop-i-preserved : goal.loop-i-preserved
 loop-i-preserved c =
     let w = c.loop-i in (
       search rules,
-      search rules,
-      search rules,
-      rows_more 32 _ _ w.i _ _ (search rules) w.invariant.3
+      rows_more 32 _ _ w.i _ _ (search rules) w.invariant.1
           (set_row marks [] _ w.r w.i c.with_mark.result (search rules) (simp (add-sub_cancel w.i 1) c.with_mark.ensures)),
     )
 
@@ -24,7 +22,7 @@ pub returns : goal.returns
 returns c =
     let w = c.loop-i in
     let q : w.i ≡ min c.args.n 32 = omega arith in
-    rw q at w.invariant.3
+    rw q at w.invariant.1
 
 pub loop-i-init : goal.loop-i-init
-loop-i-init c = (search rules, search rules, search rules, rows_none _ _ _)
+loop-i-init c = (search rules, rows_none _ _ _)

@@ -1,5 +1,4 @@
 -- Each turn stores the next row, made from the old table.
-use Prim.Native.Nat.{◌≤◌, ◌-◌}
 use mathlib.Core.Path.{◌≡◌}
 use lib.ListN.{length}
 use Rattle.order.specs.Closure.{with_itself}
@@ -7,7 +6,4 @@ use Rattle.order.specs.Table.{mark, Rows}
 use Rattle.order.proofs.marks.reflected.Given as goal
 
 abbrev pub invariant-loop-i : goal.invariant-loop-i
-invariant-loop-i l = (l.m ≤ 32) × (l.i ≤ l.m) × (length l.r ≡ 32) × Rows 32 l.i (with_itself (mark l.t)) (mark l.t) (mark l.r)
-
-abbrev pub decreases-loop-i : goal.decreases-loop-i
-decreases-loop-i l = l.m - l.i
+invariant-loop-i l = (length l.r ≡ 32) × Rows 32 l.i (with_itself (mark l.t)) (mark l.t) (mark l.r)

@@ -8,7 +8,7 @@ use Rattle.order.proofs.marks.stepped.Goals as goal
 pub loop-j-preserved : goal.loop-j-preserved
 loop-j-preserved c =
     let w = c.loop-j in
-    (search rules, search rules, upto_more _ w.r w.j _ (search rules) w.invariant.2 (simp (add-sub_cancel w.j 1)))
+    (search rules, upto_more _ w.r w.j _ (search rules) w.invariant.1 (simp (add-sub_cancel w.j 1)))
 
 pub loop-j-init : goal.loop-j-init
-loop-j-init c = (search rules, search rules, λ b w. absurd (omega arith))
+loop-j-init c = (search rules, λ b w. absurd (omega arith))

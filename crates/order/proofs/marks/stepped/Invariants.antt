@@ -1,5 +1,4 @@
 -- Each turn stores one mark more, as the contract says it.
-use Prim.Native.Nat.{◌≤◌, ◌-◌}
 use mathlib.Core.Path.{◌≡◌}
 use mathlib.Core.Bool.{◌&&◌, ◌||◌}
 use lib.ListN.{length}
@@ -7,7 +6,4 @@ use Rattle.order.specs.Table.{marks, Upto}
 use Rattle.order.proofs.marks.stepped.Given as goal
 
 abbrev pub invariant-loop-j : goal.invariant-loop-j
-invariant-loop-j l = (l.j ≤ 32) × (length l.r ≡ 32) × Upto l.j (λ b. marks l.row b || (l.on && marks l.other b)) l.r
-
-abbrev pub decreases-loop-j : goal.decreases-loop-j
-decreases-loop-j l = 32 - l.j
+invariant-loop-j l = (length l.r ≡ 32) × Upto l.j (λ b. marks l.row b || (l.on && marks l.other b)) l.r

@@ -1,5 +1,5 @@
 -- The bytes from `at` on, and the first 16 of them.
-use Rattle.std.proofs.Common.{ℕ, ◌+◌, ◌≤◌, ◌<◌, ◌≡◌, ◌∙◌, true, false, List, length, slice_range, Option, Some, None, MatchOption, arith}
+use Rattle.std.proofs.Common.{ℕ, ◌+◌, ◌-◌, ◌≤◌, ◌<◌, ◌≡◌, ◌∙◌, true, false, List, length, slice_range, Option, Some, None, MatchOption, arith}
 use borrow.Author.Tests.{le-leb, lt-leb}
 use denote.Bor.{Bor}
 use Rattle.std.specs.Array.{IsFirstChunk}
@@ -14,7 +14,7 @@ row_found xs from at inside e long None short = lt-leb (at + 16) (length xs) (om
 row_found xs from at inside e long (Some y) h =
     let enough = h.enough in (
       le-leb (at + 16) (length xs) (omega arith),
-      λ r. first_roles from y.now h r ∙ rw e (front at xs inside r),
+      λ r. first_roles from y.now h r ∙ rw e (front at (length xs - at) xs (omega arith) (λ j l m. omega arith) r),
     )
 
 pub returns : goal.returns
