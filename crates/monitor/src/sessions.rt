@@ -3,7 +3,7 @@
 
 ghost use Rattle.std.specs.Prelude.{◌≡◌, ◌+◌, ◌≤◌, length, IfOk};
 ghost use Rattle.policy.specs.Tables.{state_size};
-ghost use Rattle.monitor.specs.Calls.{written, open_number, opened, Opens, close_number, closed, Closes, take_number, taken, Takes, drop_number, dropped, Drops};
+ghost use Rattle.monitor.specs.Calls.{written, open_number, session_bytes, opened, Opens, close_number, closed, Closes, take_number, taken, Takes, drop_number, dropped, Drops};
 ghost use Rattle.monitor.specs.Refusals.{told};
 
 use super::refusal::Refusal;
@@ -19,16 +19,15 @@ pub fn put(s: &mut [u8], at: usize, b: &[u8])
     s[at..at + b.len()].copy_from_slice(b);
 }
 
-// Puts a session at a place: a user, a label and no roles.
-fn put_session(s: &mut [u8], place: Place, user: User, label: Label)
-    requires { state_size ≤ length s.old }
-    ensures { s.new ≡ opened s.old place.number user.number label.number }
+// The bytes of a place with a session that holds no role.
+fn session_bytes(user: User, label: Label) -> [u8; state::PLACE_BYTES]
+    ensures { result ≡ session_bytes user.number label.number }
 {
     let mut bytes = [0u8; state::PLACE_BYTES];
     bytes[0] = state::IN_USE;
     bytes[state::USER_IN_PLACE] = (user.number - 1) as u8;
     bytes[state::LABEL_IN_PLACE] = label.number as u8;
-    put(s, place.at(), &bytes);
+    bytes
 }
 
 // Opens a place: 21, 22, 23, 25, 26.
@@ -45,7 +44,8 @@ pub fn open(s: &mut [u8], place: u64, user: u64, label: u64) -> Result<(), Refus
     if !policy.clears(user, label) {
         return Err(Refusal::Clearance);
     }
-    put_session(s, place, user, label);
+    let bytes = session_bytes(user, label);
+    put(s, place.at(), &bytes);
     Ok(())
 }
 
@@ -65,22 +65,14 @@ pub fn session_number(s: &[u8], place: u64) -> u64
     0
 }
 
-// Empties a place.
-fn empty(s: &mut [u8], place: Place)
-    requires { state_size ≤ length s.old }
-    ensures { s.new ≡ closed s.old place.number }
-{
-    let bytes = [0u8; state::PLACE_BYTES];
-    put(s, place.at(), &bytes);
-}
-
 // Closes a place: 21, 22, 24.
 pub fn close(s: &mut [u8], place: u64) -> Result<(), Refusal>
     ensures { Closes s.old place (told result) s.new }
 {
     let session = OpenPlace::new(s, place)?;
     let place = session.place;
-    empty(s, place);
+    let bytes = [0u8; state::PLACE_BYTES];
+    put(s, place.at(), &bytes);
     Ok(())
 }
 
