@@ -1,5 +1,5 @@
 -- The row changes by one byte.
-use Rattle.std.proofs.Common.{arith}
+use Rattle.std.proofs.Common.{arith, rules}
 use Rattle.monitor.specs.Session.{held_at}
 use Rattle.monitor.specs.Calls.{taken}
 use Rattle.monitor.proofs.Holding.{added_is}
@@ -10,7 +10,7 @@ unfolding taken
 returns c =
     let a = c.args in
     added_is a.s.now (held_at a.place.number) a.role.number (omega arith) a.role.in_range
-    (λ i. (c.slice_known-1.given i).fits)
+    (λ i. search rules)
     c.add.new.s
     c.add.auto.s
     (λ i. (c.type_inv.s i).fits)

@@ -1,5 +1,5 @@
 -- The row changes by one byte.
-use Rattle.std.proofs.Common.{arith}
+use Rattle.std.proofs.Common.{arith, rules}
 use Rattle.monitor.specs.Session.{held_at}
 use Rattle.monitor.specs.Calls.{dropped}
 use Rattle.monitor.proofs.Holding.{removed_is}
@@ -10,7 +10,7 @@ unfolding dropped
 returns c =
     let a = c.args in
     removed_is a.s.now (held_at a.place.number) a.role.number (omega arith) a.role.in_range
-    (λ i. (c.slice_known-1.given i).fits)
+    (λ i. search rules)
     c.remove.new.s
     c.remove.auto.s
     (λ i. (c.type_inv.s i).fits)
