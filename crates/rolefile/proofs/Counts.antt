@@ -1,9 +1,5 @@
 -- The number of the things 1 to n of which p holds is 1 just where p holds of one of them alone. Assumes nothing.
-use Prim.Native.Nat.{ℕ, zero, suc, ◌+◌}
-use mathlib.Core.Path.{◌≡◌, refl}
-use mathlib.Core.Logic.{◌↔◌}
-use mathlib.Core.Bool.{Bool, true, false, cond}
-use native.Mathlib.Omega.{arith}
+use Rattle.std.proofs.Common.{ℕ, zero, suc, ◌+◌, ◌≡◌, refl, ◌↔◌, Bool, true, false, cond, arith}
 use Rattle.search.specs.Search.{Among}
 use Rattle.search.proofs.Truth.{untrue, both}
 use Rattle.search.proofs.Found.{among_more, not_last, None}

@@ -1,11 +1,8 @@
 -- What a check decides: `Decides v G R`, its verdict v is fine where G holds; else v refuses, R tells why, and R tells of no other verdict.
 -- So checks that follow one another are read part by part. Assumes nothing.
-use Prim.Native.Nat.{ℕ, zero, suc}
-use mathlib.Core.Path.{◌≡◌, refl, sym, ap, ◌∙◌}
+use Rattle.std.proofs.Common.{ℕ, zero, suc, ◌≡◌, refl, sym, ap, ◌∙◌, ◌↔◌, ◌⊎◌, inl, inr, ⊎_elim, Bool, true, false, cond, arith}
 use mathlib.Core.Logic.Iff
-use mathlib.Core.Logic.{◌↔◌, ◌⊎◌, inl, inr, ⊎_elim}
-use mathlib.Core.Bool.{Bool, true, false, cond, false≢true}
-use native.Mathlib.Omega.{arith}
+use mathlib.Core.Bool.{false≢true}
 use Rattle.search.specs.Search.{Among, first, LowestOf}
 use Rattle.search.proofs.Truth.{eqb_iff}
 use Rattle.search.proofs.Found.{last_or, among_more, lowest_more, first_lowest_of}

@@ -1,15 +1,8 @@
 -- A field reads as the number n just where its five columns are n in decimal, as blank just where they are blanks, and as bad otherwise; and the number
 -- read is also the columns' last four bits in decimal. Assumes nothing.
-use Prim.Native.Nat.{ℕ, zero, suc, ◌+◌, ◌*◌, ◌-◌, ◌/◌, ◌%◌, ◌^◌, ◌≤◌, ◌<◌}
-use mathlib.Core.Path.{◌≡◌, refl, sym, ap, ◌∙◌}
-use mathlib.Core.Logic.{◌↔◌}
-use mathlib.Core.List.{List, [], ◌∷◌, ◌++◌, append_assoc, append-nil}
-use mathlib.Core.Bool.{true, ◌&&◌}
-use native.Mathlib.Omega.{arith}
+use Rattle.std.proofs.Common.{ℕ, zero, suc, ◌+◌, ◌*◌, ◌-◌, ◌/◌, ◌%◌, ◌^◌, ◌≤◌, ◌<◌, ◌≡◌, refl, sym, ap, ◌∙◌, ◌↔◌, List, [], ◌∷◌, ◌++◌, append_assoc, append-nil, true, ◌&&◌, arith, leb, eqb, length, replicate, length-append, lt-ltb, le-ltb, eqb-true, ne_eqb}
 use native.Mathlib.Decide.{dec_lt}
-use lib.Dec.{leb, eqb}
-use lib.ListN.{length, replicate, length-append, length-replicate, replicate-append-replicate}
-use borrow.Author.Tests.{lt-ltb, le-ltb, eqb-true, ne_eqb}
+use lib.ListN.{length-replicate, replicate-append-replicate}
 use Rattle.search.specs.Search.{among, Among}
 use Rattle.search.proofs.Truth.{leb_iff, and-iff, and_both, among_iff, either_by}
 use Rattle.rolefile.specs.declared.Field.{Field}

@@ -1,12 +1,6 @@
 -- "Each letter's lines are handed on as the part of the file that starts there": the part that starts after j lines has the file's other lines, and
 -- its line k is the file's line j + k. Assumes nothing.
-use Prim.Native.Nat.{ℕ, ◌+◌, ◌*◌, ◌-◌, ◌≤◌}
-use mathlib.Core.Path.{◌≡◌}
-use mathlib.Core.List.{List}
-use native.Mathlib.Omega.{arith}
-use native.Mathlib.Nat.{add_assoc}
-use lib.ListN.{length-drop}
-use lib.Seq.{get_or-drop}
+use Rattle.std.proofs.Common.{ℕ, ◌+◌, ◌*◌, ◌-◌, ◌≤◌, ◌≡◌, List, arith, add_assoc, length-drop, get_or-drop}
 use Rattle.rolefile.specs.Line.{line_length, start, line_at, lines, part}
 
 -- line k of the part starts where the file's line j + k does

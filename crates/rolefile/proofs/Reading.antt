@@ -1,13 +1,12 @@
 -- Reading a line field by field: its bytes and its fields, what is taken out of a field, and that a field which does not read as asked ends the line. Assumes nothing.
-use Rattle.std.proofs.Common.{ℕ, zero, suc, ◌+◌, ◌*◌, ◌-◌, ◌/◌, ◌≤◌, ◌<◌, ◌≡◌, refl, sym, ap, ◌∙◌, List, [], ◌∷◌, Bool, true, false, ◌&&◌, cond, eqb, length, get_or, take, drop, arith}
-use Rattle.std.specs.Prelude.{Option, Some, None, ◌↔◌}
+use Rattle.std.proofs.Common.{ℕ, zero, suc, ◌+◌, ◌*◌, ◌-◌, ◌/◌, ◌≤◌, ◌<◌, ◌≡◌, refl, sym, ap, ◌∙◌, List, [], ◌∷◌, Bool, true, false, ◌&&◌, cond, eqb, length, get_or, take, drop, arith, add_assoc, add-zero, mul-suc, eqb-true}
+use Rattle.std.specs.Prelude.{Some, None, ◌↔◌}
 use Rattle.std.specs.Simd.{first_chunks}
 use Rattle.std.proofs.lemmas.List.{get_or-take, get_or-drop, take_all, drop-drop, length-drop}
 use lib.ListN.{get_or-eq_default}
-use native.Mathlib.Nat.{add_assoc, add-zero, mul-suc}
 use Rattle.std.specs.List.{prefix_len}
 use Rattle.std.proofs.lemmas.List.Sums.{prefix_len-le-length, prefix_len_passes, prefix_len_stops}
-use borrow.Author.Tests.{eqb-true, eqb-false}
+use borrow.Author.Tests.{eqb-false}
 use Rattle.search.proofs.Truth.{eqb_iff, and_both, same}
 use Rattle.rolefile.specs.declared.Field.{Field}
 use Rattle.rolefile.specs.declared.Field.TheVariants.{Blank}
@@ -63,15 +62,6 @@ module _ (cs : List ℕ) (long : length cs ≡ 5) where
         of e =
             let s = (reads_blank cs long).0 (number_stands false (columns Blank cs) e).0 in
             rw s
-
--- what is taken out of a field without use
-pub taken_blank : (f : Field) → eqb (field_number false f) 0 ≡ true → Some 0 ≡ taken_out false f
-unfolding taken_out
-taken_blank f e = rw (number_stands false f e).0
-
-pub taken_spoilt : (f : Field) → eqb (field_number false f) 0 ≡ false → None ≡ taken_out false f
-unfolding taken_out
-taken_spoilt f e = rw e
 
 -- a number is taken out of a field just where the field stands as it
 pub taken_iff : (used : Bool) (f : Field) (n : ℕ) → (taken_out used f ≡ Some n) ↔ FieldIs used f n
@@ -157,7 +147,3 @@ module _ (p : List ℕ) (whole : List (List ℕ)) (e : whole ≡ first_chunks li
 -- past its end a file has no line
 pub past_end : (f : List ℕ) (i : ℕ) → length f ≤ i + 21 → no_line ≡ line_from f i
 past_end f i l = not_made _ _ _ _ _ _ (λ m. omega (arith, m.end, get_or-eq_default f 0 l))
-
--- nothing is taken out of a field that ends its line
-pub nothing_out : {o : Option ℕ} {n : ℕ} → None ≡ o → o ≡ Some n → ⊥
-nothing_out e h = let z : ◌≡◌ {A = ℕ} 0 1 = cc in omega arith

@@ -1,6 +1,5 @@
 -- Scanning the lines: what a line's verdict is where the line before is at hand, and the length before the lines. Assumes nothing.
-use Rattle.std.proofs.Common.{ℕ, ◌+◌, ◌-◌, ◌≤◌, ◌≡◌, List, arith, ◌∙◌, false}
-use borrow.Author.Tests.{ne_eqb}
+use Rattle.std.proofs.Common.{ℕ, ◌+◌, ◌-◌, ◌≤◌, ◌≡◌, List, arith, ◌∙◌, false, ne_eqb}
 use Rattle.search.proofs.Truth.{other_iff}
 use Rattle.rolefile.specs.declared.Refusal.{Refusal}
 use Rattle.rolefile.specs.Line.{line_at, lines}

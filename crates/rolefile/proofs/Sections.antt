@@ -1,17 +1,8 @@
 -- The letters of a file whose lines are all good come in the table's order, so the lines of one letter are a section of the file: what the file says by
 -- that letter its section says, and the numbers of those lines are the figures of the part that starts there. Assumes nothing.
-use Prim.Native.Nat.{ℕ, zero, suc, ◌+◌, ◌-◌, ◌≤◌, ◌<◌}
-use mathlib.Core.Path.{◌≡◌, refl, sym, ◌∙◌}
-use mathlib.Core.Logic.{◌↔◌, ⊎_elim}
-use mathlib.Core.List.{List}
-use mathlib.Core.Bool.{Bool, true, false, ◌&&◌, and-true}
-use native.Mathlib.Omega.{arith}
-use native.Mathlib.Nat.{add-zero, add-suc}
+use Rattle.std.proofs.Common.{ℕ, zero, suc, ◌+◌, ◌-◌, ◌≤◌, ◌<◌, ◌≡◌, refl, sym, ◌∙◌, ◌↔◌, ⊎_elim, List, Bool, true, false, ◌&&◌, arith, add-zero, add-suc, leb, eqb, get_or, get_or-drop, eqb-true, eq-eqb, le-leb}
+use mathlib.Core.Bool.{and-true}
 use native.Mathlib.Decide.{dec_lt}
-use lib.Dec.{leb, eqb}
-use lib.ListN.{get_or}
-use lib.Seq.{get_or-drop}
-use borrow.Author.Tests.{eqb-true, eq-eqb, le-leb}
 use Rattle.search.specs.Search.{Among, some}
 use Rattle.search.proofs.Truth.{and-iff}
 use Rattle.rolefile.specs.declared.Line.{Line}

@@ -1,12 +1,6 @@
 -- A search of the things 1 to n that can find something only among j + 1 to j + m is a search of those m things. Assumes nothing.
-use Prim.Native.Nat.{ℕ, zero, suc, ◌+◌, ◌≤◌, ◌<◌}
-use mathlib.Core.Path.{◌≡◌, refl, sym, ap, ◌∙◌}
-use mathlib.Core.Logic.{⊎_elim}
-use mathlib.Core.Bool.{Bool, true, false, or-false}
-use lib.Dec.{eqb}
-use native.Mathlib.Omega.{arith}
-use native.Mathlib.Nat.{add-zero, add-suc, eq-or-lt_of_le}
-use borrow.Author.Tests.{eqb-true}
+use Rattle.std.proofs.Common.{ℕ, zero, suc, ◌+◌, ◌≤◌, ◌<◌, ◌≡◌, refl, sym, ap, ◌∙◌, ⊎_elim, Bool, true, false, eqb, arith, add-zero, add-suc, eq-or-lt_of_le, eqb-true}
+use mathlib.Core.Bool.{or-false}
 use Rattle.search.specs.Search.{Among, some}
 use Rattle.search.proofs.Truth.{untrue, either_by}
 use Rattle.rolefile.specs.declared.Verdict.{Verdict}

@@ -1,18 +1,7 @@
 -- A line reads as l just where its 22 bytes are l as it is written, and is malformed just where they are no line as it is written. Assumes nothing.
-use Prim.Native.Nat.{ℕ, zero, suc, ◌+◌, ◌≤◌, ◌<◌}
-use mathlib.Core.Path.{◌≡◌, refl, sym, ap, ap₂, subst, ◌∙◌}
+use Rattle.std.proofs.Common.{ℕ, zero, suc, ◌+◌, ◌≤◌, ◌<◌, ◌≡◌, refl, sym, ap, ap₂, subst, ◌∙◌, ◌↔◌, ◌⊎◌, inl, inr, ⊎_elim, List, ◌∷◌, ◌++◌, [], Bool, true, false, cond, arith, add_assoc, add-one, leb, eqb, length, get_or, take, drop, take_at, drop_at, drop-cons, eqb-true, eq-eqb, leb-true, le-leb}
 use mathlib.Core.Logic.Iff
-use mathlib.Core.Logic.{◌↔◌, ◌⊎◌, inl, inr, ⊎_elim}
-use mathlib.Core.List.{List, ◌∷◌, ◌++◌, []}
-use mathlib.Core.Bool.{Bool, true, false, cond}
-use native.Mathlib.Omega.{arith}
 use native.Mathlib.Decide.{dec_lt}
-use native.Mathlib.Nat.{add_assoc}
-use native.Mathlib.Numerals.{add-one}
-use lib.Dec.{leb, eqb}
-use lib.ListN.{length, get_or, take, drop}
-use lib.Seq.{take_at, drop_at, drop-cons}
-use borrow.Author.Tests.{eqb-true, eq-eqb, leb-true, le-leb}
 use Rattle.search.specs.Search.{every, first, Among}
 use Rattle.search.proofs.Truth.{and-iff, untrue}
 use Rattle.search.proofs.Found.{every_at, first_lowest}

@@ -1,4 +1,4 @@
--- Quoted texts as bytes, for the letters of lines, the cases of `monitor` and the texts of `report` and `graph`. Assumes nothing.
+-- Quoted texts as bytes, for the letters of lines and the cases of `monitor`. Assumes nothing.
 use Rattle.std.specs.Prelude.{ℕ, List, [], ◌∷◌}
 use Prim.Native.Char.{code}
 use Prim.Native.String.{String}

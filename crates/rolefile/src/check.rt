@@ -1,7 +1,7 @@
 // The numbers 1 to 5: the file's length, and line by line its form, its numbers and its order.
 ghost use Rattle.std.specs.Prelude.{◌≡◌, ◌≤◌};
 ghost use Rattle.rolefile.specs.Line.{lines};
-ghost use Rattle.rolefile.specs.Form.{fine, refusal, within_limits, first_limit, second_limit, ranged, rises, head_verdict, body_verdict, line_verdict, scan, lines_verdict};
+ghost use Rattle.rolefile.specs.Form.{refusal, within_limits, first_limit, second_limit, ranged, rises, head_verdict, body_verdict, line_verdict, scan, lines_verdict};
 ghost use Rattle.rolefile.specs.Refusal.{verdict_of, told};
 
 use super::{Line, Refusal, Verdict, read, reader};
@@ -20,17 +20,6 @@ const CARD_LIMIT: u64 = 512;
 
 // 4: the highest mode.
 const MODE_LIMIT: u64 = 2;
-
-// Nothing to refuse.
-pub fn nothing() -> Verdict
-    ensures { result ≡ fine }
-{
-    Verdict {
-        number: 0,
-        first: 0,
-        second: 0,
-    }
-}
 
 // A refusal with its place.
 pub fn refused(number: u64, first: u64, second: u64) -> Verdict
@@ -68,6 +57,7 @@ fn limits_of(h: Line, k: u64) -> (u64, u64)
 }
 
 // 4: the numbers of a line are within their limits.
+#[tactic(auto, unfolding(crate::specs::Form::ranged))]
 fn numbers_fit(h: Line, l: Line) -> bool
     ensures { result ≡ ranged h l }
 {
@@ -78,6 +68,7 @@ fn numbers_fit(h: Line, l: Line) -> bool
 }
 
 // 5: the line l comes after the line p.
+#[tactic(auto, unfolding(crate::specs::Form::rises))]
 fn comes_after(p: Line, l: Line) -> bool
     ensures { result ≡ rises p l }
 {
@@ -85,6 +76,7 @@ fn comes_after(p: Line, l: Line) -> bool
 }
 
 // 2 and 3, of line 1.
+#[tactic(auto, unfolding(crate::specs::Form::head_verdict, crate::specs::Form::good_counts))]
 fn head(l: Line) -> Result<(), Refusal>
     ensures { told verdict_of result ≡ head_verdict l }
 {
@@ -98,6 +90,7 @@ fn head(l: Line) -> Result<(), Refusal>
 }
 
 // 2, 4 and 5, of line k after line p.
+#[tactic(auto, unfolding(crate::specs::Form::body_verdict))]
 fn body(h: Line, p: Line, k: usize, l: Line) -> Result<(), Refusal>
     ensures { told verdict_of result ≡ body_verdict h p k l }
 {
@@ -114,6 +107,7 @@ fn body(h: Line, p: Line, k: usize, l: Line) -> Result<(), Refusal>
 }
 
 // 2 to 5 of the lines, of which there is one at least.
+#[tactic(auto, using(crate::proofs::Scanning::head_stops, crate::proofs::Scanning::head_passes, crate::proofs::Scanning::line_stops, crate::proofs::Scanning::line_passes))]
 fn scan(f: &[u8]) -> Result<(), Refusal>
     requires { 1 ≤ lines f.now }
     ensures { told verdict_of result ≡ scan (lines f.now) (line_verdict f.now) }
@@ -129,16 +123,12 @@ fn scan(f: &[u8]) -> Result<(), Refusal>
 }
 
 // 1 to 5.
+#[tactic(auto, using(crate::proofs::Scanning::bad_size_lem, crate::proofs::Scanning::good_size))]
 pub fn lines(f: &[u8]) -> Result<(), Refusal>
     ensures { told verdict_of result ≡ lines_verdict f.now }
 {
-    if f.len() < 1 {
-        return Err(Refusal::Length);
-    }
-    if f.len() % read::LINE_LENGTH != 0 {
-        return Err(Refusal::Length);
-    }
-    if LENGTH_LIMIT < f.len() {
+    let whole = !f.is_empty() && f.len() % read::LINE_LENGTH == 0;
+    if !whole || LENGTH_LIMIT < f.len() {
         return Err(Refusal::Length);
     }
     scan(f)

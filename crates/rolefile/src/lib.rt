@@ -6,11 +6,11 @@ pub mod read;
 pub mod reader;
 
 ghost use Rattle.std.specs.Prelude.{◌≡◌, MatchResult};
-ghost use Rattle.rolefile.specs.Form.{fine, refusal};
+ghost use Rattle.rolefile.specs.Form.{fine};
 ghost use Rattle.rolefile.specs.Refusal.{verdict_of};
 
 // What the five columns of a field say.
-#[derive(Clone, Copy)]
+#[derive(Clone, Copy, Debug, PartialEq, Eq)]
 pub enum Field {
     Blank,
     Number(u64),
@@ -18,8 +18,9 @@ pub enum Field {
 }
 
 // A line: its letter's row in the table of letters, 1 to 7, or 0 for a malformed line, and its
-// numbers, 0 where a field has no use.
-#[derive(Clone, Copy)]
+// numbers, 0 where a field has no use. The letter is a number, since `line_at`, `says` and
+// `LineRefused` speak of it as one, 0 included.
+#[derive(Clone, Copy, Debug, PartialEq, Eq)]
 pub struct Line {
     pub letter: u64,
     pub a: u64,
@@ -28,9 +29,9 @@ pub struct Line {
     pub d: u64,
 }
 
-// A number of document 01's list and its place, which is document 01's word for the two numbers that
-// say where the file is refused; 0, 0, 0 where there is nothing to refuse.
-#[derive(Clone, Copy)]
+// The number of a refusal and its place, two numbers that say where the file is refused; 0, 0, 0
+// where there is nothing to refuse.
+#[derive(Clone, Copy, Debug, PartialEq, Eq)]
 pub struct Verdict {
     pub number: u64,
     pub first: u64,
@@ -48,27 +49,16 @@ pub enum Refusal {
     Order { line: usize },
 }
 
-// A verdict with its place.
-fn refused(number: u64, first: u64, second: u64) -> Verdict
-    ensures { result ≡ refusal number first second }
-{
-    Verdict {
-        number,
-        first,
-        second,
-    }
-}
-
 impl From<Refusal> for Verdict {
     ghost from_gives = { λ r v. v ≡ verdict_of r };
 
     fn from(r: Refusal) -> Verdict {
         match r {
-            Refusal::Length => refused(1, 0, 0),
-            Refusal::Malformed { line } => refused(2, line as u64, 0),
-            Refusal::Counts => refused(3, 1, 0),
-            Refusal::Numbers { line } => refused(4, line as u64, 0),
-            Refusal::Order { line } => refused(5, line as u64, 0),
+            Refusal::Length => check::refused(1, 0, 0),
+            Refusal::Malformed { line } => check::refused(2, line as u64, 0),
+            Refusal::Counts => check::refused(3, 1, 0),
+            Refusal::Numbers { line } => check::refused(4, line as u64, 0),
+            Refusal::Order { line } => check::refused(5, line as u64, 0),
         }
     }
 }
@@ -79,7 +69,11 @@ impl<E: Into<Verdict>> From<Result<(), E>> for Verdict {
 
     fn from(r: Result<(), E>) -> Verdict {
         match r {
-            Ok(()) => check::nothing(),
+            Ok(()) => Verdict {
+                number: 0,
+                first: 0,
+                second: 0,
+            },
             Err(e) => e.into(),
         }
     }

@@ -2,7 +2,6 @@
 ghost use Rattle.std.specs.Prelude.{◌≡◌, false, [], ◌∷◌, ◌+◌, ◌*◌, ◌-◌, ◌%◌, ◌≤◌, ◌<◌, eqb, length, MatchOption};
 ghost use Rattle.std.specs.Option.{unwrap_or};
 ghost use Rattle.std.specs.Simd.{first_chunks};
-ghost use Rattle.search.specs.Search.{among};
 ghost use Rattle.rolefile.specs.Field.{digit_zero, digit_nine, is_digit, column, columns, five, field_number};
 ghost use Rattle.rolefile.specs.inner.Field.{taken_out, AtOnce};
 ghost use Rattle.rolefile.specs.inner.Section.{figure, figure_of, one, two, three, Leads};
@@ -106,6 +105,7 @@ fn column(f: Field, b: u8) -> Field
 }
 
 // The field of five columns, column by column.
+#[tactic(auto, unfolding(crate::specs::Field::columns))]
 fn by_columns(bytes: &[u8; FIELD_LENGTH]) -> Field
     ensures { result ≡ columns Field.Blank bytes.now }
 {
@@ -118,6 +118,7 @@ fn by_columns(bytes: &[u8; FIELD_LENGTH]) -> Field
 
 // The number in a field's last three columns, of which the last is a digit, where those before them
 // are blanks. None tells nothing.
+#[tactic(auto, using(crate::proofs::Decimals::one_digit, crate::proofs::Decimals::two_digits, crate::proofs::Decimals::three_digits))]
 fn last_three(x: u8, y: u8, z: u8) -> Option<u64>
     requires { (digit_zero ≤ z) × (z ≤ digit_nine) }
     ensures { AtOnce result (columns Field.Blank (x ∷ y ∷ z ∷ [])) }
@@ -137,6 +138,7 @@ const FOUR_BLANKS: u32 = 0x2020_2020;
 
 // The number in the five columns, where it has up to three digits, as each number of an accepted
 // file has. None tells nothing.
+#[tactic(auto, using(crate::proofs::Reading::after_two))]
 fn at_once(bytes: &[u8; FIELD_LENGTH]) -> Option<u64>
     ensures { AtOnce result (columns Field.Blank bytes.now) }
 {
@@ -161,6 +163,7 @@ fn field(bytes: &[u8; FIELD_LENGTH]) -> Field
 }
 
 // The field of five columns, where a number of one digit, as a mode is, is read at once.
+#[tactic(auto, using(crate::proofs::Reading::after_four))]
 fn digit_field(bytes: &[u8; FIELD_LENGTH]) -> Field
     ensures { result ≡ columns Field.Blank bytes.now }
 {
@@ -172,6 +175,7 @@ fn digit_field(bytes: &[u8; FIELD_LENGTH]) -> Field
 }
 
 // Whether the five columns are blanks.
+#[tactic(auto, using(crate::proofs::Reading::blank_tested))]
 fn all_blank(bytes: &[u8; FIELD_LENGTH]) -> bool
     ensures { result ≡ eqb (field_number false (columns Field.Blank bytes.now)) 0 }
 {
@@ -181,6 +185,7 @@ fn all_blank(bytes: &[u8; FIELD_LENGTH]) -> bool
 
 // What a line takes out of a field that not every letter uses: its number where it is in use, 0
 // where it has no use, and None where it ends its line. It is read only where it is in use.
+#[tactic(auto, unfolding(crate::specs::inner::Field::taken_out))]
 fn taken_out(bytes: &[u8; FIELD_LENGTH], used: bool) -> Option<u64>
     ensures { result ≡ taken_out used (columns Field.Blank bytes.now) }
 {
@@ -223,6 +228,7 @@ fn field_count(k: u64) -> u64
 }
 
 // The columns of a line's four fields.
+#[tactic(auto, using(crate::proofs::Reading::four_fields))]
 fn fields(line: &[u8; LINE_LENGTH]) -> &[[u8; FIELD_LENGTH]; 4]
     ensures { result.now ≡ five line.now 1 ∷ five line.now 6 ∷ five line.now 11 ∷ five line.now 16 ∷ [] }
 {
@@ -232,6 +238,7 @@ fn fields(line: &[u8; LINE_LENGTH]) -> &[[u8; FIELD_LENGTH]; 4]
 
 // The line in the bytes, or None for a malformed one: a field that does not read as asked ends it.
 // Here and at `line` the compiler is told to inline, so that a line is not handed over through memory.
+#[tactic(auto, using(crate::proofs::Reading::taken_iff, crate::proofs::Written::not_made))]
 #[inline(always)]
 fn line_from(bytes: &[u8; LINE_LENGTH]) -> Option<Line>
     ensures { unwrap_or result no_line ≡ line_from bytes.now 0 }
@@ -271,6 +278,7 @@ const NO_LINE: Line = Line {
 };
 
 // Line k of the file, counted from 1; a malformed one where the file has fewer.
+#[tactic(auto, using(crate::proofs::Reading::past_end), unfolding(crate::specs::Line::line_at))]
 #[inline(always)]
 pub fn line(f: &[u8], k: usize) -> Line
     ensures { result ≡ line_at f.now k }
@@ -317,7 +325,9 @@ fn figure_of(p: &[u8], i: usize, j: usize) -> usize
 }
 
 // The first number of line i + 1 of a part whose lines are known to be well formed, or 0 where the
-// part has no such line.
+// part has no such line. Each of the three has a name of its own, since `one`, `two` and `three` state
+// what callers are promised.
+#[tactic(auto, unfolding(crate::specs::inner::Section::one))]
 pub fn first_number(p: &[u8], i: usize) -> usize
     ensures { result ≡ one p.now (i + 1) }
 {
@@ -325,6 +335,7 @@ pub fn first_number(p: &[u8], i: usize) -> usize
 }
 
 // The second.
+#[tactic(auto, unfolding(crate::specs::inner::Section::two))]
 pub fn second_number(p: &[u8], i: usize) -> usize
     ensures { result ≡ two p.now (i + 1) }
 {
@@ -332,6 +343,7 @@ pub fn second_number(p: &[u8], i: usize) -> usize
 }
 
 // The third.
+#[tactic(auto, unfolding(crate::specs::inner::Section::three))]
 pub fn third_number(p: &[u8], i: usize) -> usize
     ensures { result ≡ three p.now (i + 1) }
 {

@@ -1,8 +1,5 @@
 -- A field of a line that the part has, or 0.
-use Rattle.std.proofs.Common.{◌∙◌, ◌+◌, ◌*◌, []}
-use Rattle.std.proofs.Common.{arith}
-use borrow.Author.Tests.{le-leb}
-use native.Mathlib.Nat.{add-sub_cancel}
+use Rattle.std.proofs.Common.{◌∙◌, ◌+◌, ◌*◌, [], arith, le-leb, add-sub_cancel}
 use Rattle.rolefile.specs.Line.{line_length, lines}
 use Rattle.rolefile.proofs.Reading.{line_there, figure_there}
 use Rattle.rolefile.proofs.read.figure_of.Goals as goal

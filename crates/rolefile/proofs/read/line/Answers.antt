@@ -1,14 +1,8 @@
--- A line past the file's end has no byte 10.
+-- The bytes of the line that was found.
 use Rattle.std.proofs.Common.{◌∙◌, ◌*◌, ◌-◌, [], arith}
 use Rattle.rolefile.specs.Line.{line_length, line_at}
-use Rattle.rolefile.proofs.Reading.{past_end, line_of_piece, line_there}
+use Rattle.rolefile.proofs.Reading.{line_of_piece, line_there}
 use Rattle.rolefile.proofs.read.line.Goals as goal
-
-pub returns-in_default : goal.returns-in_default
-unfolding line_at
-returns-in_default c =
-    let a = c.args in
-    past_end a.f.now (line_length * (a.k - 1)) (omega (arith, c.in_default.ensures.lookup.3, c.whole_lines.ensures.len, c.saturating_sub.ensures))
 
 pub returns : goal.returns
 unfolding line_at

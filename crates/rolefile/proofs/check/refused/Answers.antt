@@ -1,6 +1,0 @@
--- Field by field.
-use mathlib.Core.Path.{refl}
-use Rattle.rolefile.proofs.check.refused.Goals as goal
-
-pub returns : goal.returns
-returns c = refl
