@@ -1,6 +1,5 @@
 pub mod Answers
 pub mod Refused
-pub mod Told
 pub mod Filled
 pub mod Holding
 pub mod Frames

@@ -45,7 +45,7 @@ pub struct Figure {
 
 // The answer that tells how many of each thing there are, as C has it.
 #[repr(C)]
-#[derive(Clone, Copy, Debug, PartialEq, Eq)]
+#[derive(Clone, Copy, Debug, PartialEq, Eq, Default)]
 pub struct Counts {
     pub number: u64,
     pub labels: u64,
@@ -57,7 +57,7 @@ pub struct Counts {
 // The answer that tells a session, as C has it. Of the roles held role r is bit r - 1 of `low`, or
 // from 65 on bit r - 65 of `high`.
 #[repr(C)]
-#[derive(Clone, Copy, Debug, PartialEq, Eq)]
+#[derive(Clone, Copy, Debug, PartialEq, Eq, Default)]
 pub struct Session {
     pub number: u64,
     pub user: u64,
@@ -68,7 +68,7 @@ pub struct Session {
 
 // The answer that tells a set of roles, as C has it.
 #[repr(C)]
-#[derive(Clone, Copy, Debug, PartialEq, Eq)]
+#[derive(Clone, Copy, Debug, PartialEq, Eq, Default)]
 pub struct RoleSet {
     pub number: u64,
     pub low: u64,
@@ -193,18 +193,14 @@ pub fn monitor_write(
 pub fn monitor_flows(state: &[u8], from: u64, to: u64) -> Figure
     ensures { Flows state.now from to result.number result.figure }
 {
-    let number = report::flows_number(state, from, to);
-    let figure = report::flows_figure(state, from, to, number);
-    Figure { number, figure }
+    report::flows(state, from, to).into()
 }
 
 // The lowest role on a circle of flow, or 0: 21.
 pub fn monitor_circle(state: &[u8]) -> Figure
     ensures { Circles state.now result.number result.figure }
 {
-    let number = report::state_number(state);
-    let figure = report::circle_figure(state, number);
-    Figure { number, figure }
+    report::circle(state).into()
 }
 
 // Whether a session of the user at the label could be granted a read (mode 1) or a write (mode 2)
@@ -212,9 +208,7 @@ pub fn monitor_circle(state: &[u8]) -> Figure
 pub fn monitor_can(state: &[u8], user: u64, label: u64, card: u64, mode: u64) -> Figure
     ensures { Cans state.now user label card mode result.number result.figure }
 {
-    let number = rights::can_number(state, user, label, card, mode);
-    let figure = rights::can_figure(state, user, label, card, mode, number);
-    Figure { number, figure }
+    rights::can(state, user, label, card, mode).into()
 }
 
 // How many labels, roles, users and cards the state has: 21.
@@ -235,42 +229,42 @@ pub fn monitor_session_at(state: &[u8], place: u64) -> Session
 pub fn monitor_clearance(state: &[u8], user: u64) -> Figure
     ensures { review.ClearanceOf state.now user result.number result.figure }
 {
-    review::clearance(state, user)
+    review::clearance(state, user).into()
 }
 
 // The card's label: 21, 25.
 pub fn monitor_card_label(state: &[u8], card: u64) -> Figure
     ensures { review.CardLabelOf state.now card result.number result.figure }
 {
-    review::card_label(state, card)
+    review::card_label(state, card).into()
 }
 
 // The role's r-level (mode 1) or w-level (mode 2), a label, 0 free or 99 undefined: 21, 25.
 pub fn monitor_level(state: &[u8], role: u64, mode: u64) -> Figure
     ensures { review.LevelOf state.now role mode result.number result.figure }
 {
-    review::level(state, role, mode)
+    review::level(state, role, mode).into()
 }
 
 // Whether label a dominates label b, 1 or 0: 21, 25.
 pub fn monitor_dominates(state: &[u8], a: u64, b: u64) -> Figure
     ensures { review.Dominates state.now a b result.number result.figure }
 {
-    review::dominates(state, a, b)
+    review::dominates(state, a, b).into()
 }
 
 // Whether the role is a senior of the other, or the same, 1 or 0: 21, 25.
 pub fn monitor_senior(state: &[u8], role: u64, other: u64) -> Figure
     ensures { review.SeniorTo state.now role other result.number result.figure }
 {
-    review::senior(state, role, other)
+    review::senior(state, role, other).into()
 }
 
 // Whether the user is assigned to the role itself, 1 or 0: 21, 25.
 pub fn monitor_assigned(state: &[u8], user: u64, role: u64) -> Figure
     ensures { review.AssignedTo state.now user role result.number result.figure }
 {
-    review::assigned(state, user, role)
+    review::assigned(state, user, role).into()
 }
 
 // The roles that a session of the user at the label may take: 21, 25, 26.
@@ -285,5 +279,5 @@ pub fn monitor_takable(state: &[u8], user: u64, label: u64) -> RoleSet
 pub fn monitor_gives(state: &[u8], low: u64, high: u64, label: u64, card: u64, mode: u64) -> Figure
     ensures { review.GivesOf state.now low high label card mode result.number result.figure }
 {
-    review::gives(state, low, high, label, card, mode)
+    review::gives(state, low, high, label, card, mode).into()
 }

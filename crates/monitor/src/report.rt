@@ -1,55 +1,30 @@
-// The flow report: numbers, and figures for a number that is known.
-ghost use Rattle.std.specs.Prelude.{◌≡◌, cond};
+// The flow report.
+#![tactic(auto, using(crate::proofs::Refused::never_done), unfolding(crate::specs::Calls::unless, crate::specs::Calls::if_done, crate::specs::Calls::state_number, crate::specs::Calls::flows_number))]
+
+ghost use Rattle.std.specs.Prelude.{◌≡◌, cond, IfOk};
 ghost use Rattle.policy.specs.Tables.{flows_in, circle_in};
-ghost use Rattle.monitor.specs.Calls.{if_done, flows_number, state_number};
+ghost use Rattle.monitor.specs.Calls.{Flows, Circles};
+ghost use Rattle.monitor.specs.Refusals.{told, figured};
 
-use super::state;
-use policy::layout;
+use super::refusal::Refusal;
+use super::state::Policy;
+use policy::flow;
 
-pub fn flows_number(s: &[u8], from: u64, to: u64) -> u64
-    ensures { result ≡ flows_number s.now from to }
+// Whether a role flows to another, 1 or 0: 21, 25.
+pub fn flows(s: &[u8], from: u64, to: u64) -> Result<u64, Refusal>
+    ensures { Flows s.now from to (told result) (figured result) }
 {
-    if !state::sound(s) {
-        return 21;
-    }
-    if !state::within_count(s, layout::ROLE_COUNT_AT, from) {
-        return 25;
-    }
-    if !state::within_count(s, layout::ROLE_COUNT_AT, to) {
-        return 25;
-    }
-    0
+    let policy = Policy::new(s)?;
+    let from = policy.role(from)?;
+    let to = policy.role(to)?;
+    let flows = flow::flows(s, from.number as usize, to.number as usize);
+    Ok(u64::from(flows))
 }
 
-pub fn flows_figure(s: &[u8], from: u64, to: u64, number: u64) -> u64
-    requires { number ≡ flows_number s.now from to }
-    ensures { result ≡ if_done (flows_number s.now from to) (cond (flows_in s.now from to) 1 0) 0 }
+// The lowest role on a circle of flow, or 0: 21.
+pub fn circle(s: &[u8]) -> Result<u64, Refusal>
+    ensures { Circles s.now (told result) (figured result) }
 {
-    if number != 0 {
-        return 0;
-    }
-    if policy::flow::flows(s, from as usize, to as usize) {
-        return 1;
-    }
-    0
-}
-
-// 21 alone, where nothing is asked but the state.
-pub fn state_number(s: &[u8]) -> u64
-    ensures { result ≡ state_number s.now }
-{
-    if !state::sound(s) {
-        return 21;
-    }
-    0
-}
-
-pub fn circle_figure(s: &[u8], number: u64) -> u64
-    requires { number ≡ state_number s.now }
-    ensures { result ≡ if_done (state_number s.now) (circle_in s.now) 0 }
-{
-    if number != 0 {
-        return 0;
-    }
-    policy::flow::flow_circle(s).unwrap_or(0) as u64
+    Policy::new(s)?;
+    Ok(flow::flow_circle(s).unwrap_or(0) as u64)
 }

@@ -1,48 +1,35 @@
 // What a state says of its users, labels, roles, cards and places: the review calls.
-ghost use Rattle.std.specs.Prelude.{◌≡◌, cond, ℕ, ◌≤◌, length};
-ghost use Rattle.search.specs.Search.{Among};
+#![tactic(auto, using(crate::proofs::Refused::never_done), unfolding(crate::specs::Calls::unless, crate::specs::Calls::if_done, crate::specs::Calls::state_number, crate::specs::Review::review_number, crate::specs::Review::takable_number))]
+
+ghost use Rattle.std.specs.Prelude.{◌≡◌, ℕ, IfOk};
 ghost use Rattle.roleset.specs.Row.{member};
-ghost use Rattle.policy.specs.Tables.{state_size};
-ghost use Rattle.monitor.specs.Session.{roles_in};
 ghost use Rattle.monitor.specs.Review as review;
+ghost use Rattle.monitor.specs.Refusals.{told, figured, mode_of};
 
-use super::{Counts, Figure, RoleSet, Session, report, rights, rules, sessions, state};
-use policy::{layout, tables};
+use super::refusal::Refusal;
+use super::rights::Cleared;
+use super::state::{OpenPlace, Policy};
+use super::things::{Card, Mode, Thing};
+use super::{Counts, RoleSet, Session, state};
+use policy::tables;
 use roleset::ROW_BYTES;
-
-// 21, then 25 where a number that was handed in is out of its range.
-fn review_number(s: &[u8], in_range: bool) -> u64
-    ensures { result ≡ review.review_number s.now in_range }
-{
-    if !state::sound(s) {
-        return 21;
-    }
-    if !in_range {
-        return 25;
-    }
-    0
-}
 
 // How many labels, roles, users and cards the state has: 21.
 pub fn counts(s: &[u8]) -> Counts
     ensures { review.CountsOf s.now result.number result.labels result.roles result.users result.cards }
 {
-    let number = report::state_number(s);
-    if number != 0 {
-        return Counts {
-            number,
-            labels: 0,
-            roles: 0,
-            users: 0,
-            cards: 0,
-        };
-    }
-    Counts {
-        number,
-        labels: tables::word(s, layout::LABEL_COUNT_AT),
-        roles: tables::word(s, layout::ROLE_COUNT_AT),
-        users: tables::word(s, layout::USER_COUNT_AT),
-        cards: tables::word(s, layout::CARD_COUNT_AT),
+    match Policy::new(s) {
+        Ok(policy) => Counts {
+            number: 0,
+            labels: policy.label_count(),
+            roles: policy.role_count(),
+            users: policy.user_count(),
+            cards: policy.card_count(),
+        },
+        Err(refusal) => Counts {
+            number: refusal.into(),
+            ..Counts::default()
+        },
     }
 }
 
@@ -50,210 +37,145 @@ pub fn counts(s: &[u8]) -> Counts
 pub fn session(s: &[u8], place: u64) -> Session
     ensures { review.SessionOf s.now place result.number result.user result.label result.low result.high }
 {
-    let number = sessions::session_number(s, place);
-    if number != 0 {
-        return Session {
-            number,
-            user: 0,
-            label: 0,
-            low: 0,
-            high: 0,
-        };
-    }
-    let held = state::held_at(place);
-    Session {
-        number,
-        user: state::user_at(s, place),
-        label: state::label_at(s, place),
-        low: roleset::low(s, held),
-        high: roleset::high(s, held),
+    match OpenPlace::new(s, place) {
+        Ok(session) => Session {
+            number: 0,
+            user: session.user().number as u64,
+            label: session.label(),
+            low: roleset::low(s, session.place.held_at()),
+            high: roleset::high(s, session.place.held_at()),
+        },
+        Err(refusal) => Session {
+            number: refusal.into(),
+            ..Session::default()
+        },
     }
 }
 
 // The user's clearance: 21, 25.
-pub fn clearance(s: &[u8], user: u64) -> Figure
-    ensures { review.ClearanceOf s.now user result.number result.figure }
+pub fn clearance(s: &[u8], user: u64) -> Result<u64, Refusal>
+    ensures { review.ClearanceOf s.now user (told result) (figured result) }
 {
-    let number = review_number(s, state::within_count(s, layout::USER_COUNT_AT, user));
-    if number != 0 {
-        return Figure { number, figure: 0 };
-    }
-    let figure = state::byte_of(s, layout::CLEARANCES_AT, user);
-    Figure { number, figure }
+    let policy = Policy::new(s)?;
+    let user = policy.user(user)?;
+    Ok(policy.clearance(user))
 }
 
 // The card's label: 21, 25.
-pub fn card_label(s: &[u8], card: u64) -> Figure
-    ensures { review.CardLabelOf s.now card result.number result.figure }
+pub fn card_label(s: &[u8], card: u64) -> Result<u64, Refusal>
+    ensures { review.CardLabelOf s.now card (told result) (figured result) }
 {
-    let number = review_number(s, state::within_count(s, layout::CARD_COUNT_AT, card));
-    if number != 0 {
-        return Figure { number, figure: 0 };
-    }
-    let figure = state::byte_of(s, layout::CARD_LABELS_AT, card);
-    Figure { number, figure }
-}
-
-// Where the levels of a mode start.
-fn levels_of(mode: u64) -> usize
-    ensures { result ≡ review.levels_of mode }
-{
-    if mode == 1 {
-        return layout::R_LEVELS_AT;
-    }
-    layout::W_LEVELS_AT
+    let policy = Policy::new(s)?;
+    let card = policy.card(card)?;
+    Ok(policy.card_label(card))
 }
 
 // The role's r-level (mode 1) or w-level (mode 2): 21, 25.
-pub fn level(s: &[u8], role: u64, mode: u64) -> Figure
-    ensures { review.LevelOf s.now role mode result.number result.figure }
+pub fn level(s: &[u8], role: u64, mode: u64) -> Result<u64, Refusal>
+    ensures { review.LevelOf s.now role mode (told result) (figured result) }
 {
-    let in_range = state::within_count(s, layout::ROLE_COUNT_AT, role) & search::among(2, mode);
-    let number = review_number(s, in_range);
-    if number != 0 {
-        return Figure { number, figure: 0 };
-    }
-    let figure = state::byte_of(s, levels_of(mode), role);
-    Figure { number, figure }
+    let policy = Policy::new(s)?;
+    let role = policy.role(role)?;
+    let mode = Mode::try_from(mode)?;
+    Ok(policy.level(role, mode))
 }
 
-// 1 for yes, 0 for no.
-fn figure_of(yes: bool) -> u64
-    ensures { result ≡ cond yes 1 0 }
+// Whether label a dominates label b, 1 or 0: 21, 25.
+pub fn dominates(s: &[u8], a: u64, b: u64) -> Result<u64, Refusal>
+    ensures { review.Dominates s.now a b (told result) (figured result) }
 {
-    if yes {
-        return 1;
-    }
-    0
+    let policy = Policy::new(s)?;
+    policy.label(a)?;
+    policy.label(b)?;
+    Ok(u64::from(tables::dominates(s, a, b)))
 }
 
-// Whether label a dominates label b: 21, 25.
-pub fn dominates(s: &[u8], a: u64, b: u64) -> Figure
-    ensures { review.Dominates s.now a b result.number result.figure }
+// Whether the role is a senior of the other, or the same, 1 or 0: 21, 25.
+pub fn senior(s: &[u8], role: u64, other: u64) -> Result<u64, Refusal>
+    ensures { review.SeniorTo s.now role other (told result) (figured result) }
 {
-    let in_range = state::within_count(s, layout::LABEL_COUNT_AT, a)
-        & state::within_count(s, layout::LABEL_COUNT_AT, b);
-    let number = review_number(s, in_range);
-    if number != 0 {
-        return Figure { number, figure: 0 };
-    }
-    let figure = figure_of(tables::dominates(s, a, b));
-    Figure { number, figure }
+    let policy = Policy::new(s)?;
+    let role = policy.role(role)?;
+    let other = policy.role(other)?;
+    let is_senior = roleset::has(s, state::senior_row(other), role.number as usize);
+    Ok(u64::from(is_senior))
 }
 
-// Whether the role is a senior of the other, or the same: 21, 25.
-pub fn senior(s: &[u8], role: u64, other: u64) -> Figure
-    ensures { review.SeniorTo s.now role other result.number result.figure }
+// Whether the user is assigned to the role itself, 1 or 0: 21, 25.
+pub fn assigned(s: &[u8], user: u64, role: u64) -> Result<u64, Refusal>
+    ensures { review.AssignedTo s.now user role (told result) (figured result) }
 {
-    let in_range = state::within_count(s, layout::ROLE_COUNT_AT, role)
-        & state::within_count(s, layout::ROLE_COUNT_AT, other);
-    let number = review_number(s, in_range);
-    if number != 0 {
-        return Figure { number, figure: 0 };
-    }
-    let figure = figure_of(rules::in_row(s, layout::SENIORS_AT, other, role));
-    Figure { number, figure }
+    let policy = Policy::new(s)?;
+    let user = policy.user(user)?;
+    let role = policy.role(role)?;
+    let is_assigned = roleset::has(s, state::assigned_row(user), role.number as usize);
+    Ok(u64::from(is_assigned))
 }
 
-// Whether the user is assigned to the role itself: 21, 25.
-pub fn assigned(s: &[u8], user: u64, role: u64) -> Figure
-    ensures { review.AssignedTo s.now user role result.number result.figure }
-{
-    let in_range = state::within_count(s, layout::USER_COUNT_AT, user)
-        & state::within_count(s, layout::ROLE_COUNT_AT, role);
-    let number = review_number(s, in_range);
-    if number != 0 {
-        return Figure { number, figure: 0 };
+impl<'a> Policy<'a> {
+    // The roles that a session of the user at the label may take.
+    fn roles_at(self, at: Cleared) -> [u8; ROW_BYTES]
+        ensures { (r : ℕ) → member result 0 r ≡ review.takable_in self.entry.bytes.now at.user.number at.label.number r }
+    {
+        let mut row = [0u8; ROW_BYTES];
+        for i in 0..self.role_count() {
+            let number = i as u16 + 1;
+            let may = self.may_take(at, Thing { number });
+            roleset::add_where(&mut row, 0, number as usize, may);
+        }
+        row
     }
-    let figure = figure_of(rules::in_row(s, layout::ASSIGNED_AT, user, role));
-    Figure { number, figure }
+
+    // Whether a role of the set gives the use of the card.
+    fn set_gives(self, low: u64, high: u64, card: Card, mode: Mode) -> bool
+        ensures { result ≡ review.gives_in self.entry.bytes.now low high card.number (mode_of mode) }
+    {
+        roleset::meet_set(self.bytes, state::card_row(card, mode), low, high)
+    }
 }
 
-fn takable_number(s: &[u8], user: u64, label: u64) -> u64
-    ensures { result ≡ review.takable_number s.now user label }
+// The same of a user and a label by their numbers: 21, 25, 26.
+fn takable_row(s: &[u8], user: u64, label: u64) -> Result<[u8; ROW_BYTES], Refusal>
+    ensures refused { told result ≡ review.takable_number s.now user label }
+    ensures done { IfOk result (λ row. (r : ℕ) → member row 0 r ≡ review.takable_in s.now user label r) }
 {
-    if !state::sound(s) {
-        return 21;
-    }
-    if !state::within_count(s, layout::USER_COUNT_AT, user) {
-        return 25;
-    }
-    if !state::within_count(s, layout::LABEL_COUNT_AT, label) {
-        return 25;
-    }
-    if !rules::cleared(s, user, label) {
-        return 26;
-    }
-    0
+    let policy = Policy::new(s)?;
+    let at = policy.cleared(user, label)?;
+    Ok(policy.roles_at(at))
 }
 
-// Whether a session of the user at the label may take the role.
-fn may_take(s: &[u8], user: u64, label: u64, role: u64) -> bool
-    requires { Among 256 user × Among (roles_in s.now) role × (roles_in s.now ≤ 128) }
-    ensures { result ≡ review.takable_in s.now user label role }
-{
-    if !rules::entitled(s, user, role) {
-        return false;
-    }
-    rules::fitting(s, label, role)
-}
-
-// The roles that a session of the user at the label may take.
-fn roles_at(s: &[u8], user: u64, label: u64) -> [u8; ROW_BYTES]
-    requires { Among 256 user × (roles_in s.now ≤ 128) }
-    ensures { (r : ℕ) → member result 0 r ≡ review.takable_in s.now user label r }
-{
-    let n = tables::word(s, layout::ROLE_COUNT_AT);
-    let mut row = [0u8; ROW_BYTES];
-    let mut i = 0;
-    while i < n {
-        let may = may_take(s, user, label, i + 1);
-        roleset::add_where(&mut row, 0, i as usize + 1, may);
-        i += 1;
-    }
-    row
-}
-
-// The same as two numbers: 21, 25, 26.
+// The same as two numbers.
 pub fn takable(s: &[u8], user: u64, label: u64) -> RoleSet
     ensures { review.TakableOf s.now user label result.number result.low result.high }
 {
-    let number = takable_number(s, user, label);
-    if number != 0 {
-        return RoleSet {
-            number,
-            low: 0,
-            high: 0,
-        };
-    }
-    let row = roles_at(s, user, label);
-    RoleSet {
-        number,
-        low: roleset::low(&row, 0),
-        high: roleset::high(&row, 0),
+    match takable_row(s, user, label) {
+        Ok(row) => RoleSet {
+            number: 0,
+            low: roleset::low(&row, 0),
+            high: roleset::high(&row, 0),
+        },
+        Err(refusal) => RoleSet {
+            number: refusal.into(),
+            ..RoleSet::default()
+        },
     }
 }
 
-// Whether a role of the set gives the read (mode 1) or the write (mode 2) of the card.
-fn set_gives(s: &[u8], low: u64, high: u64, card: u64, mode: u64) -> bool
-    requires { (state_size ≤ length s.now) × Among 512 card }
-    ensures { result ≡ review.gives_in s.now low high card mode }
+// Whether a role of the set gives the read (mode 1) or the write (mode 2) of the card to a session
+// at the label, 1 or 0: 21, 25.
+pub fn gives(
+    s: &[u8],
+    low: u64,
+    high: u64,
+    label: u64,
+    card: u64,
+    mode: u64,
+) -> Result<u64, Refusal>
+    ensures { review.GivesOf s.now low high label card mode (told result) (figured result) }
 {
-    let at = rights::table_of(mode) + ROW_BYTES * (card as usize - 1);
-    roleset::meet_set(s, at, low, high)
-}
-
-// The same to a session at the label: 21, 25.
-pub fn gives(s: &[u8], low: u64, high: u64, label: u64, card: u64, mode: u64) -> Figure
-    ensures { review.GivesOf s.now low high label card mode result.number result.figure }
-{
-    let card_in_range = state::within_count(s, layout::CARD_COUNT_AT, card)
-        & search::among(2, mode);
-    let in_range = state::within_count(s, layout::LABEL_COUNT_AT, label) & card_in_range;
-    let number = review_number(s, in_range);
-    if number != 0 {
-        return Figure { number, figure: 0 };
-    }
-    let figure = figure_of(set_gives(s, low, high, card, mode));
-    Figure { number, figure }
+    let policy = Policy::new(s)?;
+    policy.label(label)?;
+    let card = policy.card(card)?;
+    let mode = Mode::try_from(mode)?;
+    Ok(u64::from(policy.set_gives(low, high, card, mode)))
 }

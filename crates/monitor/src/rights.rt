@@ -1,87 +1,76 @@
 // What a user could do at a label.
-ghost use Rattle.std.specs.Prelude.{◌≡◌, cond, ◌≤◌, length};
-ghost use Rattle.search.specs.Search.{Among};
-ghost use Rattle.monitor.specs.Session.{roles_in};
-ghost use Rattle.monitor.specs.Calls.{if_done};
-ghost use Rattle.policy.specs.Tables.{writers_at, table_of, state_size};
+#![tactic(auto, using(crate::proofs::Refused::never_done), unfolding(crate::specs::Calls::unless, crate::specs::Calls::if_done, crate::specs::Calls::state_number, crate::specs::Rights::can_number, crate::specs::Rights::role_could))]
+
+ghost use Rattle.std.specs.Prelude.{◌≡◌, ◌&&◌, IfOk};
+ghost use Rattle.search.specs.Search.{among};
+ghost use Rattle.policy.specs.Tables.{table_of};
+ghost use Rattle.monitor.specs.Session as session;
+ghost use Rattle.monitor.specs.Calls.{unless};
+ghost use Rattle.monitor.specs.Refusals.{told, figured, mode_of};
 ghost use Rattle.monitor.specs.Rights as rights;
 
-use super::{rules, state};
-use policy::{layout, tables};
+use super::refusal::Refusal;
+use super::state;
+use super::state::Policy;
+use super::things::{Card, Label, Mode, Role, Thing, User};
 
-pub fn can_number(s: &[u8], user: u64, label: u64, card: u64, mode: u64) -> u64
-    ensures { result ≡ rights.can_number s.now user label card mode }
-{
-    if !state::sound(s) {
-        return 21;
-    }
-    if !state::within_count(s, layout::USER_COUNT_AT, user) {
-        return 25;
-    }
-    if !state::within_count(s, layout::LABEL_COUNT_AT, label) {
-        return 25;
-    }
-    if !state::within_count(s, layout::CARD_COUNT_AT, card) {
-        return 25;
-    }
-    if !search::among(2, mode) {
-        return 25;
-    }
-    if !rules::cleared(s, user, label) {
-        return 26;
-    }
-    0
+// A user, and a label that the user's clearance dominates.
+#[derive(Clone, Copy)]
+pub struct Cleared {
+    pub user: User,
+    pub label: Label,
 }
 
-// Whether the user may take the role at the label, and the role has the card by the table at `at`.
-fn role_could(s: &[u8], user: u64, label: u64, card: u64, at: usize, role: u64) -> bool
-    requires { (state_size ≤ length s.now) × (at ≤ writers_at) × Among 256 user × Among 512 card × Among 128 role }
-    ensures { result ≡ rights.role_could s.now user label card at role }
-{
-    if !rules::entitled(s, user, role) {
-        return false;
-    }
-    if !rules::fitting(s, label, role) {
-        return false;
-    }
-    rules::in_row(s, at, card, role)
-}
-
-// Whether one of the state's roles could.
-fn could(s: &[u8], user: u64, label: u64, card: u64, at: usize) -> bool
-    requires { (state_size ≤ length s.now) × (roles_in s.now ≤ 128) × (at ≤ writers_at) × Among 256 user × Among 512 card }
-    ensures { result ≡ rights.could s.now user label card at }
-{
-    let n = tables::word(s, layout::ROLE_COUNT_AT);
-    let mut i = 0;
-    while i < n {
-        if role_could(s, user, label, card, at, i + 1) {
-            return true;
+impl<'a> Policy<'a> {
+    // The user and the label of those numbers: 25, 26.
+    pub fn cleared(self, user: u64, label: u64) -> Result<Cleared, Refusal>
+        ensures refused { told result ≡ unless (among (session.users_in self.entry.bytes.now) user) 25 (unless (among (session.labels_in self.entry.bytes.now) label) 25 (unless (session.cleared self.entry.bytes.now user label) 26 0)) }
+        ensures done { IfOk result (λ cleared. (cleared.user.number ≡ user) × (cleared.label.number ≡ label)) }
+    {
+        let user = self.user(user)?;
+        let label = self.label(label)?;
+        if !self.clears(user, label) {
+            return Err(Refusal::Clearance);
         }
-        i += 1;
+        Ok(Cleared { user, label })
     }
-    false
+
+    // Whether a session of the user at the label may take the role.
+    pub fn may_take(self, at: Cleared, role: Role) -> bool
+        ensures { result ≡ (session.entitled self.entry.bytes.now at.user.number role.number && session.fitting self.entry.bytes.now at.label.number role.number) }
+    {
+        self.entitles(at.user, role) && self.fits(at.label.number as u64, role)
+    }
+
+    // Whether it may, and the role gives the use of the card.
+    fn role_could(self, at: Cleared, card: Card, mode: Mode, role: Role) -> bool
+        ensures { result ≡ rights.role_could self.entry.bytes.now at.user.number at.label.number card.number (table_of (mode_of mode)) role.number }
+    {
+        let row = state::card_row(card, mode);
+        self.may_take(at, role) && roleset::has(self.bytes, row, role.number as usize)
+    }
+
+    // Whether one of its roles could.
+    fn could(self, at: Cleared, card: Card, mode: Mode) -> bool
+        ensures { result ≡ rights.could self.entry.bytes.now at.user.number at.label.number card.number (table_of (mode_of mode)) }
+    {
+        for i in 0..self.role_count() {
+            let number = i as u16 + 1;
+            if self.role_could(at, card, mode, Thing { number }) {
+                return true;
+            }
+        }
+        false
+    }
 }
 
-// Where the table of a mode starts.
-pub fn table_of(mode: u64) -> usize
-    ensures { result ≡ table_of mode }
+// Whether a session of the user at the label could use the card so, 1 or 0: 21, 25, 26.
+pub fn can(s: &[u8], user: u64, label: u64, card: u64, mode: u64) -> Result<u64, Refusal>
+    ensures { rights.Cans s.now user label card mode (told result) (figured result) }
 {
-    if mode == 1 {
-        return layout::READERS_AT;
-    }
-    layout::WRITERS_AT
-}
-
-pub fn can_figure(s: &[u8], user: u64, label: u64, card: u64, mode: u64, number: u64) -> u64
-    requires { number ≡ rights.can_number s.now user label card mode }
-    ensures { result ≡ if_done (rights.can_number s.now user label card mode) (cond (rights.could s.now user label card (table_of mode)) 1 0) 0 }
-{
-    if number != 0 {
-        return 0;
-    }
-    if could(s, user, label, card, table_of(mode)) {
-        return 1;
-    }
-    0
+    let policy = Policy::new(s)?;
+    let card = policy.card(card)?;
+    let mode = Mode::try_from(mode)?;
+    let at = policy.cleared(user, label)?;
+    Ok(u64::from(policy.could(at, card, mode)))
 }
