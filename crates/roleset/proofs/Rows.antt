@@ -1,12 +1,12 @@
 -- Rows as sets: what a row holds after its bytes are changed, and that `Placed` settles every byte and leaves the other rows alone.
 -- Assumes nothing.
 use Rattle.std.proofs.Common.{ℕ, ◌+◌, ◌-◌, ◌*◌, ◌%◌, ◌^◌, ◌≤◌, ◌<◌, ◌≡◌, refl, sym, ap, ◌∙◌, ◌⊎◌, inl, inr, Bool, true, false, ◌&&◌, cond, List, ◌++◌, take, drop, length, get_or, set, replicate, eqb, leb, bit_or, bit_xor, zero-add, length-drop, arith}
-use Rattle.std.proofs.lemmas.List.{get_or-take, get_or-drop, get_or_append_left, get_or-append-add, length-take, take-append-drop}
+use Rattle.std.proofs.lemmas.List.{get_or-take, get_or-drop, get_or_append_left, get_or-append-add, length-take}
 use Rattle.std.proofs.Math.Seq.{get_or-append_right, get_or-set_same, get_or-set_other, ext_get_or}
 use mathlib.Core.Logic.{⊎_elim}
 use mathlib.Core.Bool.{or-true, or-false, and-true, and-false}
 use native.Mathlib.Decide.{dec_le, dec_lt, ℕ_discrete}
-use lib.ListN.{length-set, get_or-replicate, get_or-eq_default}
+use lib.ListN.{length-set, get_or-replicate}
 use borrow.Author.Count.{below_more}
 use borrow.Rule.Slice.PartMut.{mid_of, put_mid}
 use borrow.Author.Tests.{le-leb, eq-eqb, ne_eqb}
@@ -132,64 +132,54 @@ placed_first {s} xs row fits long h = record {
   none = λ l. absurd (omega arith);
 }
 
--- a part of k bytes begins with the row at `at`: it has all bytes of the row that there are
-module _ (at k : ℕ) (xs : List ℕ) (inside : at + k ≤ length xs) (enough : (j : ℕ) → j < 16 → k ≤ j → length xs ≤ at + j) where
-  part_long : length (mid_of at k xs) ≡ k
-  part_long = omega (arith, length-take k (drop at xs), length-drop at xs)
+-- the 16 bytes from `at` on are the row at `at`
+module _ (at size : ℕ) (xs : List ℕ) (inside : at + 16 ≤ length xs) (sixteen : size ≡ 16) where
+  pub part_long : length (mid_of at size xs) ≡ 16
+  part_long = omega (arith, length-take size (drop at xs), length-drop at xs)
 
-  part_byte : (j : ℕ) → j < k → get_or (mid_of at k xs) j 0 ≡ get_or xs (at + j) 0
-  part_byte j l = get_or-take k (drop at xs) j 0 l ∙ get_or-drop at xs j 0
+  pub front : (r : ℕ) → member (mid_of at size xs) 0 r ≡ member xs at r
+  front = same_bytes xs (mid_of at size xs) at 0 (λ k l. get_or-take size (drop at xs) (0 + k) 0 (omega arith) ∙ rw zero-add (get_or-drop at xs k 0))
 
-  pub front : (r : ℕ) → member (mid_of at k xs) 0 r ≡ member xs at r
-  front = same_bytes xs (mid_of at k xs) at 0 (λ j l. rw (zero-add j) (elim (dec_lt j k) [
-    | yes m ↦ part_byte j m
-    | no m ↦
-        let long = part_long in
-        get_or-eq_default (mid_of at k xs) 0 (omega arith) ∙ sym (get_or-eq_default xs 0 (enough j l (omega arith)))
-  ]))
+  pub where_front : (k : ℕ) (other : List ℕ) (r : ℕ) → united_where (mid_of at size xs) 0 k other r ≡ united_where xs at k other r
+  where_front k other r = rw (front r, front k)
 
-  pub where_front : (q : ℕ) (other : List ℕ) (r : ℕ) → united_where (mid_of at k xs) 0 q other r ≡ united_where xs at q other r
-  where_front q other r = rw (front r, front q)
+  -- and where they are written so is that row
+  module _ (new : List ℕ) (long : length new ≡ length (mid_of at size xs)) where
+    abbrev behind : List ℕ
+    behind = drop size (drop at xs)
 
-  -- and where the part is written so is that row
-  module _ (new : List ℕ) (long : length new ≡ length (mid_of at k xs)) where
-    before : length (take at xs) ≡ at
-    before = omega (arith, length-take at xs)
+    after : (k : ℕ) → get_or (put_mid at size xs new) (at + k) 0 ≡ get_or (new ++ behind) k 0
+    after k =
+        let before : length (take at xs) ≡ at = omega (arith, length-take at xs) in
+        rw before at (get_or-append-add (take at xs) (new ++ behind) k 0)
 
-    after : (j : ℕ) → get_or (put_mid at k xs new) (at + j) 0 ≡ get_or (new ++ drop k (drop at xs)) j 0
-    after j = rw before at (get_or-append-add (take at xs) (new ++ drop k (drop at xs)) j 0)
+    kept : Kept at (at + 16) xs (put_mid at size xs new)
+    kept i o =
+        let all = part_long in
+        elim (dec_lt i at) [
+          | yes m ↦
+              get_or_append_left (take at xs) (new ++ behind) 0 i (omega (arith, length-take at xs))
+              ∙ get_or-take at xs i 0 m
+          | no m ↦
+              let l : at + 16 ≤ i = o (omega arith) in
+              let place : at + (i - at) ≡ i = omega arith in
+              let past : size + (i - at - length new) ≡ i - at = omega arith in
+              rw place at (after (i - at))
+              ∙ get_or-append_right new behind (i - at) 0 (omega arith)
+              ∙ get_or-drop size (drop at xs) (i - at - length new) 0
+              ∙ rw (past, get_or-drop at xs (i - at) 0, place)
+        ]
 
-    new_byte : (j : ℕ) → j < k → get_or (put_mid at k xs new) (at + j) 0 ≡ get_or new j 0
-    new_byte j l = let same = part_long in after j ∙ get_or_append_left new (drop k (drop at xs)) 0 j (omega arith)
-
-    old_byte : (j : ℕ) → k ≤ j → get_or (put_mid at k xs new) (at + j) 0 ≡ get_or xs (at + j) 0
-    old_byte j l =
-        let place : k + (j - k) ≡ j = omega arith in
-        let same : length new ≡ k = long ∙ part_long in
-        after j ∙ get_or-append_right new (drop k (drop at xs)) j 0 (omega arith)
-        ∙ rw (same, get_or-drop k (drop at xs) (j - k) 0, place) (get_or-drop at xs j 0)
-
-    pub placed_from : {s t : ℕ → Bool} → Placed 0 t (mid_of at k xs) new → ((r : ℕ) → t r ≡ s r) → Placed at s xs (put_mid at k xs new)
-    placed_from p same = record {
-      row = λ l r.
-          let wide : 16 ≤ k = elim (dec_le 16 k) [ yes m ↦ m | no m ↦ absurd (omega (arith, enough k (omega arith) (omega arith))) ] in
-          let all = part_long in
-          same_bytes new (put_mid at k xs new) 0 at (λ j m. rw (zero-add j) (new_byte j (omega arith))) r
-          ∙ p.row (omega arith) r ∙ same r;
-      rest = λ i o. elim (dec_lt i at) [
-        | yes m ↦ let f = before in get_or_append_left (take at xs) (new ++ drop k (drop at xs)) 0 i (omega arith) ∙ get_or-take at xs i 0 m
-        | no m ↦
-            let place : at + (i - at) ≡ i = omega arith in
-            let here : get_or (put_mid at k xs new) (at + (i - at)) 0 ≡ get_or xs (at + (i - at)) 0 = elim (dec_lt (i - at) k) [
-              | yes n ↦ new_byte (i - at) n ∙ p.rest (i - at) (λ z. omega (arith, o (omega arith))) ∙ part_byte (i - at) n
-              | no n ↦ old_byte (i - at) (omega arith)
-            ] in
-            rw place at here
-      ];
-      none = λ l.
-          let all = part_long in
-          rw (p.none (omega arith), take-append-drop k (drop at xs)) (take-append-drop at xs);
-    }
+    pub placed_from : {s t : ℕ → Bool} → Placed 0 t (mid_of at size xs) new → ((r : ℕ) → t r ≡ s r) → Placed at s xs (put_mid at size xs new)
+    placed_from p same =
+        let all = part_long in
+        record {
+          row = λ l r.
+              same_bytes new (put_mid at size xs new) 0 at (λ k m. after k ∙ rw zero-add (get_or_append_left new behind 0 k (omega arith))) r
+              ∙ p.row (omega arith) r ∙ same r;
+          rest = kept;
+          none = λ l. absurd (omega arith);
+        }
 
 -- ---- bytes kept
 

@@ -13,7 +13,10 @@ pub type Row = [u8; ROW_BYTES];
 pub fn row(s: &[u8], at: usize) -> Option<&Row>
     ensures { MatchOption result (whole s.now at ≡ false) (λ y. (whole s.now at ≡ true) × ((r : ℕ) → member y.now 0 r ≡ member s.now at r)) }
 {
-    s.get(at..)?.first_chunk()
+    if !super::rows_lie(s.len(), at, 1) {
+        return None;
+    }
+    s[at..at + ROW_BYTES].first_chunk()
 }
 
 // Whether the number is a role's.

@@ -48,8 +48,8 @@ pub fn next(s: &[u8], at: usize, after: usize) -> Option<usize>
 pub fn add(s: &mut [u8], at: usize, role: usize)
     ensures { Placed at (added s.old at role) s.old s.new }
 {
-    if at <= s.len() {
-        inner::add(&mut s[at..], role);
+    if rows_lie(s.len(), at, 1) {
+        inner::add(&mut s[at..at + ROW_BYTES], role);
     }
 }
 
@@ -66,8 +66,8 @@ pub fn add_where(s: &mut [u8], at: usize, role: usize, on: bool)
 pub fn remove(s: &mut [u8], at: usize, role: usize)
     ensures { Placed at (removed s.old at role) s.old s.new }
 {
-    if at <= s.len() {
-        inner::remove(&mut s[at..], role);
+    if rows_lie(s.len(), at, 1) {
+        inner::remove(&mut s[at..at + ROW_BYTES], role);
     }
 }
 
@@ -85,8 +85,8 @@ pub fn row(s: &[u8], at: usize) -> [u8; ROW_BYTES]
 pub fn unite(s: &mut [u8], at: usize, other: [u8; ROW_BYTES])
     ensures { Placed at (united s.old at other) s.old s.new }
 {
-    if at <= s.len() {
-        inner::unite(&mut s[at..], other);
+    if rows_lie(s.len(), at, 1) {
+        inner::unite(&mut s[at..at + ROW_BYTES], other);
     }
 }
 

@@ -1,14 +1,14 @@
--- The bytes from the row on are written, if there are any.
-use Rattle.std.proofs.Common.{◌+◌, ◌-◌, ◌≤◌, length, arith}
-use Rattle.roleset.proofs.Rows.{front, placed_from, unwritten}
+-- The row is written, if there is one.
+use Rattle.std.proofs.Common.{◌+◌, ◌-◌, sym, arith}
+use borrow.Author.Tests.{leb-true}
+use Rattle.roleset.proofs.Rows.{front, placed_from, no_row}
 use Rattle.roleset.proofs.unite.Goals as goal
 
-pub returns-then-at-s : goal.returns-then-at-s
-returns-then-at-s c =
+pub returns-then-rows_lie : goal.returns-then-rows_lie
+returns-then-rows_lie c =
     let a = c.args in
-    let k = length a.s.now - a.at in
-    let inside : a.at + k ≤ length a.s.now = omega arith in
-    placed_from a.at k a.s.now inside (λ j l m. omega arith) c.unite.new.from c.unite.auto.from c.unite.ensures (λ r. rw (front a.at k a.s.now inside (λ j l m. omega arith) r))
+    let inside = leb-true (a.at + 16) _ (sym c.if-rows_lie.ensures) in
+    placed_from a.at _ a.s.now inside (omega arith) c.unite.new.from c.unite.auto.from c.unite.ensures (λ r. rw (front a.at (a.at + 16 - a.at) a.s.now inside (omega arith) r))
 
-pub returns-else-at-s : goal.returns-else-at-s
-returns-else-at-s c = unwritten (λ l. absurd (omega arith))
+pub returns-else-rows_lie : goal.returns-else-rows_lie
+returns-else-rows_lie c = no_row (sym c.if-rows_lie.ensures)

@@ -1,5 +1,5 @@
 -- Each turn places one row more, which has had no turn before.
-use Rattle.std.proofs.Common.{ℕ, ◌+◌, ◌-◌, ◌*◌, ◌≤◌, ◌<◌, ◌≡◌, ◌∙◌, refl, sym, inr, length, arith}
+use Rattle.std.proofs.Common.{ℕ, ◌+◌, ◌*◌, ◌≤◌, ◌≡◌, ◌∙◌, refl, sym, inr, length, arith}
 use borrow.Author.Tests.{leb-true}
 use Rattle.roleset.specs.Row.{member}
 use Rattle.roleset.proofs.Rows.{row_kept, rows_unwritten, rows_more, no_rows, where_front, placed_from}
@@ -16,11 +16,10 @@ loop-i-preserved c =
     let at = a.at + 16 * w.i in
     let fits = lie (goal.at.loop-i-preserved c).Else-not-rows_lie in
     let left : (r : ℕ) → member w.s at r ≡ member a.s.now at r = λ r. row_kept _ _ w.invariant.rest _ r (inr (omega arith)) in
-    let k = at + 16 - at in
-    let here : at + k ≤ length w.s = let long = w.auto.s in omega arith in
-    let enough : (j : ℕ) → j < 16 → k ≤ j → length w.s ≤ at + j = λ j l m. omega arith in
-    rows_more (omega arith) w.auto.s w.invariant (placed_from at k w.s here enough c.unite_where.new.from c.unite_where.auto.from c.unite_where.ensures (λ r. refl))
-    (λ r. where_front at k w.s here enough a.role a.other r ∙ rw (left r, left a.role))
+    let here : at + 16 ≤ length w.s = let long = w.auto.s in omega arith in
+    rows_more (omega arith) w.auto.s w.invariant
+    (placed_from at _ w.s here (omega arith) c.unite_where.new.from c.unite_where.auto.from c.unite_where.ensures (λ r. refl))
+    (λ r. where_front at _ w.s here (omega arith) a.role a.other r ∙ rw (left r, left a.role))
 
 pub loop-i-init : goal.loop-i-init
 loop-i-init c = rows_unwritten (λ l i m. absurd (omega arith))
