@@ -30,7 +30,8 @@ pub struct Line {
 }
 
 // The number of a refusal and its place, two numbers that say where the file is refused; 0, 0, 0
-// where there is nothing to refuse.
+// where there is nothing to refuse. Checks answer by `Refusal`; this is what definitions of checks
+// (`lines_verdict`), `Outcome` and C have of it.
 #[derive(Clone, Copy, Debug, PartialEq, Eq)]
 pub struct Verdict {
     pub number: u64,
