@@ -35,7 +35,9 @@ impl<'a> Policy<'a> {
         Ok(Cleared { user, label })
     }
 
-    // Whether a session of the user at the label may take the role.
+    // Whether a session of the user at the label may take the role. Two loops call it for each role,
+    // and are slower where it is a call.
+    #[inline(always)]
     pub fn may_take(self, at: Cleared, role: Role) -> bool
         ensures { result ≡ (session.entitled self.entry.bytes.now at.user.number role.number && session.fitting self.entry.bytes.now at.label.number role.number) }
     {
