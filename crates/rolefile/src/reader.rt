@@ -4,7 +4,7 @@ ghost use Rattle.rolefile.specs.Line.{line_at};
 
 use super::{Line, read};
 
-#[derive(Clone, Copy, Debug)]
+#[derive(Clone, Copy, Debug, PartialEq, Eq)]
 pub struct Reader<'a> {
     pub file: &'a [u8],
     pub next: usize,
