@@ -1,14 +1,8 @@
 -- 14 to 16 by the tables: a verdict with no number has no place, and the tables' verdict is that of the settings where the tables are. Assumes nothing.
-use Prim.Native.Nat.{ℕ, ◌+◌, ◌≤◌, ◌<◌}
-use mathlib.Core.Path.{◌≡◌, refl, sym, ◌∙◌}
-use mathlib.Core.Logic.{◌⊎◌, inl, inr, ⊎_elim}
-use mathlib.Core.Bool.{Bool, true, false, not, ◌&&◌, ◌||◌, cond, and-false}
-use mathlib.Core.List.{List}
-use native.Mathlib.Omega.{arith}
+use Rattle.std.proofs.Common.{ℕ, ◌+◌, ◌≤◌, ◌<◌, ◌≡◌, refl, sym, ◌∙◌, ◌⊎◌, inl, inr, ⊎_elim, Bool, true, false, not, ◌&&◌, ◌||◌, cond, List, arith, leb, eqb, get_or, ne_eqb, leb-true, le-leb}
+use mathlib.Core.Bool.{and-false}
 use native.Mathlib.Decide.{dec_lt}
-use lib.Dec.{leb, eqb}
-use lib.ListN.{get_or}
-use borrow.Author.Tests.{ne_eqb, leb-true, le-leb, lt-leb}
+use borrow.Author.Tests.{lt-leb}
 use Rattle.search.specs.Search.{Among, among, some}
 use Rattle.search.proofs.Truth.{and-iff, among_iff, untrue, both, same}
 use Rattle.search.proofs.Found.{some_cut}

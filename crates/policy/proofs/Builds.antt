@@ -1,9 +1,5 @@
 -- The stages of a load put together: the verdict is the first refusal of the stages, and each table stays as its stage left it. Assumes nothing.
-use Prim.Native.Nat.{ℕ, ◌+◌, ◌-◌, ◌*◌, ◌≤◌, ◌<◌}
-use mathlib.Core.Path.{◌≡◌, sym, ◌∙◌}
-use mathlib.Core.List.{List}
-use native.Mathlib.Omega.{arith}
-use lib.ListN.{get_or}
+use Rattle.std.proofs.Common.{ℕ, ◌+◌, ◌-◌, ◌*◌, ◌≤◌, ◌<◌, ◌≡◌, sym, ◌∙◌, List, arith, get_or}
 use Rattle.search.specs.Search.{Among}
 use Rattle.roleset.specs.Row.{member, row_of}
 use Rattle.roleset.proofs.Rows.{same_bytes}

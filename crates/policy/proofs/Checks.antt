@@ -1,11 +1,6 @@
 -- What each check of the policy decides: circles (11 and 13, for any relation), pairs without a bound (12), and assignments (14 to 16).
 -- Assumes nothing.
-use Prim.Native.Nat.{ℕ, suc, ◌<◌}
-use mathlib.Core.Path.{◌≡◌, refl, ◌∙◌}
-use mathlib.Core.Logic.{inl, inr, ⊎_elim}
-use mathlib.Core.List.{List}
-use native.Mathlib.Omega.{arith}
-use lib.Dec.{eqb}
+use Rattle.std.proofs.Common.{ℕ, suc, ◌<◌, ◌≡◌, refl, ◌∙◌, inl, inr, ⊎_elim, List, arith, eqb}
 use Rattle.search.specs.Search.{some}
 use Rattle.search.proofs.Truth.{eqb_iff, either}
 use Rattle.order.specs.Closure.{Relation, path, closure, PartialOrder, to_itself}

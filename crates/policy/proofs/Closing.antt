@@ -1,11 +1,7 @@
 -- A table that has a relation among the things 1 to n, its paths and its closure: marks and rows of roles alike. Assumes nothing.
-use Prim.Native.Nat.{ℕ, ◌≤◌}
-use mathlib.Core.Path.{◌∙◌}
-use mathlib.Core.Bool.{◌&&◌}
-use native.Mathlib.Omega.{arith}
+use Rattle.std.proofs.Common.{ℕ, ◌≤◌, ◌∙◌, ◌&&◌, arith, leb, le-leb}
 use native.Mathlib.Decide.{dec_lt}
-use lib.Dec.{leb}
-use borrow.Author.Tests.{le-leb, lt-leb}
+use borrow.Author.Tests.{lt-leb}
 use Rattle.search.specs.Search.{Among}
 use Rattle.search.proofs.Truth.{untrue}
 use Rattle.search.proofs.Found.{wider}

@@ -1,9 +1,7 @@
 -- Which levels of ordered settings are defined: every r-level, and the w-level of a role that writes nothing or whose labels written have a lower bound in common.
 -- Assumes nothing.
-use Prim.Native.Nat.{ℕ}
-use mathlib.Core.Path.{◌≡◌}
-use mathlib.Core.Logic.{◌↔◌, ◌⊎◌, inl, inr, ⊎_elim}
-use mathlib.Core.Bool.{true, false≢true}
+use Rattle.std.proofs.Common.{ℕ, ◌≡◌, ◌↔◌, ◌⊎◌, inl, inr, ⊎_elim, true}
+use mathlib.Core.Bool.{false≢true}
 use Rattle.search.specs.Search.{Among}
 use Rattle.order.specs.Closure.{PartialOrder}
 use Rattle.order.specs.Bound.{converse, AllJoined, Lower}

@@ -1,12 +1,5 @@
 -- Dominance in tables: the D lines' paths and their closure, and what 11 and 12 find in them. Assumes nothing.
-use Prim.Native.Nat.{ℕ, zero, suc, ◌≤◌, min}
-use Rattle.std.proofs.Common.{Some, None}
-use mathlib.Core.Path.{◌≡◌, refl, ◌∙◌}
-use mathlib.Core.List.{List}
-use mathlib.Core.Bool.{Bool, ◌&&◌, cond}
-use native.Mathlib.Omega.{arith}
-use lib.Dec.{leb, ltb}
-use borrow.Author.Tests.{le-leb, lt-ltb, ne_eqb}
+use Rattle.std.proofs.Common.{ℕ, zero, suc, ◌≤◌, min, Some, None, ◌≡◌, refl, ◌∙◌, List, Bool, ◌&&◌, cond, arith, leb, ltb, le-leb, lt-ltb, ne_eqb}
 use Rattle.search.proofs.Truth.{and_when}
 use Rattle.search.specs.Search.{thing}
 use Rattle.search.proofs.Thing.{thing_none, thing_some}

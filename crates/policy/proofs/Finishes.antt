@@ -1,9 +1,5 @@
 -- The last stage: counts and assigned roles. Assumes nothing.
-use Prim.Native.Nat.{ℕ}
-use mathlib.Core.Path.{◌≡◌, refl, ◌∙◌}
-use mathlib.Core.Logic.{inr}
-use mathlib.Core.List.{List}
-use native.Mathlib.Omega.{arith}
+use Rattle.std.proofs.Common.{ℕ, ◌≡◌, refl, ◌∙◌, inr, List, arith}
 use Rattle.roleset.specs.Row.{row_of, Kept}
 use Rattle.roleset.proofs.Rows.{row_kept, kept_both}
 use Rattle.rolefile.specs.Line.{fields, lines}

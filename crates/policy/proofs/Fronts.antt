@@ -1,13 +1,5 @@
 -- The lines of one letter as a slice of their own: their numbers are those of the part that they are the front of. Assumes nothing.
-use Prim.Native.Nat.{ℕ, zero, suc, ◌+◌, ◌*◌, ◌≤◌, ◌<◌}
-use mathlib.Core.Path.{◌≡◌, refl, ap, ◌∙◌}
-use mathlib.Core.List.{List}
-use mathlib.Core.Bool.{◌&&◌}
-use native.Mathlib.Omega.{arith}
-use lib.Dec.{eqb}
-use lib.ListN.{get_or, take, drop}
-use lib.Seq.{length-take-le, get_or-take, drop-drop}
-use borrow.Author.Tests.{le-leb}
+use Rattle.std.proofs.Common.{ℕ, zero, suc, ◌+◌, ◌*◌, ◌≤◌, ◌<◌, ◌≡◌, refl, ap, ◌∙◌, List, ◌&&◌, arith, eqb, get_or, take, drop, length-take-le, get_or-take, drop-drop, le-leb}
 use Rattle.search.specs.Search.{Among}
 use Rattle.search.proofs.Found.{some_agree}
 use Rattle.rolefile.specs.declared.Verdict.{Verdict}

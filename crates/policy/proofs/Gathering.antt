@@ -1,14 +1,6 @@
 -- The roles that may read, and those that may write, a card of a label, gathered card by card; and both levels of a role, put in one after the other. Assumes nothing.
-use Prim.Native.Nat.{ℕ, zero, suc, ◌+◌, ◌-◌, ◌*◌, ◌≤◌, ◌<◌}
-use Rattle.std.proofs.Common.{Some, None}
-use mathlib.Core.Path.{◌≡◌, refl, sym, ◌∙◌}
-use mathlib.Core.Bool.{Bool, true, false, ◌||◌, or-false}
-use mathlib.Core.List.{List}
-use native.Mathlib.Nat.{add-sub_cancel, zero-add}
-use native.Mathlib.Omega.{arith}
-use lib.ListN.{length, get_or, set, replicate, length-set}
-use lib.Seq.{get_or-set_same, get_or-set_other}
-use borrow.Author.Tests.{ne_eqb}
+use Rattle.std.proofs.Common.{ℕ, zero, suc, ◌+◌, ◌-◌, ◌*◌, ◌≤◌, ◌<◌, Some, None, ◌≡◌, refl, sym, ◌∙◌, Bool, true, false, ◌||◌, List, add-sub_cancel, zero-add, arith, length, get_or, set, replicate, length-set, get_or-set_same, get_or-set_other, ne_eqb}
+use mathlib.Core.Bool.{or-false}
 use Rattle.search.specs.Search.{Among, some, thing}
 use Rattle.search.proofs.Thing.{thing_none, thing_some}
 use Rattle.search.proofs.Found.{some_more, some_yet, some_agree, among_next}

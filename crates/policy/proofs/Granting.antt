@@ -1,15 +1,8 @@
 -- Dominance, permissions and levels as the tables hold them are those of the file: what the P lines grant by the seniors' rows is what a role may do,
 -- and the bounds of the labels gathered are its levels. Assumes nothing.
-use Prim.Native.Nat.{ℕ, ◌+◌, ◌-◌, ◌*◌, ◌≤◌, ◌<◌}
-use mathlib.Core.Path.{◌≡◌, refl, sym, ap, ◌∙◌}
-use mathlib.Core.Logic.{⊎_elim}
-use mathlib.Core.List.{List}
-use mathlib.Core.Bool.{Bool, false, ◌&&◌, cond, and_assoc, and_comm}
-use native.Mathlib.Omega.{arith}
+use Rattle.std.proofs.Common.{ℕ, ◌+◌, ◌-◌, ◌*◌, ◌≤◌, ◌<◌, ◌≡◌, refl, sym, ap, ◌∙◌, ⊎_elim, List, Bool, false, ◌&&◌, cond, arith, eqb, get_or, eqb-true, eq-eqb, le-leb}
+use mathlib.Core.Bool.{and_assoc, and_comm}
 use native.Mathlib.Decide.{dec_lt}
-use lib.Dec.{eqb}
-use lib.ListN.{get_or}
-use borrow.Author.Tests.{eqb-true, eq-eqb, le-leb}
 use Rattle.search.specs.Search.{Among, among, some}
 use Rattle.search.proofs.Truth.{among_iff, untrue, same}
 use Rattle.search.proofs.Found.{some_both, some_none, some_agree, None}

@@ -1,10 +1,5 @@
 -- What the lines of a file say is about labels, roles and cards that the file counts, and so is what follows from it. Assumes nothing.
-use Prim.Native.Nat.{ℕ, zero, suc, ◌<◌}
-use mathlib.Core.Path.{◌≡◌}
-use mathlib.Core.Logic.{◌⊎◌, inl, inr, ⊎_elim}
-use mathlib.Core.List.{List}
-use mathlib.Core.Bool.{true}
-use native.Mathlib.Omega.{arith}
+use Rattle.std.proofs.Common.{ℕ, zero, suc, ◌<◌, ◌≡◌, ◌⊎◌, inl, inr, ⊎_elim, List, true, arith}
 use Rattle.search.specs.Search.{Among}
 use Rattle.order.specs.Closure.{Relation, via, closure}
 use Rattle.order.proofs.Closure.{ways, same_or_path}

@@ -1,9 +1,5 @@
 -- A label that serves a user in a role serves the user in each of its juniors, and a clearance that lies between the levels is itself a label that serves. Assumes nothing.
-use Prim.Native.Nat.{ℕ}
-use mathlib.Core.Path.{◌≡◌, refl}
-use mathlib.Core.Logic.{inl, inr, ⊎_elim}
-use mathlib.Core.Bool.{Bool, true, false}
-use lib.Dec.{eqb}
+use Rattle.std.proofs.Common.{ℕ, ◌≡◌, refl, inl, inr, ⊎_elim, Bool, true, false, eqb}
 use Rattle.search.specs.Search.{some, Among}
 use Rattle.search.proofs.Truth.{other_iff}
 use Rattle.search.proofs.Found.{some_iff, some_both}

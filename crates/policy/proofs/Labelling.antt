@@ -1,15 +1,8 @@
 -- The byte that the lines of a section note for a thing is its label, or 255 where several lines give it one. So the bytes tell the lowest thing without
 -- just one label, and where there is none, each byte is the label that the file gives. Assumes nothing.
-use Prim.Native.Nat.{ℕ, zero, suc, ◌+◌, ◌-◌, ◌≤◌, ◌<◌}
-use Rattle.std.proofs.Common.{Some, None}
-use mathlib.Core.Path.{◌≡◌, refl, ◌∙◌}
-use mathlib.Core.List.{List}
-use mathlib.Core.Bool.{Bool, true, false, not, cond}
-use native.Mathlib.Omega.{arith}
-use native.Mathlib.Nat.{add-zero}
+use Rattle.std.proofs.Common.{ℕ, zero, suc, ◌+◌, ◌-◌, ◌≤◌, ◌<◌, Some, None, ◌≡◌, refl, ◌∙◌, List, Bool, true, false, not, cond, arith, add-zero, leb, eqb, eqb-true, le-leb, ne_eqb}
 use native.Mathlib.Decide.{dec_lt}
-use lib.Dec.{leb, eqb}
-use borrow.Author.Tests.{eqb-true, not-false, le-leb, lt-leb, ne_eqb}
+use borrow.Author.Tests.{not-false, lt-leb}
 use Rattle.search.specs.Search.{Among, first, thing}
 use Rattle.search.proofs.Thing.{thing_none, thing_some}
 use Rattle.search.proofs.Found.{first_none, first_agree}

@@ -1,11 +1,8 @@
 -- A level as a property: free where the set is empty, its least upper bound where it has one, and else undefined; which levels pass, and which labels serve an assignment.
 -- Assumes nothing.
-use Prim.Native.Nat.{ℕ, zero, suc, ◌≤◌}
-use mathlib.Core.Path.{◌≡◌, refl}
+use Rattle.std.proofs.Common.{ℕ, zero, suc, ◌≤◌, ◌≡◌, refl, ◌↔◌, inl, inr, ⊎_elim, Bool, true, false, cond, true≢false, arith}
 use mathlib.Core.Logic.Iff
-use mathlib.Core.Logic.{◌↔◌, inl, inr, ⊎_elim}
-use mathlib.Core.Bool.{Bool, true, false, cond, false≢true, true≢false}
-use native.Mathlib.Omega.{arith}
+use mathlib.Core.Bool.{false≢true}
 use Rattle.search.specs.Search.{some, Among}
 use Rattle.search.proofs.Truth.{and_both, other_iff}
 use Rattle.search.proofs.Found.{some_iff}

@@ -1,15 +1,8 @@
 -- Marks that the lines of a part make in a table, and the bytes of such a table. Assumes nothing.
-use Prim.Native.Nat.{ℕ, ◌+◌, ◌*◌, ◌-◌}
-use mathlib.Core.Path.{◌≡◌, refl, sym, ◌∙◌}
-use mathlib.Core.Bool.{Bool, false, ◌||◌, cond, or-false, or_comm}
-use mathlib.Core.List.{List, []}
-use native.Mathlib.Nat.{add-sub_cancel}
-use native.Mathlib.Omega.{arith}
+use Rattle.std.proofs.Common.{ℕ, ◌+◌, ◌*◌, ◌-◌, ◌≡◌, refl, sym, ◌∙◌, Bool, false, ◌||◌, cond, List, [], add-sub_cancel, arith, eqb, length, get_or, set, replicate, get_or-set_same, get_or-set_other, eq-eqb, ne_eqb}
+use mathlib.Core.Bool.{or-false, or_comm}
 use native.Mathlib.Decide.{ℕ_discrete}
-use lib.Dec.{eqb}
-use lib.ListN.{length, get_or, set, replicate, get_or-replicate}
-use lib.Seq.{get_or-set_same, get_or-set_other}
-use borrow.Author.Tests.{eq-eqb, ne_eqb}
+use lib.ListN.{get_or-replicate}
 use Rattle.search.specs.Search.{Among}
 use Rattle.search.proofs.Found.{among_next}
 use Rattle.roleset.proofs.Rows.{kept_both}

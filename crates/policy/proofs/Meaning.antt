@@ -1,13 +1,5 @@
 -- What a state's tables say, where they describe bounded settings, is what the settings say: counts, dominance, role flow. Assumes nothing.
-use Prim.Native.Nat.{ℕ, ◌≤◌}
-use mathlib.Core.Path.{◌≡◌, refl, ap}
-use mathlib.Core.Logic.{◌↔◌, ◌⊎◌}
-use mathlib.Core.List.{List}
-use mathlib.Core.Bool.{Bool, false, not, ◌&&◌, ◌||◌}
-use native.Mathlib.Omega.{arith}
-use lib.Dec.{eqb}
-use lib.ListN.{length}
-use borrow.Author.Tests.{eq-eqb}
+use Rattle.std.proofs.Common.{ℕ, ◌≤◌, ◌≡◌, refl, ap, ◌↔◌, ◌⊎◌, List, Bool, false, not, ◌&&◌, ◌||◌, arith, eqb, length, eq-eqb}
 use Rattle.search.specs.Search.{Among}
 use Rattle.search.proofs.Found.{wider, some_agree, first_none_of, first_lowest_of}
 use Rattle.order.specs.Closure.{Agree, path, OnCircle, to_itself}

@@ -1,9 +1,5 @@
 -- The verdict on a file means what it says, place included, and nothing else does: each file has just one outcome. Assumes nothing.
-use Prim.Native.Nat.{ℕ, ◌≤◌}
-use mathlib.Core.Path.{◌≡◌, refl, sym}
-use mathlib.Core.Logic.{◌↔◌, ◌⊎◌, inl, inr, ⊎_elim}
-use mathlib.Core.List.{List}
-use native.Mathlib.Omega.{arith}
+use Rattle.std.proofs.Common.{ℕ, ◌≤◌, ◌≡◌, refl, sym, ◌↔◌, ◌⊎◌, inl, inr, ⊎_elim, List, arith}
 use Rattle.order.specs.Closure.{path}
 use Rattle.order.specs.Bound.{AllJoined}
 use Rattle.rolefile.specs.declared.Verdict.{Verdict}

@@ -1,13 +1,5 @@
 -- Seniority from the S lines: the rows that the lines fill are closed, and hold each role's seniors. Assumes nothing.
-use Prim.Native.Nat.{ℕ, ◌+◌, ◌≤◌, min}
-use Rattle.std.proofs.Common.{Some, None}
-use mathlib.Core.Path.{◌≡◌, refl, ◌∙◌}
-use mathlib.Core.List.{List}
-use mathlib.Core.Bool.{cond}
-use native.Mathlib.Omega.{arith}
-use lib.Dec.{leb}
-use lib.ListN.{length}
-use borrow.Author.Tests.{ne_eqb, le-leb}
+use Rattle.std.proofs.Common.{ℕ, ◌+◌, ◌≤◌, min, Some, None, ◌≡◌, refl, ◌∙◌, List, cond, arith, leb, length, ne_eqb, le-leb}
 use Rattle.search.specs.Search.{thing}
 use Rattle.search.proofs.Thing.{thing_none, thing_some}
 use Rattle.search.proofs.Truth.{eqb_swap}

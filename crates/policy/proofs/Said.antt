@@ -1,10 +1,5 @@
 -- What the lines of a file say, by the line that says it. Assumes nothing.
-use Prim.Native.Nat.{ℕ, zero, suc, ◌+◌, ◌≤◌}
-use mathlib.Core.Path.{◌≡◌, refl, ap}
-use mathlib.Core.Logic.{◌↔◌}
-use mathlib.Core.List.{List}
-use mathlib.Core.Bool.{Bool, true, false}
-use native.Mathlib.Omega.{arith}
+use Rattle.std.proofs.Common.{ℕ, zero, suc, ◌+◌, ◌≤◌, ◌≡◌, refl, ap, ◌↔◌, List, Bool, true, false, arith}
 use Rattle.search.specs.Search.{Among}
 use Rattle.search.proofs.Truth.{eqb_iff, and_both, either_by}
 use Rattle.search.proofs.Found.{some_iff, not_last}

@@ -1,11 +1,6 @@
 -- A load's outcome is one state: every byte below 65,536 is of a count, of a table or unused, and `Image` says each of these. Assumes nothing.
-use Prim.Native.Nat.{ℕ, ◌+◌, ◌-◌, ◌*◌, ◌/◌, ◌%◌, ◌≤◌, ◌<◌}
-use mathlib.Core.Path.{◌≡◌, refl, sym, ap, subst, ◌∙◌}
-use mathlib.Core.List.{List}
-use native.Mathlib.Omega.{arith}
+use Rattle.std.proofs.Common.{ℕ, ◌+◌, ◌-◌, ◌*◌, ◌/◌, ◌%◌, ◌≤◌, ◌<◌, ◌≡◌, refl, sym, ap, subst, ◌∙◌, List, arith, get_or, ext_get_or}
 use native.Mathlib.Decide.{dec_lt, ℕ_discrete}
-use lib.ListN.{get_or}
-use lib.Seq.{ext_get_or}
 use Rattle.search.specs.Search.{Among}
 use Rattle.roleset.specs.Row.{AllBytes, row_of}
 use Rattle.roleset.proofs.Rows.{same_row}

@@ -1,11 +1,7 @@
 -- What makes a flow, and that shared writing goes both ways: two roles that may write one card are a circle of two, a role that may write and its senior among them. Assumes nothing.
-use Prim.Native.Nat.{ℕ}
-use mathlib.Core.Path.{◌≡◌, sym, ap}
+use Rattle.std.proofs.Common.{ℕ, ◌≡◌, sym, ap, ◌↔◌, ◌⊎◌, inl, inr, ⊎_elim, true, not, ◌||◌, eqb, eqb-true, eq-eqb}
 use mathlib.Core.Logic.Iff
-use mathlib.Core.Logic.{◌↔◌, ◌⊎◌, inl, inr, ⊎_elim}
-use mathlib.Core.Bool.{true, not, ◌||◌}
-use lib.Dec.{eqb}
-use borrow.Author.Tests.{eqb-true, eq-eqb, not-false}
+use borrow.Author.Tests.{not-false}
 use Rattle.search.specs.Search.{Among}
 use Rattle.search.proofs.Truth.{or_iff, and_both, other_iff}
 use Rattle.search.proofs.Found.{some_both}

@@ -1,5 +1,5 @@
 -- The verdict of a load that answers with an error. Assumes nothing.
-use native.Mathlib.Omega.{arith}
+use Rattle.std.proofs.Common.{arith}
 use Rattle.rolefile.proofs.Verdicts.{Refuses}
 use Rattle.rolefile.proofs.Told as form
 use Rattle.policy.specs.declared.Refusal.{Refusal}

@@ -37,7 +37,9 @@ fn some_serves(dominance: &Dominance, clearance: u64, reads: u64, writes: u64) -
     order::bounds::meet(lower, above, below)
 }
 
-// 14 to 16 for user u and role r.
+// 14 to 16 for a user and a role. The levels are compared as the bytes that are kept, which is how
+// `tables` reads them.
+#[tactic(auto, unfolding(crate::specs::inner::Filling::assign_by_tables))]
 fn assign(s: &State, dominance: &Dominance, user: usize, role: usize) -> Result<(), Refusal>
     requires { Among 256 user × Among 128 role }
     ensures { told verdict_of result ≡ assign_by_tables s.now dominance.now.under dominance.now.over user role }

@@ -32,6 +32,7 @@ pub fn roles(s: &[u8]) -> usize
 }
 
 // The role's byte of a table of levels.
+#[tactic(auto, using(search::proofs::Truth::one_of))]
 fn level(s: &[u8], table: ByteTable, role: usize) -> u8
     ensures { result ≡ cond (is_state s.now && among table.size role) (byte_of s.now table.at role) 0 }
 {
@@ -51,7 +52,7 @@ pub fn r_level(s: &[u8], role: usize) -> u8
     level(s, table::R_LEVELS, role)
 }
 
-// The w-level of a role, in the same way.
+// The w-level of a role, in the same way. Both are public names, and `level` is what they share.
 pub fn w_level(s: &[u8], role: usize) -> u8
     ensures { result ≡ level_in s.now w_levels_at role }
 {
@@ -97,7 +98,8 @@ fn readers_or_writers(s: &State, o: usize) -> [u8; ROW_BYTES]
     either
 }
 
-// Relates each role that may write card o + 1 to each role that may read or write it.
+// Relates each role that may write card o + 1 to each role that may read or write it. It goes from
+// one writer to the next, where a `for` would ask for each of the 128 roles.
 fn flow_past(t: &mut [u8; TABLE_BYTES], s: &State, o: usize)
     requires { o < 512 }
     ensures { Tabled 0 128 (past_card t.old s.now (o + 1)) t.old t.new }

@@ -25,6 +25,7 @@ pub struct Gathered {
 }
 
 // Joins the readers and the writers of card o + 1 into the rows of its label.
+#[tactic(auto, using(search::proofs::Truth::one_of))]
 fn gather_one(g: &mut Gathered, s: &State, o: usize)
     requires { o < 512 }
     ensures readers { Unites 0 32 (λ l r. brings s.now readers_at l r (o + 1)) g.old.readers g.new.readers }

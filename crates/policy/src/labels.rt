@@ -8,13 +8,15 @@ use super::layout::State;
 use super::table::ByteTable;
 use rolefile::read;
 
-// The byte of a thing without a label.
+// The byte of a thing without a label. It and the next are bytes, and no enum, since the tables are
+// the state's format (docs/LAYOUT.md).
 const NONE: u8 = 0;
 
 // The byte of a thing with several labels.
 const SEVERAL: u8 = 255;
 
 // The byte for a label where `old` was there before: `SEVERAL` where it is the second.
+#[tactic(auto, unfolding(crate::specs::inner::Filling::noted))]
 fn noted(old: u8, label: usize) -> u8
     ensures { result ≡ noted old label }
 {

@@ -28,6 +28,7 @@ pub struct Dominance<'a> {
 }
 
 // Marks a over b in the table, if both are labels.
+#[tactic(auto, using(search::proofs::Truth::one_of))]
 fn add_pair(t: &mut Table, a: usize, b: usize)
     ensures { WithPair a b t.old t.new }
 {

@@ -21,6 +21,7 @@ pub fn word(s: &[u8], at: u16) -> u64
 }
 
 // Whether label a dominates label b.
+#[tactic(auto, using(search::proofs::Truth::one_of))]
 pub fn dominates(s: &[u8], a: u64, b: u64) -> bool
     ensures { result ≡ marked s.now a b }
 {

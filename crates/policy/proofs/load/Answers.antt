@@ -1,8 +1,5 @@
 -- Too short a state, a refusal of the check, or the copied image.
-use mathlib.Core.Path.{◌≡◌, refl, sym, ◌∙◌}
-use lib.ListN.{length}
-use lib.Seq.{length-take-le}
-use borrow.Author.Rules.{rules}
+use Rattle.std.proofs.Common.{◌≡◌, refl, sym, ◌∙◌, length, length-take-le, rules}
 use Rattle.std.proofs.lemmas.Result.{err_from_is_err_and}
 use Rattle.policy.proofs.Told.{refusal_refuses}
 use Rattle.policy.proofs.Loads.{scratch_zeros, load_short, load_refused, load_done, copied_front}

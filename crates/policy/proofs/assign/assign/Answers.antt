@@ -1,6 +1,5 @@
 -- The three tests in turn.
-use mathlib.Core.Path.{◌≡◌, refl}
-use borrow.Author.Tests.{eq-eqb, ne_eqb}
+use Rattle.std.proofs.Common.{◌≡◌, refl, ne_eqb}
 use Rattle.search.proofs.Truth.{passed, failed}
 use Rattle.policy.specs.Tables.{byte_of, passes_in, clearances_at, r_levels_at, w_levels_at}
 use Rattle.policy.specs.inner.Filling.{some_serves, assign_by_tables}
@@ -17,10 +16,6 @@ serving : (c : After-some_serves) → let a = c.args in
     ≡ some_serves a.dominance.now.under a.dominance.now.over (byte_of a.s.now clearances_at a.user) (byte_of a.s.now r_levels_at a.role) (byte_of a.s.now w_levels_at a.role)
 serving c = c.some_serves.ensures
 
-pub returns-then-writes : goal.returns-then-writes
-unfolding assign_by_tables
-returns-then-writes c = rw (eq-eqb _ _ c.if-writes.true) refl
-
 pub returns-then-not-passes : goal.returns-then-not-passes
 unfolding assign_by_tables
 returns-then-not-passes c =
@@ -33,13 +28,4 @@ returns-then-not-some_serves c =
       ne_eqb _ _ c.if-writes.false,
       passed (reading (goal.at.returns-then-not-some_serves c).After-passes) c.if-not-passes.false,
       failed (serving (goal.at.returns-then-not-some_serves c).After-some_serves) c.if-not-some_serves.true,
-    ) refl
-
-pub returns : goal.returns
-unfolding assign_by_tables
-returns c =
-    rw (
-      ne_eqb _ _ c.if-writes.false,
-      passed (reading (goal.at.returns c).After-passes) c.if-not-passes.false,
-      passed (serving (goal.at.returns c).After-some_serves) c.if-not-some_serves.false,
     ) refl

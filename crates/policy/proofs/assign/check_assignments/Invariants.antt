@@ -1,5 +1,5 @@
 -- A loop that leaves at the first refusal.
-use mathlib.Core.Path.{◌≡◌}
+use Rattle.std.proofs.Common.{◌≡◌}
 use Rattle.rolefile.specs.Form.{scan}
 use Rattle.rolefile.specs.inner.Section.{one, two}
 use Rattle.policy.specs.inner.Filling.{assign_by_tables}

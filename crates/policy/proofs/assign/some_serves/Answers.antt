@@ -1,6 +1,5 @@
 -- The three rows meet in the labels that serve.
-use mathlib.Core.Path.{◌≡◌, ◌∙◌}
-use mathlib.Core.Bool.{◌&&◌}
+use Rattle.std.proofs.Common.{◌≡◌, ◌∙◌, ◌&&◌}
 use Rattle.search.specs.Search.{some}
 use Rattle.search.proofs.Found.{some_agree}
 use Rattle.order.specs.inner.Members.{holds}

@@ -1,10 +1,5 @@
 -- Stage after stage: a stage that refuses decides the file, and where none does the tables are the file's.
-use Prim.Native.Nat.{ℕ, ◌≤◌, min}
-use mathlib.Core.Path.{◌≡◌, refl, sym, ap, ◌∙◌}
-use mathlib.Core.List.{List}
-use mathlib.Core.Bool.{Bool, ◌&&◌}
-use native.Mathlib.Omega.{arith}
-use lib.Dec.{leb}
+use Rattle.std.proofs.Common.{Result, IsErrAnd, ℕ, ◌≤◌, min, ◌≡◌, refl, sym, ap, ◌∙◌, List, Bool, ◌&&◌, leb}
 use Rattle.std.proofs.lemmas.Result.{err_from_is_err_and}
 use Rattle.order.specs.Bound.{converse}
 use Rattle.order.specs.Closure.{Agree, with_itself}
@@ -14,16 +9,20 @@ use Rattle.rolefile.specs.declared.Verdict.{Verdict}
 use Rattle.rolefile.specs.Line.{lines}
 use Rattle.rolefile.specs.Form.{fine, scan}
 use Rattle.rolefile.specs.Said.{labels}
-use Rattle.rolefile.proofs.Told as form
+use Rattle.rolefile.proofs.Verdicts.{Refuses}
+use Rattle.rolefile.specs.Refusal.{told}
+use Rattle.policy.specs.declared.Refusal.{Refusal}
+use Rattle.policy.specs.declared.Refusal.TheVariants.{Form}
+use Rattle.policy.specs.Refusal.{verdict_of}
 use Rattle.policy.specs.declared.file.File.{File}
 use Rattle.policy.specs.Verdict.{order_verdict, label_verdict, assignment_verdict, verdict}
-use Rattle.policy.specs.inner.Stages.{Paths, Closed}
+use Rattle.policy.specs.inner.Stages.{Paths, Closed, Built}
 use Rattle.policy.proofs.Told.{refusal_refuses}
 use Rattle.policy.proofs.Readying.{counts_of, head_labels}
 use Rattle.policy.proofs.Dominance.{closed_of, closed_rows, closed_agree, order_verdict_is}
 use Rattle.policy.proofs.Builds.{refused_lines, refused_labels, refused_order, refused_roles, the_last, built_refused}
-use Rattle.policy.proofs.Builds.{Ranked, ranked_of, level_zeros, row_zeros, third_labelled, third_zeros, image}
-use Rattle.policy.proofs.build.build.Goals.{In_ok-rank_roles}
+use Rattle.policy.proofs.Builds.{Ranked, ranked_of, level_zeros, row_zeros, third_labelled, image}
+use Rattle.policy.proofs.build.build.Goals.{After-rank_roles, In_ok-rank_roles}
 use Rattle.policy.proofs.build.build.Goals as goal
 
 -- ---- what the stages give
@@ -72,9 +71,6 @@ invariant_of-dominance c =
       upper = upper file t down p e c.columns.result c.columns.ensures;
     }
 
-pub rank_roles-requires : goal.rank_roles-requires
-rank_roles-requires c i l m = c.in_ok-note_labels.ensures.rest i (λ k. omega arith) ∙ c.requires i (omega arith) (omega arith)
-
 pub grant_all-requires : goal.grant_all-requires
 grant_all-requires c =
     let s = stands (goal.at.grant_all-requires c).In_ok-rank_roles in
@@ -86,65 +82,55 @@ check_assignments-requires c =
     let granting = c.grant_all.ensures in
     (third_labelled s granting, granting.dominating, granting.levelled)
 
-pub finish-requires : goal.finish-requires
-finish-requires c = third_zeros (stands (goal.at.finish-requires c).In_ok-rank_roles) c.grant_all.ensures
-
 -- ---- what is answered
 
+-- a stage that refuses decides the file g, which is f
+refused_by : {f g ys : List ℕ} {w : Verdict} (r : Result (Unit {0}) Refusal) (e : Refusal) → g ≡ f → IsErrAnd r (λ x. x ≡ e)
+    → verdict_of e ≡ w → (Refuses w → w ≡ verdict g) → Built f (told verdict_of r) ys
+refused_by r e same h v decides =
+    let p = err_from_is_err_and r h in
+    let refuses = refusal_refuses e in
+    rw (p.1, p.2) (built_refused _ _ _ (v ∙ decides (rw v at refuses) ∙ ap verdict same) refuses)
+
 pub returns-in_err-file : goal.returns-in_err-file
-returns-in_err-file c =
-    let p = err_from_is_err_and c.from_residual.result c.from_residual.ensures.1 in
-    let refuses = form.refusal_refuses c.in_err-file.field-0.0 in
-    let v = c.in_err-file.ensures.told in
-    rw (p.1, p.2) (built_refused _ _ _ (v ∙ refused_lines _ (rw v at refuses)) refuses)
+returns-in_err-file c = refused_by c.from_residual.result (Form c.in_err-file.field-0.0) refl c.from_residual.ensures.1 c.in_err-file.ensures.told (refused_lines _)
 
 pub returns-in_err-note_labels : goal.returns-in_err-note_labels
 returns-in_err-note_labels c =
-    let p = err_from_is_err_and c.from_residual-in_err-note_labels.result c.from_residual-in_err-note_labels.ensures.1 in
-    let refuses = refusal_refuses c.in_err-note_labels.field-0.0 in
-    let v = c.in_err-note_labels.ensures.answer in
-    let first = c.in_ok-file.file.ready.lines in
-    rw (p.1, p.2) (built_refused _ _ _ (v ∙ refused_labels _ first (rw v at refuses) ∙ ap verdict c.in_ok-file.ensures.same) refuses)
+    refused_by c.from_residual-in_err-note_labels.result c.in_err-note_labels.field-0.0 c.in_ok-file.ensures.same c.from_residual-in_err-note_labels.ensures.1
+    c.in_err-note_labels.ensures.answer (refused_labels _ c.in_ok-file.file.ready.lines)
 
 pub returns-in_err-check_labels : goal.returns-in_err-check_labels
 returns-in_err-check_labels c =
-    let p = err_from_is_err_and c.from_residual-in_err-check_labels.result c.from_residual-in_err-check_labels.ensures.1 in
-    let refuses = refusal_refuses c.in_err-check_labels.field-0.0 in
     let v = c.in_err-check_labels.ensures ∙ order_is c.in_ok-file.file _ _ c.paths_of-paths.ensures c.reflected-down.ensures in
-    let first = c.in_ok-file.file.ready.lines in
-    let second = passes c.in_ok-note_labels.ensures.answer in
-    rw (p.1, p.2) (built_refused _ _ _ (v ∙ refused_order _ first second (rw v at refuses) ∙ ap verdict c.in_ok-file.ensures.same) refuses)
+    refused_by c.from_residual-in_err-check_labels.result c.in_err-check_labels.field-0.0 c.in_ok-file.ensures.same c.from_residual-in_err-check_labels.ensures.1
+    v (refused_order _ c.in_ok-file.file.ready.lines (passes c.in_ok-note_labels.ensures.answer))
+
+-- what the labels' order comes to where the roles are ranked
+ordered : (c : After-rank_roles) → (label_verdict c.in_ok-file.file.bytes.now).number ≡ 0
+ordered c = passes (c.in_ok-check_labels.ensures ∙ order_is c.in_ok-file.file _ _ c.paths_of-paths.ensures c.reflected-down.ensures)
 
 pub returns-in_err-rank_roles : goal.returns-in_err-rank_roles
 returns-in_err-rank_roles c =
-    let p = err_from_is_err_and c.from_residual-in_err-rank_roles.result c.from_residual-in_err-rank_roles.ensures.1 in
-    let refuses = refusal_refuses c.in_err-rank_roles.field-0.0 in
-    let v = c.in_err-rank_roles.ensures.answer in
-    let first = c.in_ok-file.file.ready.lines in
-    let second = passes c.in_ok-note_labels.ensures.answer in
-    let third = passes (c.in_ok-check_labels.ensures ∙ order_is c.in_ok-file.file _ _ c.paths_of-paths.ensures c.reflected-down.ensures) in
-    rw (p.1, p.2) (built_refused _ _ _ (v ∙ refused_roles _ first second third (rw v at refuses) ∙ ap verdict c.in_ok-file.ensures.same) refuses)
+    let third = ordered (goal.at.returns-in_err-rank_roles c).After-rank_roles in
+    refused_by c.from_residual-in_err-rank_roles.result c.in_err-rank_roles.field-0.0 c.in_ok-file.ensures.same c.from_residual-in_err-rank_roles.ensures.1
+    c.in_err-rank_roles.ensures.answer (refused_roles _ c.in_ok-file.file.ready.lines (passes c.in_ok-note_labels.ensures.answer) third)
 
 -- the last stage decides
-last : (c : In_ok-rank_roles) → let f = c.in_ok-file.file.bytes.now in scan (lines f) (assignment_verdict f) ≡ verdict c.args.f.now
+last : (c : In_ok-rank_roles) → let f = c.in_ok-file.file.bytes.now in scan (lines f) (assignment_verdict f) ≡ verdict f
 last c =
-    let first = c.in_ok-file.file.ready.lines in
-    let second = passes c.in_ok-note_labels.ensures.answer in
-    let third = passes (c.in_ok-check_labels.ensures ∙ order_is c.in_ok-file.file _ _ c.paths_of-paths.ensures c.reflected-down.ensures) in
-    let fourth = passes c.in_ok-rank_roles.ensures.answer in
-    the_last _ first second third fourth ∙ ap verdict c.in_ok-file.ensures.same
+    the_last _ c.in_ok-file.file.ready.lines (passes c.in_ok-note_labels.ensures.answer)
+    (ordered (goal.at.In_ok-rank_roles c).After-rank_roles) (passes c.in_ok-rank_roles.ensures.answer)
 
 pub returns-in_err-check_assignments : goal.returns-in_err-check_assignments
 returns-in_err-check_assignments c =
-    let p = err_from_is_err_and c.from_residual-in_err-check_assignments.result c.from_residual-in_err-check_assignments.ensures.1 in
-    let refuses = refusal_refuses c.in_err-check_assignments.field-0.0 in
-    rw (p.1, p.2)
-    (built_refused _ _ _ (c.in_err-check_assignments.ensures ∙ last (goal.at.returns-in_err-check_assignments c).In_ok-rank_roles) refuses)
+    refused_by c.from_residual-in_err-check_assignments.result c.in_err-check_assignments.field-0.0 c.in_ok-file.ensures.same c.from_residual-in_err-check_assignments.ensures.1
+    c.in_err-check_assignments.ensures (λ h. last (goal.at.returns-in_err-check_assignments c).In_ok-rank_roles)
 
 pub returns : goal.returns
 returns c =
     let s = stands (goal.at.returns c).In_ok-rank_roles in
     record {
-      answer = c.in_ok-check_assignments.ensures ∙ last (goal.at.returns c).In_ok-rank_roles;
+      answer = c.in_ok-check_assignments.ensures ∙ last (goal.at.returns c).In_ok-rank_roles ∙ ap verdict c.in_ok-file.ensures.same;
       done = λ z. rw c.in_ok-file.ensures.same at (image s c.grant_all.ensures c.finish.ensures);
     }

@@ -1,5 +1,5 @@
 -- The A lines fill the rows, and the counts are put.
-use borrow.Author.Rules.{rules}
+use Rattle.std.proofs.Common.{rules}
 use Rattle.policy.proofs.Relating.{related_as, turned_same}
 use Rattle.policy.proofs.Finishes.{finished}
 use Rattle.policy.proofs.build.finish.Goals as goal

@@ -1,11 +1,5 @@
 -- Two bytes, the lower first.
-use Prim.Native.Nat.{ℕ, ◌+◌, ◌/◌, ◌%◌, ◌≤◌, ◌<◌}
-use mathlib.Core.Path.{◌≡◌, refl}
-use mathlib.Core.List.{List}
-use native.Mathlib.Omega.{arith}
-use borrow.Author.Rules.{rules}
-use lib.ListN.{length, set, length-set}
-use lib.Seq.{get_or-set_same, get_or-set_other}
+use Rattle.std.proofs.Common.{ℕ, ◌+◌, ◌/◌, ◌%◌, ◌≤◌, ◌<◌, ◌≡◌, refl, List, arith, rules, length, set, length-set, get_or-set_same, get_or-set_other}
 use Rattle.roleset.specs.Row.{Kept}
 use Rattle.roleset.proofs.Rows.{kept_more}
 use Rattle.policy.specs.Tables.{word}

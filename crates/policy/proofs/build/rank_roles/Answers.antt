@@ -1,5 +1,5 @@
 -- The S lines fill the rows, which are closed; a circle is refused.
-use borrow.Author.Rules.{rules}
+use Rattle.std.proofs.Common.{rules}
 use Rattle.policy.proofs.Relating.{related_as, turned_back}
 use Rattle.policy.proofs.Ranks.{Pathed, pathed_of, ranked_refused, ranked}
 use Rattle.policy.proofs.build.rank_roles.Goals.{After-paths}

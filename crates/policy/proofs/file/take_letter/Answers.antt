@@ -1,5 +1,5 @@
 -- As many lines are taken as lead with the letter.
-use mathlib.Core.Path.{◌≡◌}
+use Rattle.std.proofs.Common.{◌≡◌}
 use Rattle.rolefile.specs.Line.{lines}
 use Rattle.policy.proofs.Fronts.{front_lines}
 use Rattle.policy.proofs.file.take_letter.Goals as goal

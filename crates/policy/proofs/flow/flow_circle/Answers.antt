@@ -1,11 +1,6 @@
 -- The table has the flow, and then its paths; the lowest role with a path to itself is on a circle.
-use Prim.Native.Nat.{◌≤◌, min}
-use mathlib.Core.Path.{◌≡◌, ap, ◌∙◌}
-use native.Mathlib.Omega.{arith}
+use Rattle.std.proofs.Common.{◌≤◌, min, ◌≡◌, ap, ◌∙◌, arith, rules, leb, length}
 use native.Mathlib.Decide.{dec_lt}
-use borrow.Author.Rules.{rules}
-use lib.Dec.{leb}
-use lib.ListN.{length}
 use Rattle.order.specs.Table.{related}
 use Rattle.search.specs.Search.{thing}
 use Rattle.policy.specs.Tables.{roles_up_to, cards_up_to}

@@ -1,9 +1,5 @@
 -- Each turn gives the next writer's row those who may read or write the card, and the rows before it are no writer's; both sets were taken before the first.
-use Prim.Native.Nat.{ℕ, ◌+◌, ◌*◌}
-use mathlib.Core.Path.{◌≡◌, refl, sym}
-use mathlib.Core.Bool.{cond}
-use native.Mathlib.Omega.{arith}
-use borrow.Author.Rules.{rules}
+use Rattle.std.proofs.Common.{ℕ, ◌+◌, ◌*◌, ◌≡◌, refl, sym, cond, arith, rules}
 use Rattle.search.proofs.Thing.{thing_none, thing_some}
 use Rattle.roleset.specs.Row.{whole, next_member}
 use Rattle.policy.specs.Tables.{writers_at}

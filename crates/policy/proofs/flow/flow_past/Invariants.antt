@@ -1,7 +1,5 @@
 -- Each turn gives the next writer's row those who may read or write the card, and the rows before it are no writer's; both sets were taken before the first.
-use Prim.Native.Nat.{◌+◌, ◌≤◌, ◌-◌}
-use mathlib.Core.Path.{◌≡◌}
-use lib.ListN.{length}
+use Rattle.std.proofs.Common.{◌+◌, ◌≤◌, ◌-◌, ◌≡◌, length}
 use Rattle.order.specs.Table.{Tabled}
 use Rattle.policy.specs.inner.Filling.{past_card}
 use Rattle.policy.proofs.flow.flow_past.Given as goal

@@ -1,7 +1,5 @@
 -- Each turn relates by one card more.
-use mathlib.Core.Path.{sym, ◌∙◌}
-use native.Mathlib.Omega.{arith}
-use borrow.Author.Rules.{rules}
+use Rattle.std.proofs.Common.{sym, ◌∙◌, arith, rules}
 use Rattle.roleset.specs.Row.{row_of}
 use Rattle.search.proofs.Found.{some_more, some_yet}
 use Rattle.roleset.proofs.Rows.{zero_rows}

@@ -1,7 +1,5 @@
 -- A search among the first cards, for two roles that differ.
-use mathlib.Core.Path.{◌≡◌, ◌∙◌}
-use mathlib.Core.Bool.{true, false}
-use native.Mathlib.Omega.{arith}
+use Rattle.std.proofs.Common.{◌≡◌, ◌∙◌, true, false, arith}
 use Rattle.search.specs.Search.{some}
 use Rattle.search.proofs.Found.{some_found, some_still, some_vain, some_yet}
 use Rattle.policy.specs.Tables.{flows_in, flowing, cards_up_to, flows_by_card}

@@ -1,6 +1,5 @@
 -- A search among the first cards, for two roles that differ.
-use mathlib.Core.Path.{◌≡◌}
-use mathlib.Core.Bool.{false}
+use Rattle.std.proofs.Common.{◌≡◌, false}
 use Rattle.search.specs.Search.{some}
 use Rattle.policy.specs.Tables.{flows_by_card}
 use Rattle.policy.proofs.flow.flows.Given as goal

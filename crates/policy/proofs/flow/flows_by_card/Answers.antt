@@ -1,5 +1,5 @@
 -- The rows lie in the state.
-use borrow.Author.Rules.{rules}
+use Rattle.std.proofs.Common.{rules}
 use Rattle.order.proofs.Placing.{row_tested}
 use Rattle.policy.specs.Tables.{readers_at, writers_at}
 use Rattle.policy.proofs.flow.flows_by_card.Goals as goal

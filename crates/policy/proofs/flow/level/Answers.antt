@@ -1,6 +1,6 @@
 -- Nothing of a slice that is too short, nor of a number that is no role's.
-use mathlib.Core.Bool.{◌&&◌, and-false}
-use native.Mathlib.Omega.{arith}
+use Rattle.std.proofs.Common.{◌&&◌, arith}
+use mathlib.Core.Bool.{and-false}
 use Rattle.search.specs.Search.{among, Among}
 use Rattle.search.proofs.Truth.{passed, failed, one_of, answered, refused}
 use Rattle.policy.specs.Tables.{is_state}
@@ -26,12 +26,6 @@ returns c =
     let w = known (goal.at.returns c).Else-not-among in
     answered {b = is_state a.s.now && among a.table.size a.role} (rw (a_state a.s.now chunk.enough, passed c.among.ensures c.if-not-among.false))
     (front_byte a.s.now c.in-Some.s.now chunk.same _ (omega (arith, w, a.table.inside)))
-
-pub overflow_sub-result : goal.overflow_sub-result
-overflow_sub-result c = omega (arith, known (goal.at.overflow_sub-result c).Else-not-among)
-
-pub overflow_add-result : goal.overflow_add-result
-overflow_add-result c = omega (arith, known (goal.at.overflow_add-result c).Else-not-among, c.args.table.inside)
 
 pub bounds-s-table : goal.bounds-s-table
 bounds-s-table c = omega (arith, known (goal.at.bounds-s-table c).Else-not-among, c.args.table.inside)

@@ -1,5 +1,5 @@
 -- Both rows lie in the state, and the writers are put into the readers' row.
-use borrow.Author.Rules.{rules}
+use Rattle.std.proofs.Common.{rules}
 use Rattle.policy.proofs.Flowing.{either_row}
 use Rattle.policy.proofs.flow.readers_or_writers.Goals as goal
 

@@ -1,6 +1,5 @@
 -- Each turn takes one role more out of its own row.
-use borrow.Author.Rules.{rules}
-use Rattle.order.proofs.Placing.{placing_none}
+use Rattle.std.proofs.Common.{rules}
 use Rattle.policy.specs.inner.Filling.{without_loops}
 use Rattle.policy.proofs.Flowing.{row_more, loop_removed}
 use Rattle.policy.proofs.flow.remove_itself.Goals as goal
@@ -11,6 +10,3 @@ loop-i-preserved c =
     let w = c.loop-i in
     row_more (without_loops t) t w.t w.i (search rules) (search rules) (search rules) w.invariant _ _ c.remove.ensures
     (λ q v. loop_removed t w.t w.i q (search rules) (search rules) (search rules) v w.invariant)
-
-pub loop-i-init : goal.loop-i-init
-loop-i-init c = placing_none

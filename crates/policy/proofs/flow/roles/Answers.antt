@@ -1,5 +1,5 @@
 -- None of a slice that is too short, and else the state's.
-use native.Mathlib.Omega.{arith}
+use Rattle.std.proofs.Common.{arith}
 use Rattle.search.proofs.Truth.{answered, refused}
 use Rattle.policy.specs.Tables.{role_count_at}
 use Rattle.policy.proofs.Flowing.{no_state, a_state, front_up_to}

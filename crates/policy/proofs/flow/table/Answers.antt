@@ -1,7 +1,5 @@
 -- The roles that may write a card, each with those that may read or write it, and then without itself.
-use mathlib.Core.Path.{◌∙◌}
-use native.Mathlib.Omega.{arith}
-use borrow.Author.Rules.{rules}
+use Rattle.std.proofs.Common.{◌∙◌, arith, rules}
 use Rattle.roleset.specs.Row.{row_of}
 use Rattle.roleset.proofs.Rows.{zero_rows}
 use Rattle.policy.specs.Tables.{cards_up_to}
@@ -10,9 +8,6 @@ use Rattle.policy.proofs.flow.table.Goals as goal
 
 pub returns-in_default : goal.returns-in_default
 returns-in_default c r q u v = rw (no_state c.args.s.now c.in_default.ensures.cases) (zero_rows 2048 (row_of 0 r) q (omega arith))
-
-pub flow_table-t-requires : goal.flow_table-t-requires
-flow_table-t-requires c = omega (arith, c.count.ensures)
 
 pub returns : goal.returns
 returns c r q u v =

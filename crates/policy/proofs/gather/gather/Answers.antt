@@ -1,5 +1,5 @@
 -- Each card adds its own.
-use mathlib.Core.Path.{◌∙◌}
+use Rattle.std.proofs.Common.{◌∙◌}
 use Rattle.policy.proofs.Gathering.{gathered_more, gathered_none}
 use Rattle.policy.proofs.gather.gather.Goals as goal
 

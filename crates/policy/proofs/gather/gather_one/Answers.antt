@@ -1,9 +1,5 @@
 -- A card without a label brings nothing; else its rows are united with its label's.
-use lib.ListN.{get_or}
-use Prim.Native.Nat.{◌+◌}
-use mathlib.Core.Path.{refl}
-use native.Mathlib.Omega.{arith}
-use borrow.Author.Rules.{rules}
+use Rattle.std.proofs.Common.{get_or, ◌+◌, refl, arith, rules}
 use Rattle.search.specs.Search.{Among}
 use Rattle.search.proofs.Truth.{one_of, none_of}
 use Rattle.policy.specs.Tables.{readers_at, writers_at}
@@ -31,9 +27,3 @@ returns c =
       readers = brings_row a.s.now a.o _ refl readers_at a.g.now.readers _ c.row-readers.result w (search rules) (omega arith) c.row-readers.ensures c.unite.ensures;
       writers = brings_row a.s.now a.o _ refl writers_at a.g.now.writers _ c.row-writers.result w (search rules) (omega arith) c.row-writers.ensures c.unite-2.ensures;
     }
-
-pub overflow_sub-row : goal.overflow_sub-row
-overflow_sub-row c = omega (arith, known (goal.at.overflow_sub-row c).Else-not-among)
-
-pub overflow_mul-row : goal.overflow_mul-row
-overflow_mul-row c = omega (arith, known (goal.at.overflow_mul-row c).Else-not-among)

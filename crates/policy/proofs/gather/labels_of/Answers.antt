@@ -1,9 +1,5 @@
 -- Each turn puts in one label more, where its row has the role.
-use Prim.Native.Nat.{◌*◌}
-use mathlib.Core.Path.{◌≡◌, ◌∙◌}
-use borrow.Author.Tests.{le-leb}
-use native.Mathlib.Omega.{arith}
-use native.Mathlib.Nat.{zero-add}
+use Rattle.std.proofs.Common.{◌*◌, ◌≡◌, ◌∙◌, le-leb, arith, zero-add}
 use Rattle.order.proofs.Placing.{row_tested}
 use Rattle.order.proofs.Stored.{put_none, put_more}
 use Rattle.order.specs.Table.{related}

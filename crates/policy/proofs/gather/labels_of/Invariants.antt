@@ -1,8 +1,5 @@
 -- Each turn puts in one label more, where its row has the role.
-use Prim.Native.Nat.{ℕ}
-use mathlib.Core.Path.{◌≡◌}
-use mathlib.Core.Bool.{◌&&◌}
-use lib.Dec.{leb}
+use Rattle.std.proofs.Common.{ℕ, ◌≡◌, ◌&&◌, leb}
 use Rattle.search.specs.Search.{Among}
 use Rattle.order.specs.Table.{related}
 use Rattle.order.specs.inner.Members.{holds}

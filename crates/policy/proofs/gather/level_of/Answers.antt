@@ -1,12 +1,7 @@
 -- Free where the set is empty, undefined where there is no bound, and else the bound.
-use Prim.Native.Nat.{ℕ, ◌-◌, ◌≤◌}
-use mathlib.Core.List.{List}
-use Rattle.std.proofs.Common.{Some}
-use mathlib.Core.Path.{◌≡◌, sym, ap, ◌∙◌}
-use mathlib.Core.Bool.{◌&&◌, and_comm}
-use native.Mathlib.Omega.{arith}
+use Rattle.std.proofs.Common.{ℕ, ◌-◌, ◌≤◌, List, Some, ◌≡◌, sym, ap, ◌∙◌, ◌&&◌, arith, leb}
+use mathlib.Core.Bool.{and_comm}
 use lib.Bits.{bit_and}
-use lib.Dec.{leb}
 use Rattle.search.specs.Search.{Among, some, thing}
 use Rattle.search.proofs.Thing.{thing_some}
 use Rattle.search.proofs.Truth.{passed, failed}

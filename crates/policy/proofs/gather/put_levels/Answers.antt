@@ -1,8 +1,5 @@
 -- Each turn stores both levels of one role more.
-use Prim.Native.Nat.{ℕ, ◌+◌, ◌≤◌}
-use mathlib.Core.Path.{◌≡◌, refl, ap, ◌∙◌}
-use mathlib.Core.List.{List}
-use native.Mathlib.Omega.{arith}
+use Rattle.std.proofs.Common.{ℕ, ◌+◌, ◌≤◌, ◌≡◌, refl, ap, ◌∙◌, List, arith}
 use Rattle.search.specs.Search.{Among}
 use Rattle.order.specs.Bound.{converse}
 use Rattle.order.specs.Table.{related}
@@ -10,7 +7,7 @@ use Rattle.order.specs.inner.Members.{holds, row_holds}
 use Rattle.policy.specs.declared.gather.Level as program
 use Rattle.policy.specs.Policy.{level, level_number}
 use Rattle.policy.specs.inner.Filling.{level_of}
-use Rattle.policy.proofs.Gathering.{level_agree, levels_none, levels_more}
+use Rattle.policy.proofs.Gathering.{level_agree, levels_more}
 use Rattle.policy.proofs.gather.put_levels.Goals as goal
 
 -- the byte of the level of the set that was read off is that of the rows
@@ -27,6 +24,3 @@ loop-i-preserved c =
     levels_more w.invariant (omega arith) (omega arith)
     (bounded a.g.now.readers a.dominance.now.over c.labels_of-reads.result a.dominance.now.file.now.counts.labels w.i _ c.into.ensures c.level_of.ensures (omega arith) c.labels_of-reads.ensures)
     (bounded a.g.now.writers a.dominance.now.under c.labels_of-writes.result a.dominance.now.file.now.counts.labels w.i _ c.into-in-loop-i.ensures c.level_of-in-loop-i.ensures (omega arith) c.labels_of-writes.ensures)
-
-pub loop-i-init : goal.loop-i-init
-loop-i-init c = levels_none

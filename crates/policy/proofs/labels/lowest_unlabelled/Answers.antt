@@ -1,6 +1,5 @@
 -- A search among the first n things.
-use native.Mathlib.Nat.{add-sub_cancel}
-use native.Mathlib.Omega.{arith}
+use Rattle.std.proofs.Common.{add-sub_cancel, arith}
 use Rattle.search.proofs.Found.{first_yet, first_more}
 use Rattle.search.proofs.Thing.{thing_found, thing_vain}
 use Rattle.policy.specs.inner.Filling.{unlabelled_in}

@@ -1,5 +1,5 @@
 -- A search among the first n things.
-use mathlib.Core.Path.{◌≡◌}
+use Rattle.std.proofs.Common.{◌≡◌}
 use Rattle.search.specs.Search.{first}
 use Rattle.policy.specs.inner.Filling.{unlabelled_in}
 use Rattle.policy.proofs.labels.lowest_unlabelled.Given as goal

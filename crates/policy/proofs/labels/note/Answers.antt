@@ -1,5 +1,5 @@
 -- One byte is stored, where x is one of the table's things.
-use native.Mathlib.Omega.{arith}
+use Rattle.std.proofs.Common.{arith}
 use Rattle.search.specs.Search.{Among}
 use Rattle.search.proofs.Truth.{one_of, none_of}
 use Rattle.policy.proofs.Noted.{note_none, note_one}

@@ -1,6 +1,5 @@
 -- One row is stored, with one mark more, where its thing is a label.
-use native.Mathlib.Omega.{arith}
-use borrow.Author.Rules.{rules}
+use Rattle.std.proofs.Common.{rules}
 use Rattle.search.specs.Search.{Among}
 use Rattle.search.proofs.Truth.{one_of, none_of}
 use Rattle.policy.proofs.Marked.{pair_none, pair_one}
@@ -19,18 +18,3 @@ pub returns : goal.returns
 returns c =
     let g = c.args in
     pair_one g.a g.b g.t.now c.with_mark.result (known (goal.at.returns c).Else-not-among) (search rules) c.with_mark.ensures
-
-pub overflow_sub-i : goal.overflow_sub-i
-overflow_sub-i c = omega (arith, known (goal.at.overflow_sub-i c).Else-not-among)
-
-pub offset_bounds-t-i : goal.offset_bounds-t-i
-offset_bounds-t-i c = omega (arith, known (goal.at.offset_bounds-t-i c).Else-not-among)
-
-pub bounds-t-i : goal.bounds-t-i
-bounds-t-i c = omega (arith, known (goal.at.bounds-t-i c).Else-not-among)
-
-pub offset_bounds-t-i-2 : goal.offset_bounds-t-i-2
-offset_bounds-t-i-2 c = omega (arith, known (goal.at.offset_bounds-t-i-2 c).Else-not-among)
-
-pub bounds-t-i-2 : goal.bounds-t-i-2
-bounds-t-i-2 c = omega (arith, known (goal.at.bounds-t-i-2 c).Else-not-among)

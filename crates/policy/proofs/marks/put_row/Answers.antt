@@ -1,7 +1,5 @@
 -- Each turn stores one byte more.
-use native.Mathlib.Nat.{add-sub_cancel}
-use native.Mathlib.Omega.{arith}
-use borrow.Author.Rules.{rules}
+use Rattle.std.proofs.Common.{add-sub_cancel, arith, rules}
 use Rattle.roleset.proofs.Rows.{write_none, write_more}
 use Rattle.policy.proofs.Noted.{all_stored}
 use Rattle.policy.proofs.marks.put_row.Invariants.{byte_at}

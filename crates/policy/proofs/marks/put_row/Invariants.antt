@@ -1,7 +1,5 @@
 -- Each turn stores one byte more.
-use Prim.Native.Nat.{ℕ, ◌+◌}
-use mathlib.Core.Bool.{Bool, cond}
-use mathlib.Core.List.{List}
+use Rattle.std.proofs.Common.{ℕ, ◌+◌, Bool, cond, List}
 use Rattle.roleset.proofs.Rows.{Written}
 use Rattle.order.specs.Table.{marks}
 use Rattle.policy.proofs.marks.put_row.Given as goal

@@ -1,5 +1,5 @@
 -- Numbers that are no role's, no card's or no mode's grant nothing; else one row is joined into one.
-use borrow.Author.Rules.{rules}
+use Rattle.std.proofs.Common.{rules}
 use Rattle.search.specs.Search.{Among}
 use Rattle.search.proofs.Truth.{one_of, none_of}
 use Rattle.policy.proofs.Relating.{no_role, no_card, no_mode, mode_among, granted}

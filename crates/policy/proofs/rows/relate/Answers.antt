@@ -1,6 +1,5 @@
 -- A number that is none of the table's relates nothing.
-use borrow.Author.Tests.{ne_eqb}
-use native.Mathlib.Omega.{arith}
+use Rattle.std.proofs.Common.{ne_eqb, arith}
 use Rattle.search.specs.Search.{Among}
 use Rattle.search.proofs.Truth.{one_of, none_of}
 use Rattle.policy.proofs.Relating.{related_none, related_one}

@@ -1,5 +1,5 @@
 -- The letters are taken in the order of the document's table.
-use mathlib.Core.Path.{refl, sym, ap}
+use Rattle.std.proofs.Common.{sym, ap}
 use Rattle.std.proofs.lemmas.Result.{err_from_is_err_and}
 use Rattle.rolefile.specs.declared.Line.{Line}
 use Rattle.rolefile.specs.declared.Verdict.{Verdict}
@@ -25,9 +25,6 @@ invariant_of-result c = let head = c.first_line-head.ensures in record {
     laid = laid_of c.part.ensures c.take_letter.ensures c.take_letter-2.ensures c.take_letter-3.ensures c.take_letter-4.ensures c.take_letter-5.ensures c.take_letter-6.ensures;
   };
 }
-
-pub returns : goal.returns
-returns c = record { told = c.in_ok-lines.ensures; same = refl }
 
 pub returns-in_err-lines : goal.returns-in_err-lines
 returns-in_err-lines c =
