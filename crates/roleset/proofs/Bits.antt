@@ -5,7 +5,7 @@ use Prim.Native.Nat.{ℕ, zero, suc, ◌+◌, ◌-◌, ◌*◌, ◌/◌, ◌%◌
 use mathlib.Core.Path.{◌≡◌, refl, sym, ap, ap₂, ◌∙◌}
 use mathlib.Core.Logic.{◌↔◌}
 use mathlib.Core.Bool.{Bool, true, false, not, ◌&&◌, ◌||◌, cond, or-true, or-false}
-use native.Mathlib.Nat.{one-mul, zero-mul, zero-div, zero-mod, div-one, mul-mod_left, mul-div_cancel, div-eq_of_lt, div-div-eq-div-mul, pow-suc, pow-succ'}
+use native.Mathlib.Nat.{one-mul, zero-mul, zero-div, zero-mod, div-one, mul-mod_left, mul-div_cancel, div-div-eq-div-mul, pow-suc, pow-succ'}
 use native.Mathlib.Omega.{arith}
 use native.Mathlib.Decide.{dec_lt}
 use lib.Count.{under, count_trailing_zeros}
@@ -99,17 +99,6 @@ bit_mod k x j l =
     let e : (k - (1 + j)) + (1 + j) ≡ k = omega arith in
     let cut : x % 2 ^ k % 2 ^ (1 + j) ≡ x % 2 ^ (1 + j) = rw e at (mod-mod-pow x (k - (1 + j)) (1 + j)) in
     ap (λ (d : ℕ). eqb d 1) (sym (field (x % 2 ^ k) 1 j) ∙ ap (λ (d : ℕ). d / 2 ^ j) cut ∙ field x 1 j)
-
--- below a number that was shifted left are zeros, and then its bits
-pub bit_shl_low : (x k j : ℕ) → j < k → bit (x * 2 ^ k) j ≡ false
-bit_shl_low x k j l = sym (bit_mod k (x * 2 ^ k) j l) ∙ rw (mul-mod_left x (2 ^ k)) (bit_zero j)
-
-pub bit_shl : (x k j : ℕ) → bit (x * 2 ^ k) (k + j) ≡ bit x j
-bit_shl x k j = sym (bit_shr (x * 2 ^ k) k j) ∙ ap (λ (y : ℕ). bit y j) (mul-div_cancel x {n = 2 ^ k} (pow_pos k))
-
--- a number of k bits has none from there on
-pub bit_past : (x k j : ℕ) → x < 2 ^ k → bit x (k + j) ≡ false
-bit_past x k j l = sym (bit_shr x k j) ∙ rw (div-eq_of_lt l) (bit_zero j)
 
 -- `1 << k` at a number of w bits, and at a byte
 pub one_shifted : (w k : ℕ) → k < w → 1 * 2 ^ k % 2 ^ w ≡ 2 ^ k

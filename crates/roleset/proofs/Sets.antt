@@ -1,22 +1,23 @@
--- A set of roles as two numbers, and as one: what is put in is read back, a row's number has its roles, and two sets meet where their numbers share a bit. Assumes nothing.
-use Prim.Native.Nat.{ℕ, suc, ◌+◌, ◌-◌, ◌*◌, ◌/◌, ◌^◌, ◌<◌}
-use mathlib.Core.Path.{◌≡◌, sym, ◌∙◌}
+-- A set of roles as two numbers: what is put in is read back, the halves of a row are its two numbers, and two sets meet where one of two pairs of numbers shares a bit. Assumes nothing.
+use Prim.Native.Nat.{ℕ, suc, ◌+◌, ◌-◌, ◌*◌, ◌/◌, ◌%◌, ◌^◌, ◌<◌}
+use mathlib.Core.Path.{◌≡◌, sym, ap, ◌∙◌}
+use mathlib.Core.Logic.{◌↔◌}
 use mathlib.Core.List.{List}
-use mathlib.Core.Bool.{Bool, false, not, ◌&&◌, and-true, and-false, or-false}
+use mathlib.Core.Bool.{Bool, false, not, ◌&&◌, and-false}
+use native.Mathlib.Nat.{zero-add}
 use native.Mathlib.Omega.{arith}
 use native.Mathlib.Decide.{dec_le}
-use lib.Bits.{bit_and, bit_or, and_le_l, and_le_r}
+use lib.Bits.{bit_and, bit_or}
 use lib.ListN.{get_or}
-use lib.Pow.{shr_lt}
 use lib.Dec.{eqb, leb}
 use borrow.Author.Tests.{le-leb, lt-leb}
 use Rattle.search.specs.Search.{some, among, Among}
 use Rattle.search.proofs.Truth.{and_when, among_iff, either}
-use Rattle.search.proofs.Found.{some_unless, some_agree}
-use Rattle.roleset.specs.Row.{AllBytes, bit, role_byte, member}
-use Rattle.roleset.specs.Set.{in_set, low_of, high_of}
+use Rattle.search.proofs.Found.{None, some_unless}
+use Rattle.roleset.specs.Row.{AllBytes, bit, role_byte, role_bit, member}
+use Rattle.roleset.specs.Set.{in_set, bits_of, low_of, high_of}
 use Rattle.roleset.specs.inner.Number.{HasRoles}
-use Rattle.roleset.proofs.Bits.{bit_zero, same_bits, bit_and_lem, bit_or_lem, bit_ones, bit_shr, bit_shl_low, bit_shl, bit_past, little_endian, bit_byte, bits_below, bits_bit, none_set}
+use Rattle.roleset.proofs.Bits.{bit_zero, same_bits, little_endian, bit_byte, bytes_below, bits_below, bits_bit, and_none, or_none}
 
 -- ---- the roles of each number
 
@@ -54,43 +55,31 @@ pub in_no_set : (r : ℕ) → in_set 0 0 r ≡ false
 unfolding in_set
 in_no_set r = rw (bit_zero (r - 1), bit_zero (r - 65)) (either (λ b. (among 128 r && b) ≡ false) (leb r 64) false false (and-false (among 128 r)) (and-false (among 128 r)))
 
--- ---- a set as one number
+-- ---- a row as numbers
 
-module _ {s : ℕ → Bool} {x : ℕ} (roles : HasRoles s x) (fits : x < 2 ^ 128) where
-  -- its first and its last 64 bits
-  pub low_bits : bit_and x 18446744073709551615 ≡ low_of s
-  low_bits =
-      let less = and_le_r x 18446744073709551615 in
-      same_bits 64 (bit_and x 18446744073709551615) (low_of s) (omega arith) (bits_below 64 s)
-      (λ j l.
-      let place : suc j - 1 ≡ j = omega arith in
-      bit_and_lem x 18446744073709551615 j
-      ∙ rw (bit_ones 64 j, le-leb (suc j) 64 (omega arith), and-true (bit x j))
-      (rw place at (roles (suc j) (omega arith)) ∙ sym (bits_bit 64 s j l)))
+module _ (row : List ℕ) (bytes : AllBytes row) where
+  -- the eight bytes of half h, the first being 0, as one number
+  abbrev half : ℕ → ℕ
+  half h = little_endian 8 (λ k. get_or row (8 * h + k) 0)
 
-  pub high_bits : x / 2 ^ 64 ≡ high_of s
-  high_bits =
-      same_bits 64 (x / 2 ^ 64) (high_of s) (shr_lt 64 64 fits) (bits_below 64 (λ r. s (64 + r)))
-      (λ j l.
-      let place : 64 + suc j - 1 ≡ 64 + j = omega arith in
-      bit_shr x 64 j ∙ rw place at (roles (64 + suc j) (omega arith)) ∙ sym (bits_bit 64 (λ r. s (64 + r)) j l))
+  -- it has the roles from 64 h on
+  half_roles : (h : ℕ) → h < 2 → half h ≡ bits_of 64 (λ r. member row 0 (64 * h + r))
+  unfolding member
+  half_roles h l =
+      same_bits 64 _ _ (bytes_below 8 _ (λ k. bytes (8 * h + k))) (bits_below 64 (λ r. member row 0 (64 * h + r)))
+      (λ j m. role_bit_lem j m ∙ sym (bits_bit 64 (λ r. member row 0 (64 * h + r)) j m))
+    where
+      role_bit_lem : (j : ℕ) → j < 64 → bit (half h) j ≡ member row 0 (64 * h + suc j)
+      role_bit_lem j m =
+          let byte : 0 + role_byte (64 * h + suc j) ≡ 8 * h + j / 8 = omega arith in
+          let place : role_bit (64 * h + suc j) ≡ j % 8 = omega arith in
+          bit_byte 8 _ (λ k. bytes (8 * h + k)) j (omega arith) ∙ rw ((among_iff 128 (64 * h + suc j)).1 (omega arith), byte, place)
 
-  -- two sets meet where their numbers share a bit
-  pub sets_meet : (t : ℕ → Bool) (y : ℕ) → HasRoles t y → not (eqb (bit_and x y) 0) ≡ some 128 (λ r. s r && t r)
-  sets_meet t y others =
-      let less = and_le_l x y in
-      some_unless (none_set 128 (bit_and x y) (omega arith))
-      ∙ some_agree (λ r. bit (bit_and x y) (r - 1)) (λ r. s r && t r) 128 (λ r w. bit_and_lem x y (r - 1) ∙ rw (roles r w, others r w))
+  pub first_half : half 0 ≡ low_of (member row 0)
+  first_half = half_roles 0 (omega arith) ∙ ap (bits_of 64) (λ i r. member row 0 (zero-add r i))
 
--- two numbers of 64 bits in one of 128
-pub joined_roles : (low high : ℕ) → low < 2 ^ 64 → high < 2 ^ 64 → HasRoles (in_set low high) (bit_or low (high * 2 ^ 64))
-joined_roles low high low_fits high_fits = by_half (λ r. bit (bit_or low (high * 2 ^ 64)) (r - 1) ≡ in_set low high r)
-    (λ j l.
-    let place : suc j - 1 ≡ j = omega arith in
-    rw (place, bit_or_lem low (high * 2 ^ 64) j, bit_shl_low high 64 j l, or-false (bit low j)) (sym (low_in low high j l)))
-    (λ j l.
-    let place : 64 + suc j - 1 ≡ 64 + j = omega arith in
-    rw (place, bit_or_lem low (high * 2 ^ 64) (64 + j), bit_past low 64 j low_fits, bit_shl high 64 j) (sym (high_in low high j l)))
+  pub second_half : half 1 ≡ high_of (member row 0)
+  second_half = half_roles 1 (omega arith)
 
 -- the roles of a row are the bits of its bytes
 pub row_roles : (row : List ℕ) → AllBytes row → HasRoles (member row 0) (little_endian 16 (λ k. get_or row k 0))
@@ -98,3 +87,35 @@ unfolding member
 row_roles row bytes r w =
     let byte : 0 + role_byte r ≡ (r - 1) / 8 = omega arith in
     bit_byte 16 (λ k. get_or row k 0) bytes (r - 1) (omega arith) ∙ rw ((among_iff 128 r).1 w, byte)
+
+-- ---- sets that meet
+
+module _ (s : ℕ → Bool) (low high : ℕ) (low_fits : low < 2 ^ 64) (high_fits : high < 2 ^ 64) where
+  abbrev Shared : ℕ → Bool
+  Shared r = s r && in_set low high r
+
+  abbrev both : ℕ
+  both = bit_or (bit_and (low_of s) low) (bit_and (high_of s) high)
+
+  low_shared : (j : ℕ) → j < 64 → (bit (low_of s) j && bit low j) ≡ Shared (suc j)
+  low_shared j l = rw (bits_bit 64 s j l, low_in low high j l)
+
+  high_shared : (j : ℕ) → j < 64 → (bit (high_of s) j && bit high j) ≡ Shared (64 + suc j)
+  high_shared j l = rw (bits_bit 64 (λ r. s (64 + r)) j l, high_in low high j l)
+
+  apart : (both ≡ 0) ↔ None Shared 128
+  apart =
+      let either = or_none (bit_and (low_of s) low) (bit_and (high_of s) high) in
+      let first = and_none 64 (low_of s) low (bits_below 64 s) low_fits in
+      let second = and_none 64 (high_of s) high (bits_below 64 (λ r. s (64 + r))) high_fits in (
+        λ e. by_half (λ r. Shared r ≡ false)
+            (λ j l. sym (low_shared j l) ∙ first.0 (either.0 e).0 j l)
+            (λ j l. sym (high_shared j l) ∙ second.0 (either.0 e).1 j l),
+        λ none. either.1 (
+          first.1 (λ j l. low_shared j l ∙ none (suc j) (omega arith)),
+          second.1 (λ j l. high_shared j l ∙ none (64 + suc j) (omega arith)),
+        ),
+      )
+
+  pub sets_meet : not (eqb both 0) ≡ some 128 Shared
+  sets_meet = some_unless apart

@@ -80,42 +80,37 @@ pub fn unite_where(from: &mut [u8], role: usize, other: Row)
     }
 }
 
-// The row as a number: role r is bit r - 1.
-fn number(row: &Row) -> u128
-    ensures { HasRoles (member row.now 0) result }
-{
-    u128::from_le_bytes(*row)
-}
-
-pub fn low(row: &Row) -> u64
+// The first half of the row as a number: role r is bit r - 1. Rows are met by their halves, of which
+// the compiler makes one test, and not by numbers of 128 bits, of which it makes two and joins them.
+pub fn low_half(row: &Row) -> u64
     ensures { result ≡ low_of (member row.now 0) }
 {
-    (number(row) & 0xFFFF_FFFF_FFFF_FFFF) as u64
+    u64::from_le_bytes([
+        row[0], row[1], row[2], row[3], row[4], row[5], row[6], row[7],
+    ])
 }
 
-pub fn high(row: &Row) -> u64
+// The second half: role r is bit r - 65.
+pub fn high_half(row: &Row) -> u64
     ensures { result ≡ high_of (member row.now 0) }
 {
-    (number(row) >> 64) as u64
-}
-
-pub fn meet(row: &Row, other: &Row) -> bool
-    ensures { result ≡ some 128 (λ r. member row.now 0 r && member other.now 0 r) }
-{
-    number(row) & number(other) != 0
-}
-
-// The set of two numbers as one.
-fn joined(low: u64, high: u64) -> u128
-    ensures { HasRoles (in_set low high) result }
-{
-    u128::from(low) | u128::from(high) << 64
+    u64::from_le_bytes([
+        row[8], row[9], row[10], row[11], row[12], row[13], row[14], row[15],
+    ])
 }
 
 pub fn meet_set(row: &Row, low: u64, high: u64) -> bool
     ensures { result ≡ some 128 (λ r. member row.now 0 r && in_set low high r) }
 {
-    number(row) & joined(low, high) != 0
+    let first = low_half(row) & low;
+    let second = high_half(row) & high;
+    first | second != 0
+}
+
+pub fn meet(row: &Row, other: &Row) -> bool
+    ensures { result ≡ some 128 (λ r. member row.now 0 r && member other.now 0 r) }
+{
+    meet_set(row, low_half(other), high_half(other))
 }
 
 // The lowest bit above the first `after` that is set in x; bits are counted from 1.
@@ -130,6 +125,13 @@ fn lowest_above(x: u128, after: usize) -> Option<usize>
         return None;
     }
     Some(after + rest.trailing_zeros() as usize + 1)
+}
+
+// The row as a number: role r is bit r - 1.
+fn number(row: &Row) -> u128
+    ensures { HasRoles (member row.now 0) result }
+{
+    u128::from_le_bytes(*row)
 }
 
 pub fn next(row: &Row, after: usize) -> Option<usize>

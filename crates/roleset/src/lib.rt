@@ -117,7 +117,7 @@ pub fn low(s: &[u8], at: usize) -> u64
     ensures { result ≡ cond (whole s.now at) (low_of (member s.now at)) 0 }
 {
     match inner::row(s, at) {
-        Some(row) => inner::low(row),
+        Some(row) => inner::low_half(row),
         None => 0,
     }
 }
@@ -127,7 +127,7 @@ pub fn high(s: &[u8], at: usize) -> u64
     ensures { result ≡ cond (whole s.now at) (high_of (member s.now at)) 0 }
 {
     match inner::row(s, at) {
-        Some(row) => inner::high(row),
+        Some(row) => inner::high_half(row),
         None => 0,
     }
 }
