@@ -1,18 +1,17 @@
 -- The closure of a relation among n things, once for every n: what is computed is what steps reach, a thing is on a circle just where it is
 -- reached from itself, and no circle is a partial order. Assumes nothing.
-use Prim.Native.Nat.{ℕ, zero, suc, ◌+◌, ◌≤◌, ◌<◌}
-use mathlib.Core.Path.{◌≡◌, refl, sym, ap, ◌∙◌}
+use Prim.Native.Nat.{ℕ, zero, suc, ◌≤◌}
+use mathlib.Core.Path.{◌≡◌, refl, sym, ap}
 use mathlib.Core.Logic.Iff
 use mathlib.Core.Logic.{◌↔◌, ◌⊎◌, inl, inr, ⊎_elim}
 use mathlib.Core.Bool.{true, false, ◌||◌, and_comm}
 use native.Mathlib.Omega.{arith}
-use native.Mathlib.Numerals.{add-one}
 use Rattle.search.specs.Search.{Among}
 use Rattle.search.proofs.Truth.{eqb_iff, and-iff, or_both, untrue, both, other_iff}
-use Rattle.search.proofs.Found.{None, last_or, among_next, first_none, first_agree}
+use Rattle.search.proofs.Found.{None, last_or, first_none, first_agree}
 use Rattle.order.specs.Table.{Rows}
 use Rattle.order.specs.Bound.{converse}
-use Rattle.order.specs.Closure.{Relation, Agree, via, path, closure, to_itself, loop, circle, Reach, here, step, HasPath, OnCircle, PartialOrder, Irreflexive, round}
+use Rattle.order.specs.Closure.{Relation, Agree, via, path, closure, to_itself, loop, circle, Reach, here, step, HasPath, OnCircle, PartialOrder, Irreflexive}
 
 -- a path past one thing more: one that was there, or two that meet in it
 pub ways : (e : Relation) (k a b : ℕ)
@@ -150,34 +149,3 @@ module _ (n m : ℕ) (d e : Relation) (l : n ≤ m) (h : Agree n m d e) where
 -- the lowest thing on a circle, by a table g of the paths
 pub loop_circle : (e : Relation) {size n : ℕ} {f g : Relation} → n ≤ size → Rows size n (path n e) f g → loop n g ≡ circle n e
 loop_circle e {n = n} {g = g} l rows = first_agree (to_itself g) (to_itself (path n e)) n (λ a w. rows.done a a w (omega arith))
-
--- ---- a table that is closed round by round, row by row
-
-module _ (size n : ℕ) (e : Relation) where
-  pub rounds_none : Rows size n (via e 0) e e
-  unfolding via
-  rounds_none = record { done = λ a b v w. refl; left = λ a b l v w. refl }
-
-  pub rounds_more : (k : ℕ) (f g : Relation) → k < n → n ≤ size → Rows size n (via e k) e f → Rows size n (round f (k + 1)) f g → Rows size n (via e (k + 1)) e g
-  unfolding via
-  rounds_more k f g l fits all this = record {
-    done = λ a b v w. this.done a b v w
-        ∙ rw (add-one, all.done a b v w, all.done a (suc k) v (omega arith), all.done (suc k) b (omega arith) w);
-    left = λ a b i v w. this.left a b i v w ∙ all.left a b i v w;
-  }
-
--- g is f but for row i, which is that of h
-pub record RowSet (size i : ℕ) (h f g : Relation) : Type 0 where
-  pub own : (b : ℕ) → Among size b → g i b ≡ h i b
-  pub others : (a b : ℕ) → Among size a → (a ≡ i → ⊥) → Among size b → g a b ≡ f a b
-
-module _ (size : ℕ) (h e : Relation) where
-  pub rows_none : Rows size 0 h e e
-  rows_none = record { done = λ a b v w. absurd (omega arith); left = λ a b l v w. refl }
-
-  pub rows_more : (i : ℕ) (f g : Relation) → i < size → Rows size i h e f → RowSet size (i + 1) h f g → Rows size (i + 1) h e g
-  rows_more i f g l p t = record {
-    done = λ a b v w.
-        among_next (λ c. g c b ≡ h c b) i (λ c u. t.others c b (omega arith) (λ q. omega arith) w ∙ p.done c b u w) (t.own b w) a v;
-    left = λ a b k v w. t.others a b (omega arith) (λ q. omega arith) w ∙ p.left a b (omega arith) v w;
-  }

@@ -1,103 +1,84 @@
--- A table of role sets in a list of bytes, changed row by row from the front: what a turn does, and what the table is at the end. Assumes nothing.
-use Prim.Native.Nat.{ℕ, ◌+◌, ◌*◌, ◌-◌, ◌≤◌, ◌<◌}
-use mathlib.Core.Path.{◌≡◌, refl, ◌∙◌}
-use mathlib.Core.Logic.{inr}
-use mathlib.Core.Bool.{Bool, false, ◌&&◌, or_comm}
-use mathlib.Core.List.{List}
-use native.Mathlib.Nat.{add-sub_cancel}
-use native.Mathlib.Omega.{arith}
+-- A table of role sets in a list of bytes, and the same table by itself. Assumes nothing.
+use Rattle.std.proofs.Common.{ℕ, ◌+◌, ◌*◌, ◌-◌, ◌≤◌, ◌<◌, ◌≡◌, ◌∙◌, List, ◌++◌, take, drop, length, get_or, length-drop, arith}
+use Rattle.std.proofs.lemmas.List.{get_or-take, get_or-drop, get_or_append_left, get_or-append-add, length-take}
+use Rattle.std.proofs.Math.Seq.{get_or-append_right}
+use borrow.Rule.Slice.PartMut.{mid_of, put_mid}
 use native.Mathlib.Decide.{dec_lt}
-use lib.ListN.{length}
-use lib.Dec.{eqb, leb}
-use borrow.Author.Tests.{le-leb}
 use Rattle.search.specs.Search.{Among}
-use Rattle.search.proofs.Truth.{among_iff, both, eqb_swap}
-use Rattle.roleset.specs.Row.{whole, member, added, united_where, RowCopy, Placed, PlacedRows}
-use Rattle.roleset.proofs.Rows.{row_kept, other_kept, kept_wider, kept_both, row_copy, whole_true}
-use Rattle.order.specs.Closure.{Relation, via, round, with_itself}
+use Rattle.roleset.proofs.Rows.{same_bytes}
+use Rattle.order.specs.Closure.{Relation, Agree}
 use Rattle.order.specs.Table.{Rows, related, Tabled}
-use Rattle.order.proofs.Closure.{RowSet, rows_none, rows_more, rounds_none, rounds_more}
+pub use Rattle.order.specs.inner.Placing.{row_tested, no_table, placing_none, closing_none, placing_pass, placing_more, placing_left, with_itself_row, round_rows, closing_more}
 
--- the row of thing i + 1 of the table at `at`, as it is tested
-pub row_tested : (xs : List ℕ) (at i r : ℕ) (b : Bool) → at + 16 * i + 16 ≤ length xs
-    → b ≡ (whole xs (at + 16 * i) && member xs (at + 16 * i) r) → b ≡ related xs at (i + 1) r
-row_tested xs at i r b l e = rw (add-sub_cancel i 1) (e ∙ rw (whole_true xs (at + 16 * i) l))
+-- a part of k bytes, from `at` on
+module _ (at k : ℕ) (xs : List ℕ) (inside : at + k ≤ length xs) where
+  part_long : length (mid_of at k xs) ≡ k
+  part_long = omega (arith, length-take k (drop at xs), length-drop at xs)
 
--- nothing is written
-table_unwritten : {at n : ℕ} {h : Relation} {xs : List ℕ} → (at + 2048 ≤ length xs → Rows 128 n h (related xs at) (related xs at)) → Tabled at n h xs xs
-table_unwritten h = record { rows = h; rest = λ i o. refl; none = λ l. refl }
+  part_byte : (j : ℕ) → j < k → get_or (mid_of at k xs) j 0 ≡ get_or xs (at + j) 0
+  part_byte j l = get_or-take k (drop at xs) j 0 l ∙ get_or-drop at xs j 0
 
-pub no_table : {at n : ℕ} {h : Relation} {xs : List ℕ} → leb (at + 2048) (length xs) ≡ false → Tabled at n h xs xs
-no_table e = table_unwritten (λ l. absurd (both (le-leb _ _ l) e))
+  -- and where the part is written
+  module _ (new : List ℕ) (long : length new ≡ length (mid_of at k xs)) where
+    front : length (take at xs) ≡ at
+    front = omega (arith, length-take at xs)
 
-pub placing_none : {at : ℕ} {h : Relation} {xs : List ℕ} → Tabled at 0 h xs xs
-placing_none = table_unwritten (λ l. rows_none _ _ _)
+    after : (j : ℕ) → get_or (put_mid at k xs new) (at + j) 0 ≡ get_or (new ++ drop k (drop at xs)) j 0
+    after j = rw front at (get_or-append-add (take at xs) (new ++ drop k (drop at xs)) j 0)
 
-pub closing_none : {at n : ℕ} {xs : List ℕ} → Tabled at n (via (related xs at) 0) xs xs
-closing_none = table_unwritten (λ l. rounds_none _ _ _)
+    byte_before : (i : ℕ) → i < at → get_or (put_mid at k xs new) i 0 ≡ get_or xs i 0
+    byte_before i l = let f = front in get_or_append_left (take at xs) (new ++ drop k (drop at xs)) 0 i (omega arith) ∙ get_or-take at xs i 0 l
 
--- rows that are as h says already need no turn
-pub placing_pass : (at : ℕ) (h : Relation) (xs : List ℕ) (i j : ℕ) (ys : List ℕ) → i ≤ j → j ≤ 128 → Tabled at i h xs ys
-    → ((a b : ℕ) → i < a → a ≤ j → Among 128 b → related xs at a b ≡ h a b) → Tabled at j h xs ys
-placing_pass at h xs i j ys l m t same = record {
-  rows = λ f. record {
-    done = λ a b v w. elim (dec_lt i a) [
-      | yes k ↦ (t.rows f).left a b k (omega arith) w ∙ same a b k (omega arith) w
-      | no k ↦ (t.rows f).done a b (omega arith) w
+    new_byte : (j : ℕ) → j < k → get_or (put_mid at k xs new) (at + j) 0 ≡ get_or new j 0
+    new_byte j l = let same = part_long in after j ∙ get_or_append_left new (drop k (drop at xs)) 0 j (omega arith)
+
+    old_byte : (j : ℕ) → k ≤ j → get_or (put_mid at k xs new) (at + j) 0 ≡ get_or xs (at + j) 0
+    old_byte j l =
+        let place : k + (j - k) ≡ j = omega arith in
+        let same : length new ≡ k = long ∙ part_long in
+        after j ∙ get_or-append_right new (drop k (drop at xs)) j 0 (omega arith)
+        ∙ rw (same, get_or-drop k (drop at xs) (j - k) 0, place) (get_or-drop at xs j 0)
+
+-- the table at `at` is the part of k bytes there
+module _ (at k : ℕ) (xs : List ℕ) (fits : at + 2048 ≤ length xs) (size : k ≡ 2048) where
+  inside : at + k ≤ length xs
+  inside = omega arith
+
+  pub part_size : length (mid_of at k xs) ≡ 2048
+  part_size = part_long at k xs inside ∙ size
+
+  pub part_related : Agree 128 128 (related (mid_of at k xs) 0) (related xs at)
+  part_related a b v w = same_bytes xs (mid_of at k xs) (at + 16 * (a - 1)) (0 + 16 * (a - 1)) (λ j l.
+      let place : at + 16 * (a - 1) + j ≡ at + (0 + 16 * (a - 1) + j) = omega arith in
+      rw place (part_byte at k xs inside (0 + 16 * (a - 1) + j) (omega arith))) b
+
+  -- and where the part is written so is that table
+  pub tabled_from : (n : ℕ) (h g : Relation) (new : List ℕ) → n ≤ 128 → length new ≡ length (mid_of at k xs) → Tabled 0 n h (mid_of at k xs) new
+      → Agree n 128 h g → Tabled at n g xs (put_mid at k xs new)
+  tabled_from n h g new few long t same = record {
+    rows = λ f. record {
+      done = λ a b v w. read a b (omega arith) ∙ rows.done a b v w ∙ same a b v w;
+      left = λ a b v u w. read a b (omega arith) ∙ rows.left a b v u w ∙ part_related a b (omega arith) w;
+    };
+    rest = λ i o. elim (dec_lt i at) [
+      | yes m ↦ byte_before at k xs inside new long i m
+      | no m ↦
+          let place : at + (i - at) ≡ i = omega arith in
+          let here : get_or (put_mid at k xs new) (at + (i - at)) 0 ≡ get_or xs (at + (i - at)) 0 = elim (dec_lt (i - at) k) [
+            | yes l ↦
+                new_byte at k xs inside new long (i - at) l ∙ t.rest (i - at) (λ z. omega (arith, o (omega arith)))
+                ∙ part_byte at k xs inside (i - at) l
+            | no l ↦ old_byte at k xs inside new long (i - at) (omega arith)
+          ] in
+          rw place at here
     ];
-    left = λ a b v u w. (t.rows f).left a b (omega arith) u w;
-  };
-  rest = kept_wider xs ys (omega arith) t.rest;
-  none = t.none;
-}
-
-module _ (at : ℕ) (h : Relation) (xs : List ℕ) (fits : at + 2048 ≤ length xs) where
-  -- the row of thing i + 1 is placed
-  pub placing_more : (i : ℕ) (s : ℕ → Bool) (ys zs : List ℕ) → i < 128 → length ys ≡ length xs → Tabled at i h xs ys → Placed (at + 16 * i) s ys zs
-      → ((b : ℕ) → Among 128 b → s b ≡ h (i + 1) b) → Tabled at (i + 1) h xs zs
-  placing_more i s ys zs l long t p new = record {
-    rows = λ m. rows_more 128 h (related xs at) i (related ys at) (related zs at) l (t.rows m) row;
-    rest = kept_both xs ys zs (omega arith) t.rest p.rest;
-    none = λ m. absurd (omega arith);
+    none = λ l. absurd (omega arith);
   }
     where
-      row : RowSet 128 (i + 1) h (related ys at) (related zs at)
-      row = record {
-        own = λ b w. rw (add-sub_cancel i 1) (p.row (omega arith) b ∙ new b w);
-        others = λ a b v ne w. other_kept at (i + 1) ys zs (rw (add-sub_cancel i 1) p.rest) (omega arith) a b v.0 ne;
-      }
+      rows : Rows 128 n h (related (mid_of at k xs) 0) (related new 0)
+      rows = t.rows (let same = part_long at k xs inside in omega arith)
 
-  -- a row that has had no turn yet
-  pub placing_left : (i b : ℕ) (ys : List ℕ) → i < 128 → Among 128 b → Tabled at i h xs ys → member ys (at + 16 * i) b ≡ member xs (at + 16 * i) b
-  placing_left i b ys l w t = rw (add-sub_cancel i 1) at ((t.rows fits).left (i + 1) b (omega arith) (omega arith) w)
-
-module _ (at : ℕ) (xs : List ℕ) (fits : at + 2048 ≤ length xs) where
-  abbrev e : Relation
-  e = related xs at
-
-  -- a thing put into its own row
-  pub with_itself_row : (i b : ℕ) (ys : List ℕ) → i < 128 → Among 128 b → Tabled at i (with_itself e) xs ys
-      → added ys (at + 16 * i) (i + 1) b ≡ with_itself e (i + 1) b
-  with_itself_row i b ys l w t =
-      rw (placing_left at (with_itself e) xs fits i b ys l w t, (among_iff 128 (i + 1)).1 (omega arith), eqb_swap b (i + 1), add-sub_cancel i 1)
-      (or_comm (member xs (at + 16 * i) b) (eqb (i + 1) b))
-
-  -- what a round of closing makes of the table, given the row `other` of thing k + 1
-  pub round_rows : (n k : ℕ) (ys other : List ℕ) → k < n → n ≤ 128 → RowCopy xs (at + 16 * k) other
-      → PlacedRows at n (λ i. united_where xs (at + 16 * i) (k + 1) other) xs ys → Tabled at n (round e (k + 1)) xs ys
-  round_rows n k ys other l m o p = record {
-    rows = λ f. record {
-      done = λ a b v w. p.rows (omega arith) (a - 1) (omega arith) b ∙ rw (row_copy xs other (at + 16 * k) (omega arith) o b, add-sub_cancel k 1);
-      left = λ a b v u w. row_kept xs ys p.rest (at + 16 * (a - 1)) b (inr (omega arith));
-    };
-    rest = p.rest;
-    none = λ f. absurd (omega arith);
-  }
-
-  pub closing_more : (n k : ℕ) (ys zs : List ℕ) → k < n → n ≤ 128 → length ys ≡ length xs
-      → Tabled at n (via e k) xs ys → Tabled at n (round (related ys at) (k + 1)) ys zs → Tabled at n (via e (k + 1)) xs zs
-  closing_more n k ys zs l m long t u = record {
-    rows = λ f. rounds_more 128 n e k (related ys at) (related zs at) l m (t.rows f) (u.rows (omega arith));
-    rest = kept_both xs ys zs (omega arith) t.rest u.rest;
-    none = λ f. absurd (omega arith);
-  }
+      read : (a b : ℕ) → Among 128 a → related (put_mid at k xs new) at a b ≡ related new 0 a b
+      read a b v = same_bytes new (put_mid at k xs new) (0 + 16 * (a - 1)) (at + 16 * (a - 1)) (λ j l.
+          let place : at + 16 * (a - 1) + j ≡ at + (0 + 16 * (a - 1) + j) = omega arith in
+          rw place (new_byte at k xs inside new long (0 + 16 * (a - 1) + j) (omega arith))) b

@@ -17,7 +17,7 @@ use Rattle.order.specs.Closure.{Relation}
 use Rattle.roleset.proofs.Bits.{bit_zero}
 use Rattle.order.specs.Table.{marks, Upto}
 use Rattle.order.specs.inner.Members.{holds}
-use Rattle.order.proofs.Closure.{RowSet}
+use Rattle.order.specs.inner.Rounds.{RowSet}
 
 -- what stands at thing a when v is stored at i
 module _ {A : Type 0} (d : A) (l : List A) (i : ℕ) (v : A) where

@@ -7,6 +7,7 @@
 #![tactic(auto)]
 
 pub mod bounds;
+mod closing;
 pub mod compare;
 pub mod marks;
 pub mod rows;

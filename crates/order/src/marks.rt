@@ -3,6 +3,10 @@ ghost use Rattle.std.specs.Prelude.{◌≡◌, ◌&&◌, ◌||◌, ◌+◌, ◌�
 ghost use Rattle.search.specs.Search.{thing};
 ghost use Rattle.order.specs.Closure.{path, loop, round, with_itself};
 ghost use Rattle.order.specs.Table.{marks, mark, Upto, Rows};
+ghost use Rattle.order.specs.inner.Rounds.{BecomesMarks, LinksMarks, marks_before, marks_round, marks_unlinked, marks_link};
+
+use super::closing;
+use super::closing::Closing;
 
 // How many things there is room for.
 pub const THINGS: usize = 32;
@@ -32,7 +36,7 @@ fn stepped(row: Set, other: Set, on: bool) -> Set
 }
 
 // One round of closing: in the first n rows, the paths past thing k + 1 too.
-fn pass(t: &mut Table, k: usize, n: usize)
+fn round_of(t: &mut Table, k: usize, n: usize)
     requires { (length t.old ≡ 32) × (k < n) × (n ≤ 32) }
     ensures { (length t.new ≡ 32) × Rows 32 n (round (mark t.old) (k + 1)) (mark t.old) (mark t.new) }
 {
@@ -41,18 +45,6 @@ fn pass(t: &mut Table, k: usize, n: usize)
         let on = t[i][k];
         t[i] = stepped(t[i], other, on);
     }
-}
-
-// The paths of one step or more among the first n things.
-pub fn paths(t: Table, n: usize) -> Table
-    ensures { Rows 32 (min n 32) (path (min n 32) (mark t)) (mark t) (mark result) }
-{
-    let m = n.min(THINGS);
-    let mut r = t;
-    for k in 0..m {
-        pass(&mut r, k, m);
-    }
-    r
 }
 
 // The row with a mark at thing b too, if it is one of the 32.
@@ -67,14 +59,53 @@ pub fn with_mark(row: Set, b: usize) -> Set
     r
 }
 
+impl Closing for Table {
+    ghost ROOM = { 32 };
+
+    const ROOM: usize = THINGS;
+
+    ghost relates = { mark };
+
+    ghost becomes = { BecomesMarks };
+
+    ghost links = { LinksMarks };
+
+    fn loops(&self, i: usize) -> bool {
+        self[i][i]
+    }
+
+    fn link(&mut self, i: usize) {
+        self[i] = with_mark(self[i], i + 1);
+    }
+
+    fn pass(&mut self, k: usize, n: usize) {
+        round_of(self, k, n);
+    }
+
+    ghost before_rounds = { marks_before };
+
+    ghost after_round = { marks_round };
+
+    ghost before_links = { marks_unlinked };
+
+    ghost after_link = { marks_link };
+}
+
+// The paths of one step or more among the first n things.
+pub fn paths(t: Table, n: usize) -> Table
+    ensures { Rows 32 (min n 32) (path (min n 32) (mark t)) (mark t) (mark result) }
+{
+    let mut r = t;
+    closing::paths(&mut r, n);
+    r
+}
+
 // Each of the first n things with itself: of paths, the closure.
 pub fn reflected(t: Table, n: usize) -> Table
     ensures { Rows 32 (min n 32) (with_itself (mark t)) (mark t) (mark result) }
 {
     let mut r = t;
-    for i in 0..n.min(THINGS) {
-        r[i] = with_mark(t[i], i + 1);
-    }
+    closing::reflect(&mut r, n);
     r
 }
 
@@ -82,10 +113,5 @@ pub fn reflected(t: Table, n: usize) -> Table
 pub fn lowest_loop(t: Table, n: usize) -> Option<usize>
     ensures { result ≡ thing (loop (min n 32) (mark t)) }
 {
-    for i in 0..n.min(THINGS) {
-        if t[i][i] {
-            return Some(i + 1);
-        }
-    }
-    None
+    closing::lowest_loop(&t, n)
 }

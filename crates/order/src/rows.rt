@@ -6,31 +6,74 @@ ghost use Rattle.std.specs.Prelude.{◌≡◌, cond, ◌+◌, ◌≤◌, ◌<◌
 ghost use Rattle.search.specs.Search.{thing};
 ghost use Rattle.order.specs.Closure.{path, loop, round, with_itself};
 ghost use Rattle.order.specs.Table.{related, Tabled};
+ghost use Rattle.order.specs.inner.Tables.{BecomesRoles, LinksRoles};
+ghost use Rattle.order.specs.inner.Placing.{roles_before, roles_round, roles_unlinked, roles_link};
 
+use super::closing;
+use super::closing::Closing;
 use roleset::{ROLES, ROW_BYTES};
 
 // The bytes of a table.
 pub const TABLE_BYTES: usize = ROW_BYTES * ROLES;
 
-// One round of closing: in the first n rows, the paths past role k + 1 too.
-fn pass(s: &mut [u8], at: usize, k: usize, n: usize)
-    requires { (at + 2048 ≤ length s.old) × (k < n) × (n ≤ 128) }
-    ensures { Tabled at n (round (related s.old at) (k + 1)) s.old s.new }
+type RoleTable = [u8; TABLE_BYTES];
+
+impl Closing for RoleTable {
+    ghost ROOM = { 128 };
+
+    const ROOM: usize = ROLES;
+
+    ghost relates = { λ xs. related xs 0 };
+
+    ghost becomes = { BecomesRoles };
+
+    ghost links = { LinksRoles };
+
+    fn loops(&self, i: usize) -> bool {
+        roleset::has(self, ROW_BYTES * i, i + 1)
+    }
+
+    fn link(&mut self, i: usize) {
+        roleset::add(self, ROW_BYTES * i, i + 1);
+    }
+
+    fn pass(&mut self, k: usize, n: usize) {
+        let other = roleset::row(self, ROW_BYTES * k);
+        roleset::unite_rows(self, 0, n, k + 1, other);
+    }
+
+    ghost before_rounds = { roles_before };
+
+    ghost after_round = { roles_round };
+
+    ghost before_links = { roles_unlinked };
+
+    ghost after_link = { roles_link };
+}
+
+// The same for a slice that is a table and nothing else.
+fn paths_of(table: &mut [u8], n: usize)
+    ensures { BecomesRoles (min n 128) (path (min n 128) (related table.old 0)) table.old table.new }
 {
-    let other = roleset::row(s, at + ROW_BYTES * k);
-    roleset::unite_rows(s, at, n, k + 1, other);
+    if let Some(table) = table.as_mut_array::<TABLE_BYTES>() {
+        closing::paths(table, n);
+    }
+}
+
+fn reflect_of(table: &mut [u8], n: usize)
+    ensures { BecomesRoles (min n 128) (with_itself (related table.old 0)) table.old table.new }
+{
+    if let Some(table) = table.as_mut_array::<TABLE_BYTES>() {
+        closing::reflect(table, n);
+    }
 }
 
 // Leaves the paths of one step or more among the first n roles.
 pub fn paths(s: &mut [u8], at: usize, n: usize)
     ensures { Tabled at (min n 128) (path (min n 128) (related s.old at)) s.old s.new }
 {
-    if !roleset::rows_lie(s.len(), at, ROLES) {
-        return;
-    }
-    let m = n.min(ROLES);
-    for k in 0..m {
-        pass(s, at, k, m);
+    if roleset::rows_lie(s.len(), at, ROLES) {
+        paths_of(&mut s[at..at + TABLE_BYTES], n);
     }
 }
 
@@ -38,11 +81,8 @@ pub fn paths(s: &mut [u8], at: usize, n: usize)
 pub fn reflect(s: &mut [u8], at: usize, n: usize)
     ensures { Tabled at (min n 128) (with_itself (related s.old at)) s.old s.new }
 {
-    if !roleset::rows_lie(s.len(), at, ROLES) {
-        return;
-    }
-    for i in 0..n.min(ROLES) {
-        roleset::add(s, at + ROW_BYTES * i, i + 1);
+    if roleset::rows_lie(s.len(), at, ROLES) {
+        reflect_of(&mut s[at..at + TABLE_BYTES], n);
     }
 }
 
@@ -53,10 +93,5 @@ pub fn lowest_loop(s: &[u8], at: usize, n: usize) -> Option<usize>
     if !roleset::rows_lie(s.len(), at, ROLES) {
         return None;
     }
-    for i in 0..n.min(ROLES) {
-        if roleset::has(s, at + ROW_BYTES * i, i + 1) {
-            return Some(i + 1);
-        }
-    }
-    None
+    closing::lowest_loop(s[at..at + TABLE_BYTES].as_array::<TABLE_BYTES>()?, n)
 }

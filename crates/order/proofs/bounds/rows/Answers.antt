@@ -9,7 +9,7 @@ use borrow.Author.Tests.{le-leb, lt-leb}
 use lib.ListN.{get_or-replicate}
 use Rattle.roleset.proofs.Bits.{bit_zero}
 use Rattle.order.specs.inner.Members.{holds}
-use Rattle.order.proofs.Closure.{rows_none, rows_more}
+use Rattle.order.specs.inner.Rounds.{rows_none, rows_more}
 use Rattle.order.proofs.Stored.{set_row}
 use Rattle.order.proofs.bounds.rows.Goals as goal
 

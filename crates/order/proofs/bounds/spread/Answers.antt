@@ -2,7 +2,7 @@
 use native.Mathlib.Nat.{add-sub_cancel}
 use borrow.Author.Rules.{rules}
 use Rattle.order.specs.inner.Members.{holds}
-use Rattle.order.proofs.Closure.{rows_none, rows_more}
+use Rattle.order.specs.inner.Rounds.{rows_none, rows_more}
 use Rattle.order.proofs.Stored.{set_row}
 use Rattle.order.proofs.bounds.spread.Goals as goal
 

@@ -1,33 +1,20 @@
--- Each round lets paths pass one role more.
-use Rattle.std.proofs.Common.{◌+◌, ◌≤◌, ◌≡◌, min, sym, length, arith}
+-- The paths of the table by itself are those of the table in the slice.
+use Rattle.std.proofs.Common.{◌+◌, ◌-◌, ◌≤◌, ◌≡◌, min, sym, length, arith}
 use borrow.Author.Tests.{leb-true}
-use Rattle.order.proofs.Placing.{closing_none, closing_more}
-use Rattle.order.proofs.rows.paths.Goals.{Else-not-rows_lie}
+use Rattle.order.proofs.Placing.{part_size, part_related, tabled_from}
+use Rattle.order.proofs.Closure.{via_agree}
 use Rattle.order.proofs.rows.paths.Goals as goal
 
--- the table lies in the slice
-lies : (c : Else-not-rows_lie) → c.args.at + 2048 ≤ length c.args.s.now
-lies c = leb-true _ _ (sym c.if-not-rows_lie.ensures)
-
-pub loop-k-preserved : goal.loop-k-preserved
-loop-k-preserved c =
-    let w = c.loop-k in
-    let l = lies (goal.at.loop-k-preserved c).Else-not-rows_lie in
-    closing_more _ _ l _ w.k w.s _ (omega arith) (omega arith) w.auto.s w.invariant c.pass.ensures
-
-pub pass-requires : goal.pass-requires
-pass-requires c =
-    let w = c.loop-k in
-    let l = lies (goal.at.pass-requires c).Else-not-rows_lie in
-    let long = w.auto.s in
-    (omega arith, omega arith, omega arith)
-
-pub returns : goal.returns
-returns c =
-    let w = c.loop-k in
-    let m : c.min-m.result ≡ min c.args.n 128 = omega arith in
-    let k : w.k ≡ min c.args.n 128 = omega arith in
-    rw (k, m) at w.invariant
-
-pub loop-k-init : goal.loop-k-init
-loop-k-init c = closing_none
+pub returns-then-rows_lie : goal.returns-then-rows_lie
+returns-then-rows_lie c =
+    let a = c.args in
+    let xs = a.s.now in
+    let k = a.at + 2048 - a.at in
+    let m = min a.n 128 in
+    let fits : a.at + 2048 ≤ length xs = leb-true _ _ (sym c.if-rows_lie.ensures) in
+    let size : k ≡ 2048 = omega arith in
+    let few : m ≤ 128 = omega arith in
+    let part = part_related a.at k xs fits size in
+    let of = c.paths_of in
+    tabled_from a.at k xs fits size m _ _ of.new.table few of.auto.table (of.ensures (part_size a.at k xs fits size)).1
+    (via_agree m 128 _ _ few (λ x y v w. part x y (omega arith) w) m (omega arith))

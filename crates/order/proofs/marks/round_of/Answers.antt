@@ -9,9 +9,9 @@ use borrow.Author.Rules.{rules}
 use lib.ListN.{get_or}
 use Rattle.order.specs.Closure.{Relation}
 use Rattle.order.specs.Table.{marks, mark, Rows}
-use Rattle.order.proofs.Closure.{rows_none, rows_more}
+use Rattle.order.specs.inner.Rounds.{rows_none, rows_more}
 use Rattle.order.proofs.Stored.{set_row}
-use Rattle.order.proofs.marks.pass.Goals as goal
+use Rattle.order.proofs.marks.round_of.Goals as goal
 
 -- a row that is left is as it was
 same_seat : (h : Relation) (t₀ t : List (List Bool)) (i j : ℕ) → i < 32 → j < 32 → Rows 32 i h (mark t₀) (mark t)
