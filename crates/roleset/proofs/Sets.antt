@@ -16,7 +16,6 @@ use Rattle.search.proofs.Truth.{and_when, among_iff, either}
 use Rattle.search.proofs.Found.{None, some_unless}
 use Rattle.roleset.specs.Row.{AllBytes, bit, role_byte, role_bit, member}
 use Rattle.roleset.specs.Set.{in_set, bits_of, low_of, high_of}
-use Rattle.roleset.specs.inner.Number.{HasRoles}
 use Rattle.roleset.proofs.Bits.{bit_zero, same_bits, little_endian, bit_byte, bytes_below, bits_below, bits_bit, and_none, or_none}
 
 -- ---- the roles of each number
@@ -80,13 +79,6 @@ module _ (row : List ℕ) (bytes : AllBytes row) where
 
   pub second_half : half 1 ≡ high_of (member row 0)
   second_half = half_roles 1 (omega arith)
-
--- the roles of a row are the bits of its bytes
-pub row_roles : (row : List ℕ) → AllBytes row → HasRoles (member row 0) (little_endian 16 (λ k. get_or row k 0))
-unfolding member
-row_roles row bytes r w =
-    let byte : 0 + role_byte r ≡ (r - 1) / 8 = omega arith in
-    bit_byte 16 (λ k. get_or row k 0) bytes (r - 1) (omega arith) ∙ rw ((among_iff 128 r).1 w, byte)
 
 -- ---- sets that meet
 

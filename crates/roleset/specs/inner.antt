@@ -1,2 +1,2 @@
 -- What only contracts between functions cite. No promise rests on it, so a reader need not believe it.
-pub mod Number
+pub mod Bits

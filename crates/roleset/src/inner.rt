@@ -3,7 +3,7 @@ ghost use Rattle.std.specs.Prelude.{◌≡◌, true, false, ◌&&◌, ℕ, lengt
 ghost use Rattle.search.specs.Search.{among, some, first, thing};
 ghost use Rattle.roleset.specs.Row.{whole, member, next_member, Placed, added, removed, united, united_where};
 ghost use Rattle.roleset.specs.Set.{in_set, low_of, high_of};
-ghost use Rattle.roleset.specs.inner.Number.{bit_after, HasRoles};
+ghost use Rattle.roleset.specs.inner.Bits.{bit_after};
 
 use super::{ROLES, ROW_BYTES};
 
@@ -80,8 +80,11 @@ pub fn unite_where(from: &mut [u8], role: usize, other: Row)
     }
 }
 
-// The first half of the row as a number: role r is bit r - 1. Rows are met by their halves, of which
-// the compiler makes one test, and not by numbers of 128 bits, of which it makes two and joins them.
+// The roles of half a row.
+const HALF_ROLES: usize = ROLES / 2;
+
+// The first half of the row as a number: role r is bit r - 1. Rows are met and searched by their
+// halves: by numbers of 128 bits both take half as long again.
 pub fn low_half(row: &Row) -> u64
     ensures { result ≡ low_of (member row.now 0) }
 {
@@ -114,10 +117,10 @@ pub fn meet(row: &Row, other: &Row) -> bool
 }
 
 // The lowest bit above the first `after` that is set in x; bits are counted from 1.
-fn lowest_above(x: u128, after: usize) -> Option<usize>
-    ensures { result ≡ thing (first 128 (bit_after x after)) }
+fn lowest_above(x: u64, after: usize) -> Option<usize>
+    ensures { result ≡ thing (first 64 (bit_after x after)) }
 {
-    if ROLES <= after {
+    if HALF_ROLES <= after {
         return None;
     }
     let rest = x >> after;
@@ -127,15 +130,14 @@ fn lowest_above(x: u128, after: usize) -> Option<usize>
     Some(after + rest.trailing_zeros() as usize + 1)
 }
 
-// The row as a number: role r is bit r - 1.
-fn number(row: &Row) -> u128
-    ensures { HasRoles (member row.now 0) result }
-{
-    u128::from_le_bytes(*row)
-}
-
 pub fn next(row: &Row, after: usize) -> Option<usize>
     ensures { result ≡ thing (next_member row.now 0 after) }
 {
-    lowest_above(number(row), after)
+    match lowest_above(low_half(row), after) {
+        Some(low) => Some(low),
+        None => {
+            let high = lowest_above(high_half(row), after.saturating_sub(HALF_ROLES))?;
+            Some(HALF_ROLES + high)
+        }
+    }
 }
