@@ -6,6 +6,7 @@ ghost use Rattle.rolecheck.specs.Report.{line_with};
 use text::Text;
 
 // Puts the line of a letter and of numbers, each in a field, of which the line has three.
+#[tactic(auto, using(text::proofs::Each::each_none, text::proofs::Each::each_more, crate::proofs::Fields::field_given))]
 pub fn line(text: &mut Text, letter: u8, numbers: &[u64])
     requires { All (λ n. n < 100000) numbers.now }
     ensures { Adds (line_with letter numbers.now) text.old text.new }

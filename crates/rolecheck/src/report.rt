@@ -13,10 +13,12 @@ use text::Text;
 pub const MOST_BYTES: usize = 22 * (2 + 128 + 128 * 128);
 
 // Puts the line of each role of a state.
+#[tactic(auto, using(text::proofs::Each::each_none, text::proofs::Each::each_next))]
 fn role_lines(state: &[u8], text: &mut Text)
     ensures { Adds (role_lines (level_in state.now r_levels_at) (level_in state.now w_levels_at) (role_count state.now)) text.old text.new }
 {
-    for role in 1..=flow::roles(state) {
+    let roles = flow::roles(state);
+    for role in 1..=roles {
         let reads = flow::r_level(state, role);
         let writes = flow::w_level(state, role);
         line(text, b'R', &[role as u64, reads as u64, writes as u64]);
@@ -24,6 +26,7 @@ fn role_lines(state: &[u8], text: &mut Text)
 }
 
 // The line of the flow from a role to another, where there is one.
+#[tactic(auto, using(text::proofs::Added::adds_nothing), unfolding(crate::specs::Report::flow_line))]
 fn flow_line(state: &[u8], from: usize, to: usize, text: &mut Text)
     requires { (from < 100000) × (to < 100000) }
     ensures { Adds (flow_line (flows_in state.now) from to) text.old text.new }
@@ -34,6 +37,7 @@ fn flow_line(state: &[u8], from: usize, to: usize, text: &mut Text)
 }
 
 // The lines of the flows from a role, in rising order.
+#[tactic(auto, using(text::proofs::Each::each_none, text::proofs::Each::each_next))]
 fn flows_from(state: &[u8], from: usize, text: &mut Text)
     requires { from < 100000 }
     ensures { Adds (flows_from (flows_in state.now) (role_count state.now) from) text.old text.new }
@@ -45,15 +49,18 @@ fn flows_from(state: &[u8], from: usize, text: &mut Text)
 }
 
 // The lines of all flows, in rising order.
+#[tactic(auto, using(text::proofs::Each::each_none, text::proofs::Each::each_next))]
 fn flow_lines(state: &[u8], text: &mut Text)
     ensures { Adds (flow_lines (flows_in state.now) (role_count state.now)) text.old text.new }
 {
-    for from in 1..=flow::roles(state) {
+    let roles = flow::roles(state);
+    for from in 1..=roles {
         flows_from(state, from, text);
     }
 }
 
 // Puts what a state holds: its roles, its role flow, and the lowest role on a circle of it.
+#[tactic(auto, using(text::proofs::Added::adds_then, crate::proofs::Counted::thing_or_none, crate::proofs::Counted::few_on_circle), unfolding(crate::specs::Report::policy_lines))]
 fn policy_lines(state: &[u8], text: &mut Text)
     ensures { Adds (state_lines state.now) text.old text.new }
 {

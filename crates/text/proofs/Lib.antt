@@ -1,4 +1,5 @@
 pub mod Padded
+pub mod Filled
 pub mod Added
 pub mod Each
 pub mod Lengths

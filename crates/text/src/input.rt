@@ -7,6 +7,7 @@ use std::io::Read;
 
 // Reads until the buffer is full or the input ends, and answers how many bytes it put at the start.
 // The only error is that of a read; what was read before it stands at the start too.
+#[tactic(auto, using(crate::proofs::Filled::reading))]
 pub fn read_full<R: Read>(input: &mut R, buffer: &mut [u8]) -> io::Result<usize>
     ensures bound { IfOk result (λ n. n ≤ length buffer.new) }
     ensures bytes { IfOk result (λ n. Consumes (R.remaining input.old) (R.remaining input.new) (take n buffer.new)) }

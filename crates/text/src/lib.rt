@@ -51,6 +51,7 @@ impl<'a> Text<'a> {
 
     // Puts the five columns of a number, or blanks for a field without use: a number below 100,000
     // whole, and the last five digits of any other.
+    #[tactic(auto, using(crate::proofs::Padded::as_written_below))]
     pub fn field(&mut self, number: Option<u64>)
         ensures whole { IfSome number (λ n. n < 100000) → Adds (field_columns number) self.old self.new }
         ensures last { Adds (last_columns number) self.old self.new }
@@ -72,6 +73,7 @@ fn digit(n: u64) -> u8
 
 // The five columns of a number, or blanks for a field without use. They hold a number below 100,000
 // whole, and the last five digits of any other.
+#[tactic(auto, using(crate::proofs::Padded::columns_last))]
 fn columns(number: Option<u64>) -> [u8; 5]
     ensures five { 5 ≡ length result }
     ensures columns { result ≡ last_columns number }

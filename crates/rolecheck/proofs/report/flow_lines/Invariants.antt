@@ -7,4 +7,4 @@ use Rattle.rolecheck.specs.Report.{flows_from}
 use Rattle.rolecheck.proofs.report.flow_lines.Given as goal
 
 abbrev pub invariant-loop-from : goal.invariant-loop-from
-invariant-loop-from l = (l.from ≤ l.from-end + 1) × Adds (each (l.from - 1) (flows_from (flows_in l.state) (role_count l.state))) l.initial.text l.text
+invariant-loop-from l = (l.from ≤ l.roles + 1) × Adds (each (l.from - 1) (flows_from (flows_in l.state) (role_count l.state))) l.initial.text l.text
