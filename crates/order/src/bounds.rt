@@ -10,6 +10,7 @@ ghost use Rattle.order.specs.Bound.{upper, least_of, converse, partner_without_b
 ghost use Rattle.order.specs.Table.{marks, mark};
 ghost use Rattle.order.specs.inner.Members.{holds, Has, FirstThings, row_holds, in_row};
 
+use super::marks;
 use super::marks::{Set, THINGS, Table};
 
 // A set of things: thing a is bit a - 1.
@@ -30,21 +31,18 @@ fn put(s: Members, i: usize, on: bool) -> Members
 pub fn with(s: Members, a: usize, on: bool) -> Members
     ensures { Has (λ b. holds s b || (on && eqb a b)) result }
 {
-    if !search::among(THINGS as u64, a as u64) {
-        return s;
+    match marks::place(a) {
+        Some(i) => put(s, i, on),
+        None => s,
     }
-    put(s, a - 1, on)
 }
-
-// The set of all 32 things.
-const ALL: Members = 0xFFFF_FFFF;
 
 // The set of the first n things.
 pub fn first_things(n: usize) -> Members
     ensures { FirstThings n result }
 {
     if THINGS <= n {
-        return ALL;
+        return u32::MAX;
     }
     (1 << n) - 1
 }
@@ -84,6 +82,7 @@ fn spread(t: MemberRows, row: Set, i: usize) -> MemberRows
 }
 
 // The columns of a table, each as a number, of which the first n rows count: the rows of the relation turned round.
+// Not `rows` of a table turned round: marks are read along the rows here too, a row spread over all columns at once.
 pub fn columns(t: &Table, n: usize) -> MemberRows
     ensures { Agree 32 32 (row_holds result) (λ a b. leb b n && mark t.now b a) }
 {
@@ -100,10 +99,10 @@ pub fn columns(t: &Table, n: usize) -> MemberRows
 pub fn row(t: &MemberRows, a: usize) -> Members
     ensures { Has (in_row t.now a) result }
 {
-    if !search::among(THINGS as u64, a as u64) {
-        return 0;
+    match marks::place(a) {
+        Some(i) => t[i],
+        None => 0,
     }
-    t[a - 1]
 }
 
 // Whether the set has a thing.
@@ -129,6 +128,9 @@ fn within(s: Members, t: Members) -> bool
 
 // The greatest of the set. Where several are over all of it, the lowest number of them. They are tried in
 // turn, the lowest that is left first.
+//
+// A `for` over the things of a set would need an iterator of bits, and that is this loop again in an impl with its
+// laws: of `greatest` and of `lower_bounds` no line would go.
 fn greatest(t: &MemberRows, s: Members) -> Option<usize>
     ensures { result ≡ thing (least_of 32 (converse (row_holds t.now)) (holds s)) }
 {

@@ -1,6 +1,6 @@
 // A relation among up to 32 things as 32 rows by 32 marks, and sets of such things as 32 marks.
-ghost use Rattle.std.specs.Prelude.{◌≡◌, ◌&&◌, ◌||◌, ◌+◌, ◌≤◌, ◌<◌, min, eqb, length};
-ghost use Rattle.search.specs.Search.{thing};
+ghost use Rattle.std.specs.Prelude.{◌≡◌, ◌&&◌, ◌||◌, ◌+◌, ◌≤◌, ◌<◌, min, eqb, length, MatchOption};
+ghost use Rattle.search.specs.Search.{thing, Among};
 ghost use Rattle.order.specs.Closure.{path, loop, round, with_itself};
 ghost use Rattle.order.specs.Table.{marks, mark, Upto, Rows};
 ghost use Rattle.order.specs.inner.Rounds.{BecomesMarks, LinksMarks, marks_before, marks_round, marks_unlinked, marks_link};
@@ -22,6 +22,16 @@ pub fn lesser(n: usize, most: usize) -> usize
     ensures { result ≡ min n most }
 {
     n.min(most)
+}
+
+// The index of thing a, if it is one of the 32.
+pub(super) fn place(a: usize) -> Option<usize>
+    ensures { MatchOption result (Among 32 a → ⊥) (λ i. (i < 32) × (a ≡ i + 1)) }
+{
+    match a.checked_sub(1) {
+        Some(i) if i < THINGS => Some(i),
+        _ => None,
+    }
 }
 
 // The row with the marks of `other` too, where `on`.
@@ -51,11 +61,10 @@ fn round_of(t: &mut Table, k: usize, n: usize)
 pub fn with_mark(row: Set, b: usize) -> Set
     ensures { Upto 32 (λ y. eqb b y || marks row y) result }
 {
-    if !search::among(THINGS as u64, b as u64) {
-        return row;
-    }
     let mut r = row;
-    r[b - 1] = true;
+    if let Some(i) = place(b) {
+        r[i] = true;
+    }
     r
 }
 

@@ -1,13 +1,8 @@
 -- `at + 16 * n ≤ len` is `at ≤ len - 16 * n` where `len` is at least `16 * n`, and fails where it is less.
 use Prim.Native.Nat.{◌+◌, ◌-◌, ◌*◌}
-use mathlib.Core.Path.{sym}
 use native.Mathlib.Omega.{arith}
-use borrow.Author.Tests.{lt-leb}
 use Rattle.search.proofs.Truth.{leb_same}
 use Rattle.roleset.proofs.rows_lie.Goals as goal
-
-pub returns-then-len-n : goal.returns-then-len-n
-returns-then-len-n c = let a = c.args in sym (lt-leb (a.at + 16 * a.n) a.len (omega arith))
 
 pub returns : goal.returns
 returns c =

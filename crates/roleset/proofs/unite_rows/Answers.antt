@@ -2,7 +2,7 @@
 use Rattle.std.proofs.Common.{ℕ, ◌+◌, ◌*◌, ◌≤◌, ◌≡◌, ◌∙◌, refl, sym, inr, length, arith}
 use borrow.Author.Tests.{leb-true}
 use Rattle.roleset.specs.Row.{member}
-use Rattle.roleset.proofs.Rows.{row_kept, rows_unwritten, rows_more, no_rows, where_front, placed_from}
+use Rattle.roleset.proofs.Rows.{row_kept, rows_more, where_front, placed_from}
 use Rattle.roleset.proofs.unite_rows.Goals.{Else-not-rows_lie}
 use Rattle.roleset.proofs.unite_rows.Goals as goal
 
@@ -20,15 +20,3 @@ loop-i-preserved c =
     rows_more (omega arith) w.auto.s w.invariant
     (placed_from at _ w.s here (omega arith) c.unite_where.new.from c.unite_where.auto.from c.unite_where.ensures (λ r. refl))
     (λ r. where_front at _ w.s here (omega arith) a.role a.other r ∙ rw (left r, left a.role))
-
-pub loop-i-init : goal.loop-i-init
-loop-i-init c = rows_unwritten (λ l i m. absurd (omega arith))
-
-pub returns : goal.returns
-returns c =
-    let w = c.loop-i in
-    let q : w.i ≡ c.args.n = omega arith in
-    rw q at w.invariant
-
-pub returns-then-not-rows_lie : goal.returns-then-not-rows_lie
-returns-then-not-rows_lie c = no_rows (sym c.if-not-rows_lie.ensures)

@@ -1,13 +1,13 @@
 -- Each turn puts one thing more into the columns, where it has a mark in its row.
-use Prim.Native.Nat.{ℕ, ◌-◌, min}
-use mathlib.Core.Path.{◌≡◌, ◌∙◌}
+use Prim.Native.Nat.{ℕ, ◌-◌}
+use mathlib.Core.Path.{◌∙◌}
 use native.Mathlib.Nat.{add-sub_cancel}
 use native.Mathlib.Omega.{arith}
 use borrow.Author.Tests.{lt-leb}
 use lib.ListN.{get_or-replicate}
 use Rattle.roleset.proofs.Bits.{bit_zero}
 use Rattle.order.specs.Table.{mark}
-use Rattle.order.proofs.Stored.{put_more, all_put}
+use Rattle.order.proofs.Stored.{put_more}
 use Rattle.order.proofs.bounds.columns.Goals as goal
 
 pub loop-i-init : goal.loop-i-init
@@ -18,10 +18,3 @@ loop-i-preserved c a b v u =
     let t = c.args.t.now in
     let w = c.loop-i in
     c.spread-wider.ensures a b v u ∙ rw (w.invariant a b v u) (rw (add-sub_cancel w.i 1) at (put_more (λ x. mark t x a) w.i b))
-
-pub returns : goal.returns
-returns c a b v u =
-    let n = c.args.n in
-    let w = c.loop-i in
-    let all : w.i ≡ min n 32 = omega arith in
-    w.invariant a b v u ∙ rw (all, all_put n b u)

@@ -15,7 +15,7 @@ use Rattle.search.proofs.Thing.{thing_none, thing_some}
 use Rattle.roleset.proofs.Bits.{bit_zero}
 use Rattle.order.specs.Bound.{is_least, least_of, upper}
 use Rattle.order.specs.inner.Members.{holds}
-use Rattle.order.proofs.Left.{Left, all_left, lowest, dropped, lowest_within, lowest_left, none_lower, still, fewer, still_left}
+use Rattle.order.proofs.Left.{Left, all_left, lowest, dropped, lowest_within, lowest_left, none_lower, still, still_left}
 use Rattle.order.proofs.bounds.greatest.Invariants.{leader, Tried}
 use Rattle.order.proofs.bounds.greatest.Goals.{After-within}
 use Rattle.order.proofs.bounds.greatest.Goals as goal
@@ -80,15 +80,3 @@ returns c =
 
 pub loop-rest-init : goal.loop-rest-init
 loop-rest-init c = (all_left _ (omega arith), none_tried c.args.t.now _)
-
-pub overflow_cast-c : goal.overflow_cast-c
-overflow_cast-c c = omega (arith, lowest_within c.loop-rest.invariant.0 (λ z. omega arith))
-
-pub offset_bounds-t-c : goal.offset_bounds-t-c
-offset_bounds-t-c c = omega (arith, lowest_within c.loop-rest.invariant.0 (λ z. omega arith))
-
-pub overflow_add-result : goal.overflow_add-result
-overflow_add-result c = omega (arith, lowest_within c.loop-rest.invariant.0 (λ z. omega arith))
-
-pub loop-rest-smaller : goal.loop-rest-smaller
-loop-rest-smaller c = fewer c.loop-rest.invariant.0 (λ z. omega arith)

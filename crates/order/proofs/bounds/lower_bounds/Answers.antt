@@ -15,7 +15,7 @@ use Rattle.search.proofs.Found.{every_agree, every_in, every_with}
 use Rattle.roleset.proofs.Bits.{bit_and_lem, bit_zero}
 use Rattle.order.specs.Bound.{upper}
 use Rattle.order.specs.inner.Members.{holds, row_holds}
-use Rattle.order.proofs.Left.{Left, all_left, lowest, dropped, lowest_within, lowest_left, still, fewer, still_left}
+use Rattle.order.proofs.Left.{Left, all_left, lowest, dropped, lowest_within, lowest_left, still, still_left}
 use Rattle.order.proofs.bounds.lower_bounds.Invariants.{Taken, Under}
 use Rattle.order.proofs.bounds.lower_bounds.Goals as goal
 
@@ -70,12 +70,3 @@ returns c x v =
 
 pub loop-rest-init : goal.loop-rest-init
 loop-rest-init c = (all_left _ (omega arith), λ x v. rw (none_taken _ _ x) (sym (and-true _)))
-
-pub overflow_cast-r : goal.overflow_cast-r
-overflow_cast-r c = omega (arith, lowest_within c.loop-rest.invariant.0 (λ z. omega arith))
-
-pub offset_bounds-t-rest : goal.offset_bounds-t-rest
-offset_bounds-t-rest c = omega (arith, lowest_within c.loop-rest.invariant.0 (λ z. omega arith))
-
-pub loop-rest-smaller : goal.loop-rest-smaller
-loop-rest-smaller c = fewer c.loop-rest.invariant.0 (λ z. omega arith)

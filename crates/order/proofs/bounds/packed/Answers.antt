@@ -1,10 +1,8 @@
 -- Each turn puts one thing more, where it has a mark.
 use mathlib.Core.Path.{◌∙◌}
 use native.Mathlib.Nat.{add-sub_cancel}
-use native.Mathlib.Omega.{arith}
-use borrow.Author.Tests.{le-leb}
 use Rattle.order.specs.Table.{marks}
-use Rattle.order.proofs.Stored.{put_none, put_more}
+use Rattle.order.proofs.Stored.{put_more}
 use Rattle.order.proofs.bounds.packed.Goals as goal
 
 pub loop-j-preserved : goal.loop-j-preserved
@@ -12,9 +10,3 @@ loop-j-preserved c =
     let row = c.args.row in
     let w = c.loop-j in
     λ b v. c.put-r.ensures b v ∙ rw (w.invariant b v) (rw (add-sub_cancel w.j 1) at (put_more (marks row) w.j b))
-
-pub returns : goal.returns
-returns c b v = c.loop-j.invariant b v ∙ rw (le-leb b c.loop-j.j (omega arith))
-
-pub loop-j-init : goal.loop-j-init
-loop-j-init c = λ b v. put_none b _ v.0

@@ -9,7 +9,7 @@ use borrow.Author.Tests.{le-leb, lt-leb}
 use lib.ListN.{get_or-replicate}
 use Rattle.roleset.proofs.Bits.{bit_zero}
 use Rattle.order.specs.inner.Members.{holds}
-use Rattle.order.specs.inner.Rounds.{rows_none, rows_more}
+use Rattle.order.specs.inner.Rounds.{rows_more}
 use Rattle.order.proofs.Stored.{set_row}
 use Rattle.order.proofs.bounds.rows.Goals as goal
 
@@ -29,6 +29,3 @@ returns c a b v u =
       | yes l ↦ done.done a b (omega arith) u ∙ rw (le-leb a n l)
       | no l ↦ done.left a b (omega arith) v.1 u ∙ rw (lt-leb a n (omega arith), get_or-replicate {A = ℕ} 32 (a - 1) 0 0 (omega arith)) (bit_zero (b - 1))
     ]
-
-pub loop-i-init : goal.loop-i-init
-loop-i-init c = (search rules, rows_none _ _ _)

@@ -2,7 +2,7 @@
 use native.Mathlib.Nat.{add-sub_cancel}
 use borrow.Author.Rules.{rules}
 use Rattle.order.specs.inner.Members.{holds}
-use Rattle.order.specs.inner.Rounds.{rows_none, rows_more}
+use Rattle.order.specs.inner.Rounds.{rows_more}
 use Rattle.order.proofs.Stored.{set_row}
 use Rattle.order.proofs.bounds.spread.Goals as goal
 
@@ -13,6 +13,3 @@ loop-j-preserved c =
       rows_more 32 _ _ w.j _ _ (search rules) w.invariant.1
           (set_row holds 0 _ w.r w.j c.put.result (search rules) (simp (add-sub_cancel w.j 1) c.put.ensures)),
     )
-
-pub loop-j-init : goal.loop-j-init
-loop-j-init c = (search rules, rows_none _ _ _)

@@ -1,7 +1,7 @@
 -- A search among the first n things.
 use Rattle.std.proofs.Common.{sym, arith}
 use Rattle.search.proofs.Found.{first_yet, first_more}
-use Rattle.search.proofs.Thing.{thing_found, thing_vain}
+use Rattle.search.proofs.Thing.{thing_found}
 use Rattle.order.proofs.closing.lowest_loop.Goals as goal
 
 pub loop-i-init : goal.loop-i-init
@@ -12,6 +12,3 @@ returns-then-loops g c = let w = c.loop-i in thing_found _ _ w.i (omega arith) w
 
 pub loop-i-preserved : goal.loop-i-preserved
 loop-i-preserved g c = let w = c.loop-i in first_more _ w.i w.invariant (sym c.if-loops.ensures)
-
-pub returns : goal.returns
-returns g c = let w = c.loop-i in thing_vain _ (omega arith) w.invariant

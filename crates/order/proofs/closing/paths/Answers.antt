@@ -1,5 +1,5 @@
 -- Each round lets paths pass one thing more.
-use Rattle.std.proofs.Common.{ℕ, ◌+◌, ◌≡◌, min, add-one, arith}
+use Rattle.std.proofs.Common.{ℕ, ◌+◌, ◌≡◌, add-one, arith}
 use Rattle.order.specs.Closure.{Relation, via, round}
 use Rattle.order.proofs.closing.paths.Goals as goal
 
@@ -15,10 +15,3 @@ pub loop-k-preserved : goal.loop-k-preserved
 loop-k-preserved g c =
     let w = c.loop-k in
     rw via_next (g.met.T.Closing.after_round _ w.k _ _ _ _ (omega arith) (omega arith) w.invariant c.pass.ensures)
-
-pub returns : goal.returns
-returns g c =
-    let w = c.loop-k in
-    let m : c.min-m.result ≡ min c.args.n g.T.Closing.ROOM = omega arith in
-    let k : w.k ≡ min c.args.n g.T.Closing.ROOM = omega arith in
-    rw (k, m) at w.invariant

@@ -2,9 +2,6 @@
 use Rattle.std.proofs.Common.{◌≡◌, min, arith}
 use Rattle.order.proofs.closing.reflect.Goals as goal
 
-pub loop-i-init : goal.loop-i-init
-loop-i-init g c = g.met.T.Closing.before_links _
-
 pub loop-i-preserved : goal.loop-i-preserved
 loop-i-preserved g c = let w = c.loop-i in g.met.T.Closing.after_link w.i _ _ _ (omega arith) w.invariant c.link.ensures
 

@@ -9,7 +9,7 @@ use borrow.Author.Rules.{rules}
 use lib.ListN.{get_or}
 use Rattle.order.specs.Closure.{Relation}
 use Rattle.order.specs.Table.{marks, mark, Rows}
-use Rattle.order.specs.inner.Rounds.{rows_none, rows_more}
+use Rattle.order.specs.inner.Rounds.{rows_more}
 use Rattle.order.proofs.Stored.{set_row}
 use Rattle.order.proofs.marks.round_of.Goals as goal
 
@@ -30,12 +30,3 @@ loop-i-preserved c =
           (set_row marks [] _ w.t w.i c.stepped.result (search rules) (λ b v.
           simp (add-sub_cancel w.i 1, add-sub_cancel a.k 1) (c.stepped.ensures b v ∙ rw (seat (b - 1) (omega arith), seat a.k (search rules))))),
     )
-
-pub returns : goal.returns
-returns c =
-    let w = c.loop-i in
-    let q : w.i ≡ c.args.n = omega arith in
-    (w.invariant.0, rw q at w.invariant.1)
-
-pub loop-i-init : goal.loop-i-init
-loop-i-init c = (search rules, rows_none _ _ _)

@@ -3,11 +3,8 @@ use Rattle.std.proofs.Common.{ℕ, ◌≡◌, get_or, bit_or, zero-add, arith, a
 use mathlib.Core.Bool.{and-or_distrib_left}
 use Rattle.roleset.specs.Row.{member}
 use Rattle.roleset.proofs.Bits.{bit_or_lem}
-use Rattle.roleset.proofs.Rows.{write_none, write_more, write_all}
+use Rattle.roleset.proofs.Rows.{write_more, write_all}
 use Rattle.roleset.proofs.inner.join.Goals as goal
-
-pub loop-i-init : goal.loop-i-init
-loop-i-init c = write_none
 
 pub loop-i-preserved : goal.loop-i-preserved
 loop-i-preserved c =

@@ -1,0 +1,5 @@
+-- The slice is the table.
+use Rattle.order.proofs.rows.reflect_of.Goals as goal
+
+pub returns-in-Some : goal.returns-in-Some
+returns-in-Some c = rw c.in-Some.ensures.cases.same at c.reflect.ensures
