@@ -58,10 +58,11 @@ fn byte(on: bool) -> u8
     if on { layout::MARK } else { 0 }
 }
 
-// Puts a row of marks at `at`, a byte for each.
-fn put_row(s: &mut State, at: usize, row: &Set)
+// Puts a row of marks at `at`, a byte for each. The row comes by value, so that the compiler sees that
+// no byte of it is the state's, and moves many at once.
+fn put_row(s: &mut State, at: usize, row: Set)
     requires { at + 32 ≤ state_size }
-    ensures { Bytes at 32 (λ b. cond (marks row.now b) 1 0) s.old s.new }
+    ensures { Bytes at 32 (λ b. cond (marks row b) 1 0) s.old s.new }
 {
     for j in 0..layout::LABELS {
         s[at + j] = byte(row[j]);
@@ -73,6 +74,6 @@ pub fn put_table(s: &mut State, t: &Table)
     ensures { DominanceRows 32 t.now s.old s.new }
 {
     for i in 0..layout::LABELS {
-        put_row(s, layout::DOMINANCE_AT + layout::LABELS * i, &t[i]);
+        put_row(s, layout::DOMINANCE_AT + layout::LABELS * i, t[i]);
     }
 }

@@ -11,7 +11,7 @@ loop-j-preserved c =
     write_more w.invariant (search rules) (simp (add-sub_cancel w.j 1) c.byte.ensures)
 
 pub returns : goal.returns
-returns c = all_stored (byte_at c.args.row.now) c.loop-j.invariant (omega arith)
+returns c = all_stored (byte_at c.args.row) c.loop-j.invariant (omega arith)
 
 pub loop-j-init : goal.loop-j-init
 loop-j-init c = write_none
