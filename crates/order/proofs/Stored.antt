@@ -1,5 +1,5 @@
 -- What a loop stores from the front, one a turn: marks in a set, rows in a table, and things in a set that is a number. Assumes nothing.
-use Prim.Native.Nat.{ℕ, ◌+◌, ◌-◌, ◌≤◌, ◌<◌, min}
+use Prim.Native.Nat.{ℕ, ◌+◌, ◌-◌, ◌≤◌, ◌<◌}
 use mathlib.Core.Path.{◌≡◌, refl, ◌∙◌}
 use mathlib.Core.Bool.{Bool, true, false, ◌&&◌, ◌||◌, and-true, and-false, or-false}
 use mathlib.Core.List.{List}
@@ -61,7 +61,3 @@ put_more f i b = elim (ℕ_discrete b (i + 1)) [
       rw (ne_eqb (i + 1) b (λ e. q (omega arith)), and-false (f (i + 1)), leb_same b i b (i + 1) (λ l. omega arith) (λ l. omega arith))
       (or-false (leb b (i + 1) && f b))
 ]
-
--- all of the 32 that come up to n have had their turn
-pub all_put : (n b : ℕ) → Among 32 b → leb b (min n 32) ≡ leb b n
-all_put n b w = leb_same b (min n 32) b n (λ l. omega arith) (λ l. omega arith)

@@ -1,6 +1,6 @@
 -- Rows as sets: what a row holds after its bytes are changed, and that `Placed` settles every byte and leaves the other rows alone.
 -- Assumes nothing.
-use Rattle.std.proofs.Common.{ℕ, ◌+◌, ◌-◌, ◌*◌, ◌%◌, ◌^◌, ◌≤◌, ◌<◌, ◌≡◌, refl, sym, ap, ◌∙◌, ◌⊎◌, inl, inr, Bool, true, false, ◌&&◌, cond, List, ◌++◌, take, drop, length, get_or, set, replicate, eqb, leb, bit_or, bit_xor, zero-add, length-drop, arith}
+use Rattle.std.proofs.Common.{ℕ, ◌+◌, ◌-◌, ◌*◌, ◌%◌, ◌^◌, ◌≤◌, ◌<◌, ◌≡◌, refl, sym, ap, ◌∙◌, ◌⊎◌, inl, inr, Bool, true, false, ◌&&◌, cond, List, ◌++◌, take, drop, length, get_or, set, replicate, eqb, bit_or, bit_xor, zero-add, length-drop, arith}
 use Rattle.std.proofs.lemmas.List.{get_or-take, get_or-drop, get_or_append_left, get_or-append-add, length-take}
 use Rattle.std.proofs.Math.Seq.{get_or-append_right, get_or-set_same, get_or-set_other, ext_get_or}
 use mathlib.Core.Logic.{⊎_elim}
@@ -12,7 +12,7 @@ use borrow.Rule.Slice.PartMut.{mid_of, put_mid}
 use borrow.Author.Tests.{le-leb, eq-eqb, ne_eqb}
 use Rattle.std.specs.Array.{IsFirstChunk}
 use Rattle.search.specs.Search.{among, Among}
-use Rattle.search.proofs.Truth.{and-iff, and_when, among_iff, both}
+use Rattle.search.proofs.Truth.{and-iff, and_when, among_iff}
 use Rattle.roleset.specs.Row.{AllBytes, bit, row_of, role_byte, role_bit, whole, member, added, removed, united_where, RowCopy, Kept, Placed, PlacedRows}
 use Rattle.roleset.proofs.Bits.{bit_zero, bit_on, bit_off, same_bits}
 
@@ -102,9 +102,6 @@ module _ (at : ℕ) (s : ℕ → Bool) (xs ys zs : List ℕ) (p : Placed at s xs
 -- nothing is written
 pub unwritten : {at : ℕ} {s : ℕ → Bool} {xs : List ℕ} → (at + 16 ≤ length xs → (r : ℕ) → member xs at r ≡ s r) → Placed at s xs xs
 unwritten h = record { row = h; rest = λ i o. refl; none = λ l. refl }
-
-pub no_row : {at : ℕ} {s : ℕ → Bool} {xs : List ℕ} → whole xs at ≡ false → Placed at s xs xs
-no_row e = unwritten (λ l. absurd (both (le-leb _ _ l) e))
 
 -- the same set by another name
 pub placed_as : {at : ℕ} {s t : ℕ → Bool} {xs ys : List ℕ} → ((r : ℕ) → s r ≡ t r) → Placed at s xs ys → Placed at t xs ys
@@ -200,9 +197,6 @@ kept_more a b i v xs ys l m k j o = get_or-set_other ys i j v 0 (λ e. omega (ar
 pub rows_unwritten : {at n : ℕ} {s : ℕ → ℕ → Bool} {xs : List ℕ}
     → (at + 16 * n ≤ length xs → (i : ℕ) → i < n → (r : ℕ) → member xs (at + 16 * i) r ≡ s i r) → PlacedRows at n s xs xs
 rows_unwritten h = record { rows = h; rest = λ i o. refl; none = λ l. refl }
-
-pub no_rows : {at n : ℕ} {s : ℕ → ℕ → Bool} {xs : List ℕ} → leb (at + 16 * n) (length xs) ≡ false → PlacedRows at n s xs xs
-no_rows e = rows_unwritten (λ l. absurd (both (le-leb _ _ l) e))
 
 -- the row after them is placed too
 pub rows_more : {at i : ℕ} {s : ℕ → ℕ → Bool} {t : ℕ → Bool} {xs ys zs : List ℕ} → at + 16 * (i + 1) ≤ length xs → length ys ≡ length xs
