@@ -1,14 +1,7 @@
 -- `monitor_can` by the settings, and by the session calls: its figure is 1 exactly when some role lets an opening, a taking and a use of the card through. Assumes nothing.
-use Prim.Native.Nat.{ℕ, zero, suc, ◌*◌, ◌≤◌}
-use mathlib.Core.Path.{◌≡◌, refl, sym, ap, ◌∙◌}
-use mathlib.Core.Logic.{◌↔◌, inr, ⊎_elim}
-use mathlib.Core.List.{List, []}
-use mathlib.Core.Bool.{Bool, true, false, ◌&&◌, cond, false≢true}
+use Rattle.std.proofs.Common.{ℕ, zero, suc, ◌*◌, ◌≤◌, ◌≡◌, refl, sym, ap, ◌∙◌, ◌↔◌, inr, ⊎_elim, List, [], Bool, true, false, ◌&&◌, cond, arith, eqb, length, le-leb, eqb-true, eq-eqb}
+use mathlib.Core.Bool.{false≢true}
 use mathlib.Core.Option.{some, some-injective}
-use native.Mathlib.Omega.{arith}
-use lib.Dec.{eqb}
-use lib.ListN.{length}
-use borrow.Author.Tests.{le-leb, eqb-true, eq-eqb}
 use Rattle.search.specs.Search.{among, Among}
 use Rattle.search.proofs.Truth.{or_iff, and-iff, among_iff}
 use Rattle.search.proofs.Found.{some_agree, some_both}

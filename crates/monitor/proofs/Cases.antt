@@ -1,6 +1,6 @@
 -- The definitions find of each case of `Cases` what it expects: one test, computed over the whole table, and one lemma. Assumes nothing.
-use mathlib.Core.Path.{◌≡◌, refl}
-use mathlib.Core.List.{List, [], ◌∷◌, map, Memᴰ}
+use Rattle.std.proofs.Common.{◌≡◌, refl, List, [], ◌∷◌, map}
+use mathlib.Core.List.{Memᴰ}
 use Rattle.search.specs.Search.{some, every, first}
 use Rattle.order.specs.Closure.{via}
 use Rattle.order.specs.Bound.{upper, is_least, least_of, lub, pair_without_bound, partner_without_bound, lowest_without_bound}

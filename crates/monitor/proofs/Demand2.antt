@@ -1,12 +1,7 @@
 -- Demand 2's session half: on every state that a load of an accepted file and any calls left, each call is answered as the settings and what stands after the calls so far say. Each call keeps
 -- the state standing for the sessions, and a load's image stands for none. Assumes nothing.
-use Prim.Native.Nat.{ℕ, ◌≤◌}
-use mathlib.Core.Path.{◌≡◌, refl, sym, ◌∙◌}
-use mathlib.Core.List.{List, ◌∷◌, []}
-use mathlib.Core.Bool.{Bool, true, cond}
+use Rattle.std.proofs.Common.{ℕ, ◌≤◌, ◌≡◌, refl, sym, ◌∙◌, List, ◌∷◌, [], Bool, true, cond, arith, length}
 use mathlib.Core.Option.{Option, none, some, map}
-use native.Mathlib.Omega.{arith}
-use lib.ListN.{length}
 use Rattle.search.specs.Search.{among, Among}
 use Rattle.search.proofs.Truth.{among_iff, either}
 use Rattle.rolefile.specs.Said.{roles, assigned}

@@ -1,11 +1,8 @@
 -- A row that is filled one role after the other: so far it has those up to i of which p holds. Assumes nothing.
-use Prim.Native.Nat.{ℕ, ◌+◌, ◌≤◌}
-use mathlib.Core.Path.{◌≡◌, refl, sym, ap}
-use mathlib.Core.Bool.{Bool, true, false, ◌&&◌, ◌||◌, and-true, and-false, or-false}
-use native.Mathlib.Omega.{arith}
+use Rattle.std.proofs.Common.{ℕ, ◌+◌, ◌≤◌, ◌≡◌, refl, sym, ap, Bool, true, false, ◌&&◌, ◌||◌, arith, le-leb, leb-true, eq-eqb, ne_eqb, leb, eqb}
+use mathlib.Core.Bool.{and-true, and-false, or-false}
 use native.Mathlib.Decide.{ℕ_discrete}
-use borrow.Author.Tests.{le-leb, lt-leb, leb-true, eq-eqb, ne_eqb}
-use lib.Dec.{leb, eqb}
+use borrow.Author.Tests.{lt-leb}
 use Rattle.search.specs.Search.{among}
 use Rattle.search.proofs.Truth.{and-iff, among_iff, untrue, leb_same}
 

@@ -1,11 +1,7 @@
 -- A list with bytes written over it: as long as before, with those bytes where they were put and every other byte as it was. Assumes nothing.
-use Prim.Native.Nat.{ℕ, ◌+◌, ◌-◌, ◌≤◌, ◌<◌}
-use mathlib.Core.Path.{◌≡◌, sym, ap, ◌∙◌}
-use mathlib.Core.List.{List, ◌++◌}
-use native.Mathlib.Omega.{arith}
+use Rattle.std.proofs.Common.{ℕ, ◌+◌, ◌-◌, ◌≤◌, ◌<◌, ◌≡◌, sym, ap, ◌∙◌, List, ◌++◌, arith, length, take, drop, get_or, length-append, length-drop, length-take-le, get_or-take, get_or-drop, get_or-append-add}
 use native.Mathlib.Decide.{dec_lt}
-use lib.ListN.{length, take, drop, get_or, length-append, length-drop, get_or-append}
-use lib.Seq.{length-take-le, get_or-take, get_or-drop, get_or-append-add}
+use lib.ListN.{get_or-append}
 use Rattle.roleset.specs.Row.{Kept}
 use Rattle.monitor.specs.Calls.{written}
 

@@ -1,12 +1,7 @@
 -- The rules answer 0 exactly where `Granted` holds, and so do the exported functions on every state that a load of the file and calls left. Assumes nothing.
-use Prim.Native.Nat.{ℕ, ◌+◌, ◌*◌}
-use mathlib.Core.Path.{◌≡◌, refl, sym, ◌∙◌}
-use mathlib.Core.Logic.{◌↔◌}
-use mathlib.Core.List.{List}
-use mathlib.Core.Bool.{true, false≢true}
+use Rattle.std.proofs.Common.{ℕ, ◌+◌, ◌*◌, ◌≡◌, refl, sym, ◌∙◌, ◌↔◌, List, true, length, le-leb}
+use mathlib.Core.Bool.{false≢true}
 use mathlib.Core.Option.{Option, none, some}
-use lib.ListN.{length}
-use borrow.Author.Tests.{le-leb}
 use Rattle.search.specs.Search.{Among}
 use Rattle.search.proofs.Truth.{and_both, among_iff}
 use Rattle.search.proofs.Found.{some_both}

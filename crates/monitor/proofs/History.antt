@@ -1,15 +1,10 @@
 -- Which places are open and what is held, by the calls: a session is at a place exactly since an opening that was done, and holds a role exactly since a taking that was done. Each
 -- call begins such a thing, ends it or leaves it, and the rest is induction along the list. Assumes nothing.
-use Prim.Native.Nat.{ℕ, zero, suc}
-use mathlib.Core.Path.{◌≡◌, refl, ap, ◌∙◌}
-use mathlib.Core.Logic.{◌↔◌, ◌⊎◌, inl, inr, ⊎_elim}
-use mathlib.Core.List.{List, [], ◌∷◌, ◌++◌}
-use mathlib.Core.Bool.{Bool, true, false, not, ◌&&◌, false≢true, and-false}
+use Rattle.std.proofs.Common.{ℕ, zero, suc, ◌≡◌, refl, ap, ◌∙◌, ◌↔◌, ◌⊎◌, inl, inr, ⊎_elim, List, [], ◌∷◌, ◌++◌, Bool, true, false, not, ◌&&◌, arith, eqb, eqb-true, eq-eqb, ne_eqb}
+use mathlib.Core.Bool.{false≢true, and-false}
 use mathlib.Core.Option.{Option, none, some, map}
-use native.Mathlib.Omega.{arith}
 use native.Mathlib.Decide.{ℕ_discrete}
-use lib.Dec.{eqb}
-use borrow.Author.Tests.{eqb-true, eq-eqb, ne_eqb, not-true}
+use borrow.Author.Tests.{not-true}
 use Rattle.search.specs.Search.{Among}
 use Rattle.search.proofs.Truth.{or_iff, and-iff, among_iff, untrue, both, eqb_swap}
 use Rattle.order.specs.Closure.{Relation}

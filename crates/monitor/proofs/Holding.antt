@@ -1,15 +1,9 @@
 -- A row with one role more, or one less, is the row with one byte changed: `Placed` leaves no other choice. Assumes nothing.
-use Prim.Native.Nat.{ℕ, ◌+◌, ◌^◌, ◌≤◌, ◌<◌}
-use mathlib.Core.Path.{◌≡◌, refl, sym}
-use mathlib.Core.Bool.{Bool, true, false, cond, or-false, and-false}
-use mathlib.Core.List.{List}
-use native.Mathlib.Omega.{arith}
+use Rattle.std.proofs.Common.{ℕ, ◌+◌, ◌^◌, ◌≤◌, ◌<◌, ◌≡◌, refl, sym, Bool, true, false, cond, List, arith, ne_eqb, length, get_or, set, length-set, get_or-set_same, get_or-set_other}
+use mathlib.Core.Bool.{or-false, and-false}
 use native.Mathlib.Decide.{ℕ_discrete}
-use borrow.Author.Tests.{ne_eqb}
 use lib.Bits.{bit_or, bit_xor, or_lt, xor_lt}
-use lib.ListN.{length, get_or, set, length-set}
 use lib.Pow.{pow-lt}
-use lib.Seq.{get_or-set_same, get_or-set_other}
 use Rattle.search.specs.Search.{among, Among}
 use Rattle.search.proofs.Truth.{either, either_by}
 use Rattle.roleset.specs.Row.{AllBytes, member, Placed, added, removed, role_byte, role_bit}

@@ -1,9 +1,7 @@
 -- What is put at a place is there, and nothing changes at another. Assumes nothing.
-use Prim.Native.Nat.{ℕ}
-use mathlib.Core.Path.{◌≡◌, refl, sym}
+use Rattle.std.proofs.Common.{ℕ, ◌≡◌, refl, sym, eq-eqb, ne_eqb}
 use mathlib.Core.Option.{Option}
 use native.Mathlib.Decide.{ℕ_discrete}
-use borrow.Author.Tests.{eq-eqb, ne_eqb}
 use Rattle.monitor.specs.Places.{Places, put}
 
 -- what holds of x at place p, and at each other place of what it has, holds at every place once x is put at p

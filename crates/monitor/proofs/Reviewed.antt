@@ -1,15 +1,8 @@
 -- The review calls in the file's terms, on every state that a load of an accepted file and any calls left: `…-answers`. None is answered with 21. What the roles that a user may take at a
 -- label give is what `monitor_can` answers, on every state (`can_gives`). Assumes nothing.
-use Prim.Native.Nat.{ℕ, zero, suc}
-use mathlib.Core.Path.{◌≡◌, refl, sym, ap, ◌∙◌}
-use mathlib.Core.List.{List}
-use mathlib.Core.Logic.{◌↔◌, inl, ⊎_elim}
+use Rattle.std.proofs.Common.{ℕ, zero, suc, ◌≡◌, refl, sym, ap, ◌∙◌, List, ◌↔◌, inl, ⊎_elim, Bool, true, false, ◌&&◌, cond, arith, eqb, length, le-leb}
 use mathlib.Core.Option.{some}
-use mathlib.Core.Bool.{Bool, true, false, ◌&&◌, cond, and_comm, and_assoc, and-false}
-use native.Mathlib.Omega.{arith}
-use lib.Dec.{eqb}
-use lib.ListN.{length}
-use borrow.Author.Tests.{le-leb}
+use mathlib.Core.Bool.{and_comm, and_assoc, and-false}
 use Rattle.search.specs.Search.{among, Among}
 use Rattle.search.proofs.Truth.{and-iff, and_when, among_iff}
 use Rattle.search.proofs.Found.{some_both, some_none, some_agree}

@@ -1,8 +1,5 @@
 -- Two accepted files that say the same get one answer to each call, and calls leave one store: the rules go by settings and assignments, and these are one. Assumes nothing.
-use Prim.Native.Nat.{ℕ}
-use mathlib.Core.Path.{◌≡◌, refl, sym, ap, subst, ◌∙◌}
-use mathlib.Core.List.{List, [], ◌∷◌}
-use lib.ListN.{length}
+use Rattle.std.proofs.Common.{ℕ, ◌≡◌, refl, sym, ap, subst, ◌∙◌, List, [], ◌∷◌, length}
 use Rattle.rolefile.specs.Said.{assigned}
 use Rattle.policy.specs.Settings.{Settings, settings, SaySame}
 use Rattle.policy.specs.Accepted.{Accepted}

@@ -1,14 +1,9 @@
 -- A state stands for the sessions that the calls left: its tables describe the settings and the assignments, and each place's bytes are its session's. A call that writes one place and no
 -- more keeps it so. Assumes nothing.
-use Prim.Native.Nat.{ℕ, suc, ◌+◌, ◌≤◌, ◌<◌}
-use mathlib.Core.Path.{◌≡◌, refl, ap, ◌∙◌}
-use mathlib.Core.List.{List}
-use mathlib.Core.Bool.{Bool}
+use Rattle.std.proofs.Common.{ℕ, suc, ◌+◌, ◌≤◌, ◌<◌, ◌≡◌, refl, ap, ◌∙◌, List, Bool, add-zero, arith, length, get_or, replicate, length-set}
 use mathlib.Core.Option.{Option, none, some}
-use native.Mathlib.Nat.{add-zero}
-use native.Mathlib.Omega.{arith}
 use native.Mathlib.Decide.{dec_lt}
-use lib.ListN.{length, get_or, replicate, get_or-replicate, length-set}
+use lib.ListN.{get_or-replicate}
 use Rattle.search.specs.Search.{Among}
 use Rattle.search.proofs.Truth.{among_iff}
 use Rattle.roleset.specs.Row.{member, Kept, Placed, added, removed}

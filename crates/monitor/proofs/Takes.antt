@@ -1,13 +1,8 @@
 -- Which roles a user can take at all, of any lawful settings: 14 to 16 refuse exactly the assignments whose role the user could take in no session; and where every assignment passes them,
 -- the user can take every role that 27 does not bar, juniors included, at some label that the user may open. Assumes nothing.
-use Prim.Native.Nat.{ℕ}
-use mathlib.Core.Path.{◌≡◌, refl, sym, ◌∙◌}
+use Rattle.std.proofs.Common.{ℕ, ◌≡◌, refl, sym, ◌∙◌, ◌↔◌, ⊎_elim, true, [], ◌∷◌, arith}
 use mathlib.Core.Logic.Iff
-use mathlib.Core.Logic.{◌↔◌, ⊎_elim}
-use mathlib.Core.Bool.{true}
-use mathlib.Core.List.{[], ◌∷◌}
 use mathlib.Core.Option.{some-injective}
-use native.Mathlib.Omega.{arith}
 use Rattle.search.specs.Search.{Among}
 use Rattle.order.specs.Closure.{Relation}
 use Rattle.rolefile.specs.Form.{refusal}

@@ -1,9 +1,5 @@
 -- "A write puts the given bytes at the offset and changes no other byte": of a write that is done. Assumes nothing.
-use Prim.Native.Nat.{ℕ, ◌+◌, ◌≤◌, ◌<◌}
-use mathlib.Core.Path.{◌≡◌}
-use mathlib.Core.List.{List}
-use native.Mathlib.Omega.{arith}
-use lib.ListN.{length, get_or}
+use Rattle.std.proofs.Common.{ℕ, ◌+◌, ◌≤◌, ◌<◌, ◌≡◌, List, arith, length, get_or}
 use Rattle.roleset.specs.Row.{Kept}
 use Rattle.policy.specs.Tables.{writers_at}
 use Rattle.monitor.specs.Calls.{if_done, part_at, write_number, write_store}

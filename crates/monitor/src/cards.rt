@@ -1,5 +1,5 @@
 // Reads and writes of a part of a card of the lent store.
-#![tactic(auto, using(crate::proofs::Refused::refusing), unfolding(crate::specs::Calls::unless, crate::specs::Calls::if_done, crate::specs::Calls::close_number, crate::specs::Calls::part_number))]
+#![tactic(auto, using(crate::proofs::Refused::never_done), unfolding(crate::specs::Calls::unless, crate::specs::Calls::if_done, crate::specs::Calls::close_number, crate::specs::Calls::part_number))]
 
 ghost use Rattle.std.specs.Prelude.{◌≡◌, ◌+◌, ◌≤◌, IfOk};
 ghost use Rattle.policy.specs.Tables.{table_of};

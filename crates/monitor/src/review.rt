@@ -7,7 +7,7 @@ ghost use Rattle.monitor.specs.Review as review;
 ghost use Rattle.monitor.specs.Refusals.{told, figured, mode_of};
 
 use super::refusal::Refusal;
-use super::rights::Cleared;
+use super::rules::Cleared;
 use super::state::{OpenPlace, Policy};
 use super::things::{Card, Mode, Thing};
 use super::{Counts, RoleSet, Session, state};

@@ -1,61 +1,21 @@
 // What the rules ask of a user, a label, a role and a card.
-#![tactic(auto, unfolding(crate::specs::Session::cleared, crate::specs::Session::entitled, crate::specs::Session::fitting, crate::specs::Session::gives))]
+#![tactic(auto, using(crate::proofs::Refused::never_done), unfolding(crate::specs::Calls::unless, crate::specs::Session::cleared, crate::specs::Session::entitled, crate::specs::Session::fitting, crate::specs::Session::gives))]
 
-ghost use Rattle.std.specs.Prelude.{◌≡◌, ◌+◌, ◌*◌, ◌≤◌, leb, length};
-ghost use Rattle.search.specs.Search.{Among};
-ghost use Rattle.roleset.specs.Row.{member, row_of};
+ghost use Rattle.std.specs.Prelude.{◌≡◌, ◌+◌, ◌*◌, ◌&&◌, leb, IfOk};
+ghost use Rattle.search.specs.Search.{among};
 ghost use Rattle.policy.specs.Tables as tables;
 ghost use Rattle.monitor.specs.Session as session;
-ghost use Rattle.monitor.specs.Refusals.{mode_of};
+ghost use Rattle.monitor.specs.Calls.{unless};
+ghost use Rattle.monitor.specs.Refusals.{told, mode_of};
 
+use super::refusal::Refusal;
 use super::state;
 use super::state::{OpenPlace, Policy};
 use super::things::{Card, Label, Mode, Role, User};
-use policy::{layout, tables};
-use roleset::ROW_BYTES;
+use policy::tables;
 
 // The bytes of a card of the store.
 pub const CARD_BYTES: u64 = 64;
-
-// Whether the user's clearance dominates the label.
-pub fn cleared(s: &[u8], user: u64, label: u64) -> bool
-    requires { Among 256 user }
-    ensures { result ≡ session.cleared s.now user label }
-{
-    tables::dominates(s, state::byte_of(s, layout::CLEARANCES_AT, user), label)
-}
-
-// Whether the user is assigned to the role or to a senior of it.
-pub fn entitled(s: &[u8], user: u64, role: u64) -> bool
-    requires { Among 256 user × Among 128 role }
-    ensures { result ≡ session.entitled s.now user role }
-{
-    let assigned = layout::ASSIGNED_AT + ROW_BYTES * (user as usize - 1);
-    let seniors = layout::SENIORS_AT + ROW_BYTES * (role as usize - 1);
-    roleset::meet(s, assigned, seniors)
-}
-
-// Whether the levels of the role allow it at the label.
-pub fn fitting(s: &[u8], label: u64, role: u64) -> bool
-    requires { Among 128 role }
-    ensures { result ≡ session.fitting s.now label role }
-{
-    let reads = state::byte_of(s, layout::R_LEVELS_AT, role);
-    if !tables::passes(s, reads, label, reads) {
-        return false;
-    }
-    let writes = state::byte_of(s, layout::W_LEVELS_AT, role);
-    tables::passes(s, writes, writes, label)
-}
-
-// Whether thing x's row of the table at `at` holds the role.
-pub fn in_row(s: &[u8], at: usize, x: u64, role: u64) -> bool
-    requires { (tables.state_size ≤ length s.now) × (at ≤ tables.writers_at) × Among 512 x }
-    ensures { result ≡ member s.now (row_of at x) role }
-{
-    let row = at + ROW_BYTES * (x as usize - 1);
-    roleset::has(s, row, role as usize)
-}
 
 // Whether n bytes from the offset on lie in a card.
 pub fn in_card(offset: u64, n: u64) -> bool
@@ -65,6 +25,13 @@ pub fn in_card(offset: u64, n: u64) -> bool
         return false;
     }
     offset <= CARD_BYTES - n
+}
+
+// A user, and a label that the user's clearance dominates.
+#[derive(Clone, Copy)]
+pub struct Cleared {
+    pub user: User,
+    pub label: Label,
 }
 
 impl<'a> Policy<'a> {
@@ -96,6 +63,28 @@ impl<'a> Policy<'a> {
         }
         let writes = self.level(role, Mode::Write);
         tables::passes(self.bytes, writes, writes, label)
+    }
+
+    // The user and the label of those numbers: 25, 26.
+    pub fn cleared(self, user: u64, label: u64) -> Result<Cleared, Refusal>
+        ensures refused { told result ≡ unless (among (session.users_in self.entry.bytes.now) user) 25 (unless (among (session.labels_in self.entry.bytes.now) label) 25 (unless (session.cleared self.entry.bytes.now user label) 26 0)) }
+        ensures done { IfOk result (λ cleared. (cleared.user.number ≡ user) × (cleared.label.number ≡ label)) }
+    {
+        let user = self.user(user)?;
+        let label = self.label(label)?;
+        if !self.clears(user, label) {
+            return Err(Refusal::Clearance);
+        }
+        Ok(Cleared { user, label })
+    }
+
+    // Whether a session of the user at the label may take the role. Two loops call it for each role,
+    // and are slower where it is a call.
+    #[inline(always)]
+    pub fn may_take(self, at: Cleared, role: Role) -> bool
+        ensures { result ≡ (session.entitled self.entry.bytes.now at.user.number role.number && session.fitting self.entry.bytes.now at.label.number role.number) }
+    {
+        self.entitles(at.user, role) && self.fits(at.label.number as u64, role)
     }
 
     // Whether a store of `size` bytes has all its cards.

@@ -1,5 +1,5 @@
 // Sessions: opening and closing a place, taking and dropping a role.
-#![tactic(auto, using(crate::proofs::Refused::refusing), unfolding(crate::specs::Calls::unless, crate::specs::Calls::state_number, crate::specs::Calls::if_done, crate::specs::Calls::open_number, crate::specs::Calls::opened, crate::specs::Calls::close_number, crate::specs::Calls::closed, crate::specs::Calls::take_number, crate::specs::Calls::drop_number))]
+#![tactic(auto, using(crate::proofs::Refused::never_done), unfolding(crate::specs::Calls::unless, crate::specs::Calls::state_number, crate::specs::Calls::if_done, crate::specs::Calls::open_number, crate::specs::Calls::opened, crate::specs::Calls::close_number, crate::specs::Calls::closed, crate::specs::Calls::take_number, crate::specs::Calls::drop_number))]
 
 ghost use Rattle.std.specs.Prelude.{◌≡◌, ◌+◌, ◌≤◌, length, IfOk};
 ghost use Rattle.policy.specs.Tables.{state_size};
@@ -39,30 +39,10 @@ pub fn open(s: &mut [u8], place: u64, user: u64, label: u64) -> Result<(), Refus
     if policy.in_use(place) {
         return Err(Refusal::InUse);
     }
-    let user = policy.user(user)?;
-    let label = policy.label(label)?;
-    if !policy.clears(user, label) {
-        return Err(Refusal::Clearance);
-    }
-    let bytes = session_bytes(user, label);
+    let at = policy.cleared(user, label)?;
+    let bytes = session_bytes(at.user, at.label);
     put(s, place.at(), &bytes);
     Ok(())
-}
-
-// The number of what a call at a place asks first, that it has a session. A closing asks no more.
-pub fn session_number(s: &[u8], place: u64) -> u64
-    ensures { result ≡ close_number s.now place }
-{
-    if !state::sound(s) {
-        return 21;
-    }
-    if !search::among(64, place) {
-        return 22;
-    }
-    if !state::in_use(s, place) {
-        return 24;
-    }
-    0
 }
 
 // Closes a place: 21, 22, 24.
