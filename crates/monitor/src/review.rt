@@ -140,6 +140,8 @@ fn takable_row(s: &[u8], user: u64, label: u64) -> Result<[u8; ROW_BYTES], Refus
     ensures done { IfOk result (λ row. (r : ℕ) → member row 0 r ≡ review.takable_in s.now user label r) }
 {
     let policy = Policy::new(s)?;
+    let user = policy.user(user)?;
+    let label = policy.label(label)?;
     let at = policy.cleared(user, label)?;
     Ok(policy.roles_at(at))
 }

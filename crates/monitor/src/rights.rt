@@ -41,6 +41,8 @@ pub fn can(s: &[u8], user: u64, label: u64, card: u64, mode: u64) -> Result<u64,
     ensures { rights.Cans s.now user label card mode (told result) (figured result) }
 {
     let policy = Policy::new(s)?;
+    let user = policy.user(user)?;
+    let label = policy.label(label)?;
     let card = policy.card(card)?;
     let mode = Mode::try_from(mode)?;
     let at = policy.cleared(user, label)?;

@@ -2,7 +2,6 @@
 #![tactic(auto, using(crate::proofs::Refused::never_done), unfolding(crate::specs::Calls::unless, crate::specs::Session::cleared, crate::specs::Session::entitled, crate::specs::Session::fitting, crate::specs::Session::gives))]
 
 ghost use Rattle.std.specs.Prelude.{◌≡◌, ◌+◌, ◌*◌, ◌&&◌, leb, IfOk};
-ghost use Rattle.search.specs.Search.{among};
 ghost use Rattle.policy.specs.Tables as tables;
 ghost use Rattle.monitor.specs.Session as session;
 ghost use Rattle.monitor.specs.Calls.{unless};
@@ -21,10 +20,7 @@ pub const CARD_BYTES: u64 = 64;
 pub fn in_card(offset: u64, n: u64) -> bool
     ensures { result ≡ leb (offset + n) 64 }
 {
-    if CARD_BYTES < n {
-        return false;
-    }
-    offset <= CARD_BYTES - n
+    n <= CARD_BYTES && offset <= CARD_BYTES - n
 }
 
 // A user, and a label that the user's clearance dominates.
@@ -65,13 +61,11 @@ impl<'a> Policy<'a> {
         tables::passes(self.bytes, writes, writes, label)
     }
 
-    // The user and the label of those numbers: 25, 26.
-    pub fn cleared(self, user: u64, label: u64) -> Result<Cleared, Refusal>
-        ensures refused { told result ≡ unless (among (session.users_in self.entry.bytes.now) user) 25 (unless (among (session.labels_in self.entry.bytes.now) label) 25 (unless (session.cleared self.entry.bytes.now user label) 26 0)) }
-        ensures done { IfOk result (λ cleared. (cleared.user.number ≡ user) × (cleared.label.number ≡ label)) }
+    // The two together: 26.
+    pub fn cleared(self, user: User, label: Label) -> Result<Cleared, Refusal>
+        ensures refused { told result ≡ unless (session.cleared self.entry.bytes.now user.number label.number) 26 0 }
+        ensures done { IfOk result (λ at. (at.user ≡ user) × (at.label ≡ label)) }
     {
-        let user = self.user(user)?;
-        let label = self.label(label)?;
         if !self.clears(user, label) {
             return Err(Refusal::Clearance);
         }

@@ -39,6 +39,8 @@ pub fn open(s: &mut [u8], place: u64, user: u64, label: u64) -> Result<(), Refus
     if policy.in_use(place) {
         return Err(Refusal::InUse);
     }
+    let user = policy.user(user)?;
+    let label = policy.label(label)?;
     let at = policy.cleared(user, label)?;
     let bytes = session_bytes(at.user, at.label);
     put(s, place.at(), &bytes);

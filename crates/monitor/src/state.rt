@@ -35,6 +35,7 @@ pub const LABEL_IN_PLACE: usize = 2;
 const HELD_IN_PLACE: usize = 4;
 
 // What 21 tests.
+#[tactic(auto, unfolding(crate::specs::Session::sound))]
 fn sound(s: &[u8]) -> bool
     ensures { result ≡ session.sound s.now }
 {
