@@ -38,6 +38,17 @@ impl<'a> Policy<'a> {
         tables::dominates(self.bytes, self.clearance(user), label.number as u64)
     }
 
+    // The two together, where it does: 26.
+    pub fn cleared(self, user: User, label: Label) -> Result<Cleared, Refusal>
+        ensures refused { told result ≡ unless (session.cleared self.entry.bytes.now user.number label.number) 26 0 }
+        ensures done { IfOk result (λ at. (at.user ≡ user) × (at.label ≡ label)) }
+    {
+        if !self.clears(user, label) {
+            return Err(Refusal::Clearance);
+        }
+        Ok(Cleared { user, label })
+    }
+
     // Whether the user is assigned to the role or to a senior of it.
     pub fn entitles(self, user: User, role: Role) -> bool
         ensures { result ≡ session.entitled self.entry.bytes.now user.number role.number }
@@ -59,17 +70,6 @@ impl<'a> Policy<'a> {
         }
         let writes = self.level(role, Mode::Write);
         tables::passes(self.bytes, writes, writes, label)
-    }
-
-    // The two together: 26.
-    pub fn cleared(self, user: User, label: Label) -> Result<Cleared, Refusal>
-        ensures refused { told result ≡ unless (session.cleared self.entry.bytes.now user.number label.number) 26 0 }
-        ensures done { IfOk result (λ at. (at.user ≡ user) × (at.label ≡ label)) }
-    {
-        if !self.clears(user, label) {
-            return Err(Refusal::Clearance);
-        }
-        Ok(Cleared { user, label })
     }
 
     // Whether a session of the user at the label may take the role. Two loops call it for each role,
