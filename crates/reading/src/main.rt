@@ -11,7 +11,8 @@ fn letters() -> [u8; 192] {
     std::array::from_fn(|i| b'a' + (i % 26) as u8)
 }
 
-// One read: its number, a blank, and its part.
+// One read: its number, a blank, and its part. It is asked for by four numbers, as `monitor::read`
+// takes them.
 fn show<W: Write>(
     out: &mut W,
     state: &[u8],
