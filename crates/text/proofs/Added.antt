@@ -4,6 +4,7 @@ use Rattle.std.proofs.lemmas.List.{take-append-le}
 use native.Mathlib.Decide.{dec_lt}
 use lib.Seq.{take_all, take-take}
 use Rattle.text.specs.declared.Text.{Text}
+use Rattle.text.specs.Text.{Puts}
 use Rattle.text.specs.Added.{Adds, in_use}
 
 -- the start of a text, with more after it, is cut where the text is
@@ -16,19 +17,20 @@ cut_again n xs ys = elim (dec_lt n (length xs)) [
   | no l ↦ rw (take_all n xs (omega arith))
 ]
 
+module _ {a b : List ℕ} {at q r : ℕ} {xs ys zs : List ℕ} where
+  pub puts_then : Puts a at xs q ys → Puts b q ys r zs → Puts (a ++ b) at xs r zs
+  puts_then one two = record {
+    size = two.size ∙ one.size;
+    used = two.used;
+    text = two.text ∙ rw (one.size, one.text, cut_again (length xs) (take at xs ++ a) b, append_assoc);
+  }
+
 module _ {a b : List ℕ} {t u v : Text} where
   pub adds_then : Adds a t u → Adds b u v → Adds (a ++ b) t v
-  adds_then one two =
-      let p = one.puts in
-      let q = two.puts in
-      record {
-        same_buffer = two.same_buffer ∙ one.same_buffer;
-        puts = record {
-          size = q.size ∙ p.size;
-          used = q.used;
-          text = q.text ∙ rw (p.size, p.text, cut_again (length t.buffer.now) (in_use t ++ a) b, append_assoc);
-        };
-      }
+  adds_then one two = record {
+    same_buffer = two.same_buffer ∙ one.same_buffer;
+    puts = puts_then one.puts two.puts;
+  }
 
 pub adds_nothing : (t : Text) → Adds [] t t
 adds_nothing t = record {
