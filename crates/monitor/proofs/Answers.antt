@@ -1,11 +1,31 @@
 -- Each number of a call from the tests that led to it, and what a number 0 tells. Assumes nothing.
-use Rattle.std.proofs.Common.{ℕ, zero, suc, ◌+◌, ◌*◌, ◌≤◌, ◌<◌, ◌≡◌, refl, ◌∙◌, ◌↔◌, List, Bool, true, false, cond, arith, leb-true, eqb, length}
+use Rattle.std.proofs.Common.{ℕ, zero, suc, ◌+◌, ◌*◌, ◌≤◌, ◌<◌, ◌≡◌, refl, sym, ◌∙◌, ◌↔◌, List, Bool, true, false, ◌&&◌, cond, arith, leb-true, eqb, length}
 use Rattle.search.specs.Search.{among, Among}
-use Rattle.search.proofs.Truth.{leb_iff, and_both, among_iff, either}
+use Rattle.search.proofs.Truth.{leb_iff, and_both, among_iff, passed, failed, one_of, either}
 use Rattle.rolefile.proofs.Formed.{limits_iff}
 use Rattle.policy.specs.Tables.{table_of}
 use Rattle.monitor.specs.Session.{sound, labels_in, roles_in, users_in, cards_in, in_use}
 use Rattle.monitor.specs.Calls.{unless, if_done, at_session, close_number, part_number}
+
+-- ---- a row of tests whose answers r are those of calls: a call's `ensures` is r ≡ t
+module _ (t : Bool) (n rest : ℕ) {r : Bool} (e : r ≡ t) where
+  -- the test that refuses
+  pub stops : r ≡ false → n ≡ unless t n rest
+  unfolding unless
+  stops h = rw (failed e h)
+
+  -- a test before it
+  pub passes : {x : ℕ} → r ≡ true → x ≡ rest → x ≡ unless t n rest
+  unfolding unless
+  passes h k = rw (passed e h) k
+
+-- the same of tests that are answered together: the one that fails, and one before it
+module _ (t rest : Bool) {r : Bool} (e : r ≡ t) where
+  pub fails : r ≡ false → false ≡ (t && rest)
+  fails h = rw (failed e h)
+
+  pub holds : {x : Bool} → r ≡ true → x ≡ rest → x ≡ (t && rest)
+  holds h k = rw (passed e h) k
 
 -- done, each test has passed
 pub unless_done : (t : Bool) (n rest : ℕ) → 0 < n → unless t n rest ≡ 0 → (t ≡ true) × (rest ≡ 0)
@@ -45,6 +65,10 @@ sound_iff xs =
       λ s. tests.1 (s.long, (s.labels, (s.roles, (s.users, s.cards)))),
     )
 
+-- ---- what a test that passed tells
+pub user_known : (xs : List ℕ) {r : Bool} → r ≡ sound xs → r ≡ true → (x : ℕ) {q : Bool} → q ≡ among (users_in xs) x → q ≡ true → Among 256 x
+user_known xs e h x f k = let w = one_of (users_in xs) x f k in let few = ((sound_iff xs).0 (passed e h)).users in omega arith
+
 -- ---- what a call that is done tells, for the code that then writes
 pub record Room (xs : List ℕ) (p : ℕ) : Type 0 where
   pub long : 65536 ≤ length xs
@@ -62,6 +86,18 @@ at_session_done xs p rest h =
     let b = unless_done (among 64 p) 22 _ (omega arith) a.1 in
     let c = unless_done (in_use xs p) 24 rest (omega arith) b.1 in
     record { sound = (sound_iff xs).0 a.0; place = (among_iff 64 p).0 b.0; done = c.1 }
+
+-- where a closing's number r is 0
+module _ (xs : List ℕ) (p : ℕ) {r : ℕ} (e : r ≡ close_number xs p) (z : r ≡ 0) where
+  at_session_lem : AtSession xs p 0
+  unfolding close_number
+  at_session_lem = at_session_done xs p 0 (sym e ∙ z)
+
+  pub role_known : (x : ℕ) {q : Bool} → q ≡ among (roles_in xs) x → q ≡ true → Among 128 x
+  role_known x f k = let w = one_of (roles_in xs) x f k in let few = at_session_lem.sound.roles in omega arith
+
+  pub card_known : (x : ℕ) {q : Bool} → q ≡ among (cards_in xs) x → q ≡ true → Among 512 x
+  card_known x f k = let w = one_of (cards_in xs) x f k in let few = at_session_lem.sound.cards in omega arith
 
 pub close_room : (xs : List ℕ) (p : ℕ) → close_number xs p ≡ 0 → Room xs p
 unfolding close_number

@@ -12,7 +12,8 @@ use super::things::Mode;
 use super::{rules, sessions};
 
 // Where the n bytes from the offset on of a card begin in a store of `size` bytes, where a session
-// may use them so: 21, 22, 24, 25, 29, 30, 31.
+// may use them so: 21, 22, 24, 25, 29, 30, 31. The four numbers are those of the calls of C, and each
+// is tested as it comes.
 pub fn part(
     s: &[u8],
     mode: Mode,

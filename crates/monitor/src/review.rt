@@ -134,7 +134,7 @@ impl<'a> Policy<'a> {
     }
 }
 
-// The same of a user and a label by their numbers: 21, 25, 26.
+// The roles that a session of the user at the label may take, by their numbers: 21, 25, 26.
 fn takable_row(s: &[u8], user: u64, label: u64) -> Result<[u8; ROW_BYTES], Refusal>
     ensures refused { told result ≡ review.takable_number s.now user label }
     ensures done { IfOk result (λ row. (r : ℕ) → member row 0 r ≡ review.takable_in s.now user label r) }

@@ -23,7 +23,7 @@ pub fn in_card(offset: u64, n: u64) -> bool
     n <= CARD_BYTES && offset <= CARD_BYTES - n
 }
 
-// A user, and a label that the user's clearance dominates.
+// A user, and a label that the user's clearance dominates, as `cleared` has found.
 #[derive(Clone, Copy)]
 pub struct Cleared {
     pub user: User,

@@ -27,7 +27,7 @@ fn put(s: Members, i: usize, on: bool) -> Members
     s | ((on as u32) << i)
 }
 
-// The set with thing a too where `on`, if it is one of the 32.
+// The set with thing a too where `on`, if it is one of the 32. A mark is such a flag, and no Option.
 pub fn with(s: Members, a: usize, on: bool) -> Members
     ensures { Has (λ b. holds s b || (on && eqb a b)) result }
 {

@@ -24,7 +24,7 @@ pub fn by_marks(over: bool, under: bool) -> Comparison
     }
 }
 
-// Equal or above. A constant in each arm leaves no branch in the code.
+// Equal or above.
 pub fn at_least(c: Comparison) -> bool
     ensures { result ≡ at_least c }
 {

@@ -51,7 +51,8 @@ impl Closing for RoleTable {
     ghost after_link = { roles_link };
 }
 
-// The same for a slice that is a table and nothing else.
+// Leaves the paths, in a slice that is a table and nothing else. This and the next are two functions
+// and not one that takes the step: each is a test and a call.
 fn paths_of(table: &mut [u8], n: usize)
     ensures { BecomesRoles (min n 128) (path (min n 128) (related table.old 0)) table.old table.new }
 {

@@ -1,7 +1,8 @@
 // A file whose lines have nothing to refuse, taken apart by the letters of its lines.
 //
 // Each table that lines fill has its own loop over them: what one closure changed behind a `&mut`, a
-// contract of its caller could not say.
+// contract of its caller could not say. They go by index, which `first_number` and the two beside it
+// take.
 ghost use Rattle.std.specs.Prelude.{◌≡◌, IfOk};
 ghost use Rattle.rolefile.specs.Form.{lines_verdict};
 ghost use Rattle.rolefile.specs.Refusal.{told, verdict_of};

@@ -31,7 +31,7 @@ pub fn roles(s: &[u8]) -> usize
     }
 }
 
-// The role's byte of a table of levels.
+// The role's byte of a table of levels, and 0 for a number that is no role's, as `level_in` has it.
 #[tactic(auto, using(search::proofs::Truth::one_of))]
 fn level(s: &[u8], table: ByteTable, role: usize) -> u8
     ensures { result ≡ cond (is_state s.now && among table.size role) (byte_of s.now table.at role) 0 }
@@ -59,7 +59,8 @@ pub fn w_level(s: &[u8], role: usize) -> u8
     level(s, table::W_LEVELS, role)
 }
 
-// Whether role `from` may write card o + 1 and role `to` may read or write it.
+// Whether role `from` may write card o + 1 and role `to` may read or write it. Here and below o comes
+// from a `for`: a type that keeps it in range would be made and taken apart in each turn.
 fn flows_by_card(s: &State, o: usize, from: usize, to: usize) -> bool
     requires { o < 512 }
     ensures { result ≡ flows_by_card s.now from to (o + 1) }

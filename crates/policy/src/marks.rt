@@ -51,7 +51,7 @@ pub fn marks_of(p: &[u8]) -> Table
     t
 }
 
-// The byte of a mark.
+// The byte of a mark, by the name that `tables::dominates` reads.
 fn byte(on: bool) -> u8
     ensures { result ≡ cond on 1 0 }
 {

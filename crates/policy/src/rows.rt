@@ -37,7 +37,8 @@ pub fn relate_lines<F: Fn(usize, usize) -> (usize, usize)>(
     }
 }
 
-// What a line lets the seniors of its role do with its card.
+// What a line lets the seniors of its role do with its card. `monitor` has a mode of its own, which
+// refuses another number with 25; a line with one is passed over here.
 #[derive(Clone, Copy)]
 enum Mode {
     Read,

@@ -35,7 +35,8 @@ pub fn dominates(s: &[u8], a: u64, b: u64) -> bool
     byte(s, layout::DOMINANCE_AT + i) == layout::MARK
 }
 
-// Whether label a dominates label b, one of which is a level: a free level always passes.
+// Whether label a dominates label b, one of which is a level: a free level always passes. The level is
+// the byte that a state keeps.
 pub fn passes(s: &[u8], level: u64, a: u64, b: u64) -> bool
     ensures { result ≡ passes_in s.now level a b }
 {

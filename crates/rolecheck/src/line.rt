@@ -5,7 +5,8 @@ ghost use Rattle.rolecheck.specs.Report.{line_with};
 
 use text::Text;
 
-// Puts the line of a letter and of numbers, each in a field, of which the line has three.
+// Puts the line of a letter and of numbers, each in a field, of which the line has three. It asks that
+// five columns hold them: roles, levels and the numbers of a verdict are of no one type that says so.
 #[tactic(auto, using(text::proofs::Each::each_none, text::proofs::Each::each_more, crate::proofs::Fields::field_given))]
 pub fn line(text: &mut Text, letter: u8, numbers: &[u64])
     requires { All (λ n. n < 100000) numbers.now }

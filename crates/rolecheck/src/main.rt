@@ -10,6 +10,7 @@ use std::io::Write;
 use text::input::read_full;
 
 fn main(rt: HostRuntime) -> io::Result<()> {
+    // buffers of fixed sizes: nothing here allocates
     let mut file = [0u8; 65536];
     let n = read_full(&mut rt.stdin(), &mut file)?;
     let mut out = [0u8; report::MOST_BYTES];

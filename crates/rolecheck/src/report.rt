@@ -59,7 +59,8 @@ fn flow_lines(state: &[u8], text: &mut Text)
     }
 }
 
-// Puts what a state holds: its roles, its role flow, and the lowest role on a circle of it.
+// Puts what a state holds: its roles, its role flow, and the lowest role on a circle of it,
+// or 0, which the report writes for none.
 #[tactic(auto, using(text::proofs::Added::adds_then, crate::proofs::Counted::thing_or_none, crate::proofs::Counted::few_on_circle), unfolding(crate::specs::Report::policy_lines))]
 fn policy_lines(state: &[u8], text: &mut Text)
     ensures { Adds (state_lines state.now) text.old text.new }

@@ -16,7 +16,7 @@ const FIELD_LENGTH: usize = 5;
 
 const NEWLINE: u8 = b'\n';
 
-// The letters by their rows in the table of letters.
+// The letters by their rows in the table of letters, as numbers: `line_at` has them so in a Line.
 pub const H: u64 = 1;
 
 pub const D: u64 = 2;
@@ -313,7 +313,8 @@ fn figure(bytes: &[u8; FIELD_LENGTH]) -> usize
     high + (100 * digit(x) + low)
 }
 
-// What field j of line i + 1 comes to, the first being field 0, or 0 where the part has no such line.
+// What field j of line i + 1 comes to, the first being field 0, or 0 where the part has no such line:
+// 0 and no None, since `one`, `two` and `three` say so.
 fn figure_of(p: &[u8], i: usize, j: usize) -> usize
     requires { j < 4 }
     ensures { result ≡ figure_of (5 * j + 1) p.now (i + 1) }

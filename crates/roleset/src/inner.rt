@@ -94,7 +94,8 @@ pub fn low_half(row: &Row) -> u64
     ])
 }
 
-// The second half: role r is bit r - 65.
+// The second half: role r is bit r - 65. One function of both would take the place of its first byte,
+// and ask that it is 0 or 8.
 pub fn high_half(row: &Row) -> u64
     ensures { result ≡ high_of (member row.now 0) }
 {

@@ -44,7 +44,8 @@ pub fn next(s: &[u8], at: usize, after: usize) -> Option<usize>
     inner::next(inner::row(s, at)?, after)
 }
 
-// Puts the role into the row at `at`.
+// Puts the role into the row at `at`. Each function that writes a row tests by itself that it lies in
+// the slice: what a closure did behind a `&mut`, a contract of its caller could not say.
 pub fn add(s: &mut [u8], at: usize, role: usize)
     ensures { Placed at (added s.old at role) s.old s.new }
 {
@@ -53,7 +54,7 @@ pub fn add(s: &mut [u8], at: usize, role: usize)
     }
 }
 
-// Adds the role where `on` holds.
+// Adds the role where `on` holds, as its contract has it.
 pub fn add_where(s: &mut [u8], at: usize, role: usize, on: bool)
     ensures { Placed at (added_where s.old at role on) s.old s.new }
 {
@@ -132,7 +133,7 @@ pub fn high(s: &[u8], at: usize) -> u64
     }
 }
 
-// Whether the row at `at` has a role in common with a set that is told as two numbers.
+// Whether the row at `at` has a role in common with a set that is told as two numbers, as C has it.
 pub fn meet_set(s: &[u8], at: usize, low: u64, high: u64) -> bool
     ensures { result ≡ (whole s.now at && some 128 (λ q. member s.now at q && in_set low high q)) }
 {

@@ -72,7 +72,7 @@ fn digit(n: u64) -> u8
 }
 
 // The five columns of a number, or blanks for a field without use. They hold a number below 100,000
-// whole, and the last five digits of any other.
+// whole, and the last five digits of any other, of which `write!` would put more than five.
 #[tactic(auto, using(crate::proofs::Padded::columns_last))]
 fn columns(number: Option<u64>) -> [u8; 5]
     ensures five { 5 ≡ length result }
