@@ -153,7 +153,7 @@ fn lower_bounds(t: &MemberRows, all: Members, s: Members) -> Members
     let mut r = all;
     let mut rest = s;
     while rest != 0 {
-        r = r & t[u32::trailing_zeros(rest) as usize];
+        r = r & t[rest.trailing_zeros() as usize];
         rest = rest & (rest - 1);
     }
     r

@@ -21,7 +21,7 @@ const CARD_LIMIT: u64 = 512;
 // 4: the highest mode.
 const MODE_LIMIT: u64 = 2;
 
-// The verdict of a number and its place.
+// The verdict of a number and its place, as `verdict` and C have it.
 pub fn refused(number: u64, first: u64, second: u64) -> Verdict
     ensures { result ≡ refusal number first second }
 {

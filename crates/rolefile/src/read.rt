@@ -64,7 +64,8 @@ fn value(b: u8) -> u64
     b as u64 - b'0' as u64
 }
 
-// The number n with the digit b after it, unless n is 0 or has five digits.
+// The number n with the digit b after it, unless n is 0 or has five digits. The library's parse takes
+// a sign and leading zeros, which a field may not have.
 #[tactic(auto, unfolding(crate::specs::Field::column, crate::specs::Field::is_digit))]
 fn next_digit(n: u64, b: u8) -> Field
     ensures { result ≡ column (Field.Number n) b }
