@@ -194,6 +194,11 @@ kept_more a b i v xs ys l m k j o = get_or-set_other ys i j v 0 (λ e. omega (ar
 
 -- ---- rows one after the other
 
+-- none is written
+pub rows_unwritten : {at n : ℕ} {s : ℕ → ℕ → Bool} {xs : List ℕ}
+    → (at + 16 * n ≤ length xs → (i : ℕ) → i < n → (r : ℕ) → member xs (at + 16 * i) r ≡ s i r) → PlacedRows at n s xs xs
+rows_unwritten h = record { rows = h; rest = λ i o. refl; none = λ l. refl }
+
 -- the row after them is placed too
 pub rows_more : {at i : ℕ} {s : ℕ → ℕ → Bool} {t : ℕ → Bool} {xs ys zs : List ℕ} → at + 16 * (i + 1) ≤ length xs → length ys ≡ length xs
     → PlacedRows at i s xs ys → Placed (at + 16 * i) t ys zs → ((r : ℕ) → t r ≡ s i r) → PlacedRows at (i + 1) s xs zs

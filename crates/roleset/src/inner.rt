@@ -20,7 +20,7 @@ pub fn row(s: &[u8], at: usize) -> Option<&Row>
 }
 
 // Whether the number is a role's.
-fn is_role(role: usize) -> bool
+pub fn is_role(role: usize) -> bool
     ensures { result ≡ among 128 role }
 {
     search::among(ROLES as u64, role as u64)

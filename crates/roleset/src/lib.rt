@@ -99,6 +99,10 @@ pub fn unite_rows(s: &mut [u8], at: usize, n: usize, role: usize, other: [u8; RO
     if !rows_lie(s.len(), at, n) {
         return;
     }
+    // No row holds a number that is no role's, so none is looked at.
+    if !inner::is_role(role) {
+        return;
+    }
     for i in 0..n {
         let row = at + ROW_BYTES * i;
         inner::unite_where(&mut s[row..row + ROW_BYTES], role, other);

@@ -1,13 +1,18 @@
--- Each turn places one row more, which has had no turn before.
+-- Each turn places one row more, which has had no turn before; and no row holds a number that is no role's.
 use Rattle.std.proofs.Common.{ℕ, ◌+◌, ◌*◌, ◌≤◌, ◌≡◌, ◌∙◌, refl, sym, inr, length, arith}
+use mathlib.Core.Bool.{or-false}
 use borrow.Author.Tests.{leb-true}
 use Rattle.roleset.specs.Row.{member}
-use Rattle.roleset.proofs.Rows.{row_kept, rows_more, where_front, placed_from}
+use Rattle.roleset.proofs.Rows.{row_kept, rows_unwritten, rows_more, where_front, placed_from}
 use Rattle.roleset.proofs.unite_rows.Goals.{Else-not-rows_lie}
 use Rattle.roleset.proofs.unite_rows.Goals as goal
 
 lie : (c : Else-not-rows_lie) → c.args.at + 16 * c.args.n ≤ length c.args.s.now
 lie c = leb-true _ _ (sym c.if-not-rows_lie.ensures)
+
+pub returns-then-not-is_role : goal.returns-then-not-is_role
+unfolding member
+returns-then-not-is_role c = rows_unwritten (λ l i m r. rw (← c.if-not-is_role.ensures) (sym (or-false _)))
 
 pub loop-i-preserved : goal.loop-i-preserved
 loop-i-preserved c =
