@@ -73,9 +73,9 @@ pub fn unite(from: &mut [u8], other: Row)
 pub fn unite_where(from: &mut [u8], role: usize, other: Row)
     ensures { Placed 0 (united_where from.old 0 role other) from.old from.new }
 {
-    if let Some(row) = from.first_chunk_mut() {
-        if has(row, role) {
-            join(row, other);
+    if let Some(into) = from.first_chunk_mut() {
+        if has(into, role) {
+            join(into, other);
         }
     }
 }
