@@ -152,6 +152,7 @@ pub fn table(s: &[u8]) -> [u8; TABLE_BYTES]
 pub fn flow_circle(s: &[u8]) -> Option<usize>
     ensures { result ≡ thing (circle_in s.now) }
 {
+    let s = s.first_chunk::<STATE_SIZE>()?;
     let n = roles(s);
     let mut t = table(s);
     order::rows::paths(&mut t, 0, n);
