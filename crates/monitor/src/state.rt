@@ -36,7 +36,7 @@ const HELD_IN_PLACE: usize = 4;
 
 // What 21 tests.
 #[tactic(auto, unfolding(crate::specs::Session::sound))]
-fn sound(s: &[u8]) -> bool
+pub fn sound(s: &[u8]) -> bool
     ensures { result ≡ session.sound s.now }
 {
     if s.len() < layout::STATE_SIZE {
