@@ -226,6 +226,7 @@ impl Place {
 pub struct OpenPlace<'a> {
     pub policy: Policy<'a>,
     pub place: Place,
+    ghost in_use: { session.in_use policy.bytes.now place.number ≡ true },
 }
 
 impl<'a> OpenPlace<'a> {
