@@ -1,5 +1,5 @@
 -- The number of an answer that is a value or a refusal. A `?` hands on the refusal of the call that it is at. Assumes nothing.
-use Rattle.std.proofs.Common.{◌≡◌, ℕ, Bool, true, false, Result, Ok, Err, arith, refl, ◌∙◌, List}
+use Rattle.std.proofs.Common.{◌≡◌, ◌<◌, ℕ, Bool, true, false, Result, Ok, Err, arith, refl, ◌∙◌, List}
 use Rattle.std.specs.Prelude.{IsErr}
 use Rattle.std.specs.Result.{IsErrAnd}
 use Rattle.search.specs.Search.{among}
@@ -34,6 +34,12 @@ pub call_stops : (t : Bool) (n rest : ℕ) (e : Refusal) → number_of e ≡ unl
 unfolding unless
 call_stops true n rest e h = absurd (never_done e h)
 call_stops false n rest e h = h
+
+-- where it passes, the caller goes on
+pub call_passes : (t : Bool) (n rest : ℕ) {x : ℕ} → 0 < n → 0 ≡ unless t n 0 → x ≡ rest → x ≡ unless t n rest
+unfolding unless
+call_passes true n rest l h k = k
+call_passes false n rest l h k = absurd (omega arith)
 
 -- what a call at a place asks first: it refuses, and so does the call, or it has passed
 module _ (xs : List ℕ) (p rest : ℕ) where
