@@ -11,12 +11,15 @@ use super::state;
 use super::state::{OpenPlace, Policy};
 use super::things::{Label, Place, Role, User};
 
-// Puts the bytes of b into s, from `at` on.
+// Puts the bytes of b into s, from `at` on, one by one: the library's copy becomes a call of memmove,
+// which whoever links the archive would then have to bring.
 pub fn put(s: &mut [u8], at: usize, b: &[u8])
     requires { at + length b.now ≤ length s.old }
     ensures { s.new ≡ written s.old at b.now }
 {
-    s[at..at + b.len()].copy_from_slice(b);
+    for i in 0..b.len() {
+        s[at + i] = b[i];
+    }
 }
 
 // The bytes of a place with a session that holds no role.
