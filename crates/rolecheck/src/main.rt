@@ -9,11 +9,15 @@ use std::io;
 use std::io::Write;
 use text::input::read_full;
 
+// Writes the report on a role file. Its buffer is of a fixed size, as that of the file: nothing here
+// allocates.
+fn write_report<W: Write>(output: &mut W, file: &[u8]) -> io::Result<()> {
+    let mut out = [0u8; report::MOST_BYTES];
+    output.write_all(report::report(file, &mut out).bytes())
+}
+
 fn main(rt: HostRuntime) -> io::Result<()> {
-    // buffers of fixed sizes: nothing here allocates
     let mut file = [0u8; 65536];
     let n = read_full(&mut rt.stdin(), &mut file)?;
-    let mut out = [0u8; report::MOST_BYTES];
-    rt.stdout()
-        .write_all(report::report(&file[..n], &mut out).bytes())
+    write_report(&mut rt.stdout(), &file[..n])
 }
