@@ -113,7 +113,9 @@ pub fn assigned(s: &[u8], user: u64, role: u64) -> Result<u64, Refusal>
 }
 
 impl<'a> Policy<'a> {
-    // The roles that a session of the user at the label may take.
+    // The roles that a session of the user at the label may take. Its loop is slower where it is a
+    // call: then the bound on how many roles there are is not seen.
+    #[inline(always)]
     fn roles_at(self, at: Cleared) -> [u8; ROW_BYTES]
         ensures { (r : ℕ) → member result 0 r ≡ review.takable_in self.entry.bytes.now at.user.number at.label.number r }
     {

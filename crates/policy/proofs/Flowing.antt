@@ -1,5 +1,5 @@
 -- What is answered of a state and of a slice too short for one; and role flow, card by card, and as a table of role sets. Assumes nothing.
-use Rattle.std.proofs.Common.{ℕ, ◌+◌, ◌-◌, ◌*◌, ◌≤◌, ◌<◌, ◌≡◌, sym, ap, ◌∙◌, Bool, true, false, not, ◌&&◌, cond, List, arith, add-sub_cancel, zero-add, leb, eqb, length, get_or, take, get_or-take, le-leb, leb-false, eq-eqb, ne_eqb}
+use Rattle.std.proofs.Common.{ℕ, ◌+◌, ◌-◌, ◌*◌, ◌≤◌, ◌<◌, ◌≡◌, refl, sym, ap, ◌∙◌, Bool, true, false, not, ◌&&◌, cond, List, arith, add-sub_cancel, zero-add, leb, eqb, length, get_or, take, get_or-take, le-leb, leb-false, eq-eqb, ne_eqb}
 use mathlib.Core.Bool.{and-true, and-false, or-false}
 use native.Mathlib.Decide.{ℕ_discrete}
 use borrow.Author.Tests.{lt-leb, not-true}
@@ -160,6 +160,12 @@ module _ (xs t : List ℕ) (m : ℕ) (said : Agree 128 128 (related t 0) (λ r q
     | yes e ↦ rw (eq-eqb q r (sym e)) (and-false (related t 0 r q) ∙ sym (flow_self xs m r q e))
     | no e ↦ rw (ne_eqb q r (λ i. e (sym i))) (and-true (related t 0 r q) ∙ said r q v w ∙ sym (flow_other xs m r q e))
   ]
+
+-- among no roles there is no circle
+pub no_circles : (n : ℕ) (b : Bool) (r : Relation) → n ≡ 0 → cond b (loop n r) 0 ≡ 0
+unfolding first
+no_circles n true r e = rw e
+no_circles n false r e = refl
 
 -- the circles of flow by a table that has it, as the lowest on one is answered for n roles
 pub flow_circles : (xs t v : List ℕ) (m n : ℕ) → Agree 128 128 (related t 0) (flowing xs m)
