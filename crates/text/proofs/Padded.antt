@@ -63,7 +63,7 @@ module _ (n : ℕ) where
       let four : n / 1000 / 10 ≡ n / 10000 = omega arith in
       rw (p, q, r, s) (rw (two, three, four) at (last_filled 4 n (places_filled 4 (n / 10))))
 
-  last_padded : n < 100000 → last_five n ≡ padded n
+  pub last_padded : n < 100000 → last_five n ≡ padded n
   unfolding last_five padded
   last_padded l = rw (all_digits n l)
 
