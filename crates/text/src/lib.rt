@@ -45,7 +45,7 @@ impl<'a> Text<'a> {
     {
         let count = (self.buffer.len() - self.used).min(bytes.len());
         let end = self.used + count;
-        self.buffer[self.used..end].copy_from_slice(&bytes[..count]);
+        copy(&mut self.buffer[self.used..end], &bytes[..count]);
         self.used = end;
     }
 
@@ -57,6 +57,17 @@ impl<'a> Text<'a> {
         ensures last { Adds (last_columns number) self.old self.new }
     {
         self.put(&columns(number));
+    }
+}
+
+// Copies bytes into a part that is as long. They are few, for which a call of the library's copy takes
+// longer than a loop.
+fn copy(part: &mut [u8], bytes: &[u8])
+    requires { length part.old ≡ length bytes.now }
+    ensures { part.new ≡ bytes.now }
+{
+    for i in 0..bytes.len() {
+        part[i] = bytes[i];
     }
 }
 

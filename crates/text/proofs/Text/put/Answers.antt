@@ -11,6 +11,6 @@ returns c =
       puts = record {
         size = search rules;
         used = search rules;
-        text = filled self.used c.min-count.result _ self.buffer.now c.args.bytes.now c.copy_from_slice.new.self self.fits c.min-count.ensures c.copy_from_slice.ensures.after;
+        text = filled self.used c.min-count.result _ self.buffer.now c.args.bytes.now c.copy.new.part self.fits c.min-count.ensures c.copy.ensures;
       };
     }
