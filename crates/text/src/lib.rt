@@ -5,7 +5,7 @@
 
 pub mod input;
 
-ghost use Rattle.std.specs.Prelude.{◌≡◌, ◌≤◌, ◌<◌, min, length};
+ghost use Rattle.std.specs.Prelude.{◌≡◌, ◌≤◌, ◌<◌, min, length, take};
 ghost use Rattle.text.specs.Text.{last_columns};
 ghost use Rattle.text.specs.inner.Digit.{digit_of};
 
@@ -43,10 +43,8 @@ impl<'a> Text<'a> {
     pub fn put(&mut self, bytes: &[u8])
         ensures { Adds bytes.now self.old self.new }
     {
-        let count = (self.buffer.len() - self.used).min(bytes.len());
-        let end = self.used + count;
-        copy(&mut self.buffer[self.used..end], &bytes[..count]);
-        self.used = end;
+        let count = fill(&mut self.buffer[self.used..], bytes);
+        self.used += count;
     }
 
     // Puts the five columns of a number, or blanks for a field without use: a number below 100,000
@@ -60,15 +58,20 @@ impl<'a> Text<'a> {
     }
 }
 
-// Copies bytes into a part that is as long. They are few, for which a call of the library's copy takes
-// longer than a loop.
-fn copy(part: &mut [u8], bytes: &[u8])
-    requires { length part.old ≡ length bytes.now }
-    ensures { part.new ≡ bytes.now }
+// Puts bytes into a part as far as there is room, and answers how many. One by one, since a field has
+// so few that a call of the library's copy takes longer.
+fn fill(part: &mut [u8], bytes: &[u8]) -> usize
+    ensures count { result ≡ min (length part.old) (length bytes.now) }
+    ensures long { length part.new ≡ length part.old }
+    ensures bytes { take result part.new ≡ take result bytes.now }
 {
     for i in 0..bytes.len() {
+        if part.len() <= i {
+            return i;
+        }
         part[i] = bytes[i];
     }
+    bytes.len()
 }
 
 // What a column before the last shows, where n is the number less its digits after that column:

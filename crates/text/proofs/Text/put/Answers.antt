@@ -1,4 +1,4 @@
--- As many bytes as there is room for stand after those in use. The check finds this alone; an edit of the count is refused here, at the bytes.
+-- As many bytes as there is room for stand after those in use; an edit of the count is refused here, at the bytes.
 use Rattle.std.proofs.Common.{refl, rules}
 use Rattle.text.proofs.Filled.{filled}
 use Rattle.text.proofs.Text.put.Goals as goal
@@ -6,11 +6,12 @@ use Rattle.text.proofs.Text.put.Goals as goal
 pub returns : goal.returns
 returns c =
     let self = c.args.self.now in
+    let fill = c.fill-count in
     record {
       same_buffer = refl;
       puts = record {
         size = search rules;
         used = search rules;
-        text = filled self.used c.min-count.result _ self.buffer.now c.args.bytes.now c.copy.new.part self.fits c.min-count.ensures c.copy.ensures;
+        text = filled self.used fill.result _ self.buffer.now c.args.bytes.now fill.new.part self.fits (search rules) (search rules) fill.ensures.bytes (search rules);
       };
     }

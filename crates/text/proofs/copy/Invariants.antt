@@ -1,6 +1,0 @@
--- The first i bytes are copied.
-use Rattle.std.proofs.Common.{◌≡◌, length, take}
-use Rattle.text.proofs.copy.Given as goal
-
-abbrev pub invariant-loop-i : goal.invariant-loop-i
-invariant-loop-i l = (length l.part ≡ length l.initial.part) × (take l.i l.part ≡ take l.i l.bytes)
