@@ -1,5 +1,5 @@
 // The report on a role file.
-ghost use Rattle.std.specs.Prelude.{◌≡◌, ◌<◌};
+ghost use Rattle.std.specs.Prelude.{◌≡◌, ◌≤◌, ◌<◌, length};
 ghost use Rattle.policy.specs.Tables.{r_levels_at, w_levels_at, level_in, flows_in, role_count};
 ghost use Rattle.text.specs.Added.{Adds, in_use};
 ghost use Rattle.rolecheck.specs.Report.{line, role_lines, flow_line, flows_from, flow_lines, state_lines, report, IsPrefixLen};
@@ -79,10 +79,12 @@ fn verdict_line(verdict: Verdict, text: &mut Text)
     line(text, b'V', &[verdict.number, verdict.first, verdict.second]);
 }
 
-// Puts the whole report on a role file at the start of `out`, and answers it.
-pub fn report<'a>(file: &[u8], out: &'a mut [u8; MOST_BYTES]) -> Text<'a>
+// Puts the whole report on a role file at the start of `out`, where that has room for the longest one,
+// and answers it. `out` is a slice: of an array no clause could say that it is the text's buffer.
+pub fn report<'a>(file: &[u8], out: &'a mut [u8]) -> Text<'a>
+    ensures same_buffer { result.buffer.ghost_name ≡ out.entry.ghost_name }
     ensures prefix_len { IsPrefixLen result.used result.buffer.now }
-    ensures out_after { in_use result ≡ report file.now }
+    ensures out_after { MOST_BYTES ≤ length out.old → in_use result ≡ report file.now }
 {
     let mut state = [0u8; policy::layout::STATE_SIZE];
     let loaded = policy::load(file, &mut state);
