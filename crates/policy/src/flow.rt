@@ -67,7 +67,7 @@ fn flows_by_card(s: &State, o: usize, from: usize, to: usize) -> bool
 {
     roleset::has(s, layout::WRITERS_AT + ROW_BYTES * o, from)
         && (roleset::has(s, layout::READERS_AT + ROW_BYTES * o, to)
-            || roleset::has(s, layout::WRITERS_AT + ROW_BYTES * o, to))
+            | roleset::has(s, layout::WRITERS_AT + ROW_BYTES * o, to))
 }
 
 // Whether role `from` flows to role `to`.
