@@ -29,7 +29,10 @@ pub fn is_role(role: usize) -> bool
 pub fn has(row: &Row, role: usize) -> bool
     ensures { result ≡ member row.now 0 role }
 {
-    is_role(role) && (row[(role - 1) / 8] >> ((role - 1) % 8)) % 2 == 1
+    if !is_role(role) {
+        return false;
+    }
+    (row[(role - 1) / 8] >> ((role - 1) % 8)) % 2 == 1
 }
 
 // Puts the role into the row that the bytes begin with. Too few of them are no row, and stay.

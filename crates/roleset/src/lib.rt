@@ -27,14 +27,15 @@ pub fn rows_lie(len: usize, at: usize, n: usize) -> bool
     at <= len - ROW_BYTES * n
 }
 
-// Whether the row at `at` holds the role.
+// Whether the row at `at` holds the role. Each test ends it at once, here and in `inner::has`: a loop
+// that asks this of many rows then makes the mask of the role's bit but once.
 pub fn has(s: &[u8], at: usize, role: usize) -> bool
     ensures { result ≡ (whole s.now at && member s.now at role) }
 {
-    match inner::row(s, at) {
-        Some(row) => inner::has(row, role),
-        None => false,
-    }
+    let Some(row) = inner::row(s, at) else {
+        return false;
+    };
+    inner::has(row, role)
 }
 
 // The lowest role above `after` that the row at `at` holds.
