@@ -1,4 +1,4 @@
--- As many bytes as there is room for stand after those in use; an edit of the count is refused here, at the bytes.
+-- As many bytes as there is room for stand after those in use.
 use Rattle.std.proofs.Common.{refl, rules}
 use Rattle.text.proofs.Filled.{filled}
 use Rattle.text.proofs.Text.put.Goals as goal
